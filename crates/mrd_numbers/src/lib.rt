@@ -1,0 +1,32 @@
+// Numbers in bytes: two, four and eight bytes of a slice as a little-endian number.
+//
+// Each read asks that its bytes lie in the slice; the callers, all proved, have tested the whole
+// fixed part before. Assumes nothing.
+ghost use mathlib.Core.Path.{_≡_};
+ghost use Prim.Native.Nat.{_+_, _≤_};
+ghost use lib.ListN.{length};
+ghost use Rattle.mrd_numbers.specs.Little.{num};
+
+// The number of the two bytes from `at` on.
+pub fn read_u16(s: &[u8], at: usize) -> u16
+    requires { ⌜ at + 2 ≤ length (now s) ⌝ }
+    ensures { λ r. ⌜ r ≡ num 2 (now (s .entry)) at ⌝ }
+{
+    (s[at] as u16) + (s[at + 1] as u16) * 256
+}
+
+// The number of the four bytes from `at` on: two halves.
+pub fn read_u32(s: &[u8], at: usize) -> u32
+    requires { ⌜ at + 4 ≤ length (now s) ⌝ }
+    ensures { λ r. ⌜ r ≡ num 4 (now (s .entry)) at ⌝ }
+{
+    (read_u16(s, at) as u32) + (read_u16(s, at + 2) as u32) * 65536
+}
+
+// The number of the eight bytes from `at` on: two halves.
+pub fn read_u64(s: &[u8], at: usize) -> u64
+    requires { ⌜ at + 8 ≤ length (now s) ⌝ }
+    ensures { λ r. ⌜ r ≡ num 8 (now (s .entry)) at ⌝ }
+{
+    (read_u32(s, at) as u64) + (read_u32(s, at + 4) as u64) * 4294967296
+}

@@ -1,0 +1,11 @@
+pub mod Kinds
+pub mod Elements
+pub mod Checks
+pub mod Acquisition
+pub mod Image
+pub mod Waveform
+pub mod Message
+pub mod Shapes
+pub mod Content
+pub mod Flags
+pub mod Counters

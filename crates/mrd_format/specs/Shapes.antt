@@ -1,0 +1,29 @@
+-- What each case of the enum `Shape` says: the kind, and the kind's own numbers in the paper's order ('Place and kind').
+-- Assumes nothing.
+use Prim.Native.Nat.{ℕ}
+use mathlib.Core.List.{List, [], _∷_}
+use Rattle.mrd_format.specs.declared.kind.Kind.{Kind}
+use Rattle.mrd_format.specs.declared.kind.Kind
+use Rattle.mrd_format.specs.declared.shape.Shape.{Shape}
+use Rattle.mrd_format.specs.declared.shape.Shape.the-variants.{ConfigurationName, ConfigurationText, HeaderText, Close, Text, Acquisition, Image, Waveform}
+
+abbrev pub kindOf : Shape → Kind
+kindOf (ConfigurationName s) = Kind.ConfigurationName
+kindOf (ConfigurationText s) = Kind.ConfigurationText
+kindOf (HeaderText s) = Kind.HeaderText
+kindOf Close = Kind.Close
+kindOf (Text s) = Kind.Text
+kindOf (Acquisition s) = Kind.Acquisition
+kindOf (Image s) = Kind.Image
+kindOf (Waveform s) = Kind.Waveform
+
+abbrev pub toldNumbers : Shape → List ℕ
+toldNumbers (ConfigurationName s) = s .length ∷ []
+toldNumbers (ConfigurationText s) = s .length ∷ []
+toldNumbers (HeaderText s) = s .length ∷ []
+toldNumbers Close = []
+toldNumbers (Text s) = s .length ∷ []
+toldNumbers (Acquisition s) = s .«number_of_samples» ∷ s .«active_channels» ∷ s .«trajectory_dimensions» ∷ []
+toldNumbers (Image s) =
+    s .«matrix_size_x» ∷ s .«matrix_size_y» ∷ s .«matrix_size_z» ∷ s .channels ∷ s .«data_type» ∷ s .«attribute_length» ∷ []
+toldNumbers (Waveform s) = s .«number_of_samples» ∷ s .channels ∷ []

@@ -1,0 +1,73 @@
+-- The worked examples of the paper's 'Both sides of each line', those marked P, as a single list under one claim; with the paper's whole index.
+-- Assumes nothing.
+use Prim.Native.Nat.{ℕ}
+use mathlib.Core.Path.{_≡_, refl}
+use mathlib.Core.List.{List, [], _∷_, _++_}
+use lib.ListN.{length, replicate}
+use lib.IntN.{ℤ, pos, negsuc}
+use Rattle.mrd_numbers.specs.Little.{num}
+use Rattle.mrd_format.specs.declared.kind.Kind.{Kind}
+use Rattle.mrd_format.specs.declared.kind.Kind
+use Rattle.mrd_format.specs.Kinds.{identified}
+use Rattle.mrd_format.specs.Message.{fixedPart, ownChecks, bodySize, sizeOf, textLength}
+use Rattle.mrd_format.specs.Acquisition as acquisition
+use Rattle.mrd_format.specs.Content.{counterOf}
+use Rattle.mrd_format.specs.Flags.{flagSet, withBit, bit}
+use Rattle.mrd_format.specs.Counters.{counterStep, signed}
+use Rattle.mrd_stream.specs.Walk.{Verdict, accepted, refused, answer, trace, walk, judge, judgeAs, checksAs, earlyChecks, lateChecks, ended}
+use Rattle.mrd_stream.specs.Cut.{Every}
+use Rattle.mrd_stream.specs.Index.{index, entries}
+
+-- a stream and its answer; a stream and its index; a fixed part and its message's size; a flag alone and the flags' value; two scan counters
+-- and their step
+pub data Example : Type 0 where
+  answers : List ℕ → Verdict → Example
+  indexed : List ℕ → List ℕ → Example
+  measures : Kind → List ℕ → ℕ → Example
+  flags : ℕ → ℕ → Example
+  steps : ℕ → ℕ → ℤ → Example
+
+abbrev pub Holds : Example → Type 0
+Holds (answers s v) = answer s ≡ v
+Holds (indexed s x) = index s ≡ x
+Holds (measures k h n) = sizeOf k h ≡ n
+Holds (flags n x) = flagSet n 0 ≡ x
+Holds (steps a b z) = counterStep a b ≡ z
+
+-- the header of an acquisition of 256 samples in 2 channels, with this many dimensions
+abbrev pub readout : ℕ → List ℕ
+readout dimensions =
+    1 ∷ replicate 33 0 ++ (0 ∷ 1 ∷ 2 ∷ 0 ∷ 2 ∷ replicate 137 0 ++ (dimensions ∷ replicate 163 0))
+
+-- the paper's index of 57 bytes
+abbrev pub paperIndex : List ℕ
+paperIndex =
+    0x01 ∷ 0x02 ∷ 0x00 ∷ 0x01 ∷ 0x00 ∷
+    0x02 ∷ 0x08 ∷ 0x00 ∷ 0x08 ∷ 0x00 ∷ 0x00 ∷ 0x00 ∷ 0x00 ∷ 0x00 ∷ 0x00 ∷ 0x00 ∷
+    0x03 ∷ 0x0E ∷ 0x00 ∷ 0x00 ∷ 0x00 ∷ 0x00 ∷ 0x00 ∷ 0x00 ∷ 0x00 ∷ 0x00 ∷ 0x00 ∷ 0x03 ∷ 0x00 ∷ 0x00 ∷ 0x00 ∷ 0x00 ∷ 0x00 ∷
+    0x03 ∷ 0x0E ∷ 0x00 ∷ 0x06 ∷ 0x00 ∷ 0x00 ∷ 0x00 ∷ 0x00 ∷ 0x00 ∷ 0x00 ∷ 0x00 ∷ 0x04 ∷ 0x00 ∷ 0x00 ∷ 0x00 ∷ 0x00 ∷ 0x00 ∷
+    0x04 ∷ 0x04 ∷ 0x00 ∷ 0x02 ∷ 0x00 ∷ 0x00 ∷ 0x00 ∷ []
+
+abbrev pub examples : List Example
+examples =
+    answers (4 ∷ 0 ∷ []) (accepted 1) ∷  -- P1
+    answers [] (refused 13 0 0) ∷  -- P2
+    answers (4 ∷ []) (refused 1 0 0) ∷  -- P3
+    answers (4 ∷ 0 ∷ 0 ∷ []) (refused 12 1 2) ∷  -- P4
+    answers (6 ∷ 0 ∷ []) (refused 2 0 0) ∷  -- P5
+    answers (3 ∷ 0 ∷ 0 ∷ 0 ∷ 0 ∷ []) (refused 3 0 0) ∷  -- P6
+    answers (3 ∷ 0 ∷ 1 ∷ 0 ∷ 0 ∷ 0 ∷ []) (refused 11 0 0) ∷  -- P7
+    answers (5 ∷ 0 ∷ 0 ∷ 0 ∷ 0 ∷ 0 ∷ []) (refused 13 1 6) ∷  -- P8
+    answers (0xF0 ∷ 3 ∷ []) (refused 12 0 0) ∷  -- P9
+    measures Kind.Acquisition (readout 0) 4438 ∷  -- P10
+    measures Kind.Acquisition (readout 2) 6486 ∷
+    flags 7 64 ∷  -- P11
+    steps 4294967295 0 (pos 1) ∷  -- P12
+    steps 0 2147483648 (negsuc 2147483647) ∷
+    indexed (3 ∷ 0 ∷ 0 ∷ 0 ∷ 0 ∷ 0 ∷ 4 ∷ 0 ∷ []) paperIndex ∷  -- 'Index and listing'
+    []
+
+pub worked-examples : Every Holds examples
+unfolding answer trace walk judge judgeAs checksAs earlyChecks lateChecks ended identified num fixedPart ownChecks bodySize sizeOf textLength acquisition.bodySize acquisition.trajectorySize acquisition.channelSize flagSet withBit bit counterStep signed index entries counterOf
+worked-examples =
+    (refl, (refl, (refl, (refl, (refl, (refl, (refl, (refl, (refl, (refl, (refl, (refl, (refl, (refl, (refl, tt)))))))))))))))

@@ -1,0 +1,10 @@
+pub mod Order
+pub mod Walk
+pub mod Places
+pub mod Records
+pub mod Cut
+pub mod Normal
+pub mod Index
+pub mod WalkLaws
+pub mod Told
+pub mod Examples

@@ -1,0 +1,65 @@
+-- 'Place and kind', for each record of a stream.
+-- Assumes nothing.
+use Prim.Native.Nat.{ℕ, zero, suc}
+use mathlib.Core.List.{List, [], _∷_}
+use lib.ListN.{length, take, drop}
+use Rattle.mrd_format.specs.declared.kind.Kind.{Kind}
+use Rattle.mrd_format.specs.Message.{fixedPart, numbersOf}
+use Rattle.mrd_stream.specs.declared.cursor.Cursor.{Cursor}
+use Rattle.mrd_stream.specs.Walk.{Verdict, accepted, refused, Trace, message, done, Judged, faulty, whole, judge, ended, after, trace, answer}
+
+-- 'number, start, size (id included)', the kind and that kind's own numbers
+pub record Located : Type 0 where
+  pub number : ℕ
+  pub start : ℕ
+  pub size : ℕ
+  pub kind : Kind
+  pub numbers : List ℕ
+
+-- a message m of kind k, met at c
+abbrev pub located : Cursor → Kind → List ℕ → Located
+located c k m =
+    record { number = c .number; start = c .start; size = length m; kind = k; numbers = numbersOf k (fixedPart k m) }
+
+-- the places and kinds of all messages that a walk met, in order
+abbrev pub places : Trace → List Located
+places (message c k m r) = located c k m ∷ places r
+places (done v) = []
+
+-- the answer about one record: found, the stream's refusal, or a number alone
+pub data Answer : Type 0 where
+  found : Located → Answer
+  stream : ℕ → ℕ → ℕ → Answer
+  number : ℕ → Answer
+
+-- entry n of a list, else 16: 'no such record'
+abbrev pub nth : List Located → ℕ → Answer
+nth [] n = number 16
+nth (l ∷ ls) zero = found l
+nth (l ∷ ls) (suc n) = nth ls n
+
+abbrev pub placeBy : Verdict → List Located → ℕ → Answer
+placeBy (accepted k) ls n = nth ls n
+placeBy (refused f r b) ls n = stream f r b
+
+-- the place and kind of record n: the stream's refusal first, then 16
+unfoldable pub place : List ℕ → ℕ → Answer
+place s n = placeBy (answer s) (places (trace s)) n
+
+-- what one step of a walk hands out: a message and the next cursor, or the stream's answer
+pub data Stepped : Type 0 where
+  handed : Located → Cursor → Stepped
+  over : Verdict → Stepped
+
+abbrev pub stepBy : Judged → Cursor → List ℕ → Stepped
+stepBy (faulty f) c t = over (refused f (c .number) (c .start))
+stepBy (whole k z) c t = handed (located c k (take z t)) (after c k z)
+
+-- the step at the front of t
+unfoldable pub stepAt : Cursor → List ℕ → Stepped
+stepAt c [] = over (ended c)
+stepAt c (b ∷ t) = stepBy (judge c (b ∷ t)) c (b ∷ t)
+
+-- the step from a cursor, any cursor, over a stream
+unfoldable pub step : Cursor → List ℕ → Stepped
+step c s = stepAt c (drop (c .start) s)

@@ -1,0 +1,48 @@
+// What the reader answers.
+use crate::cursor::Cursor;
+use mrd_format::Shape;
+
+// Why a stream is refused: the number of refusal, the record it met, counted from 0, and the byte
+// where that message starts.
+pub struct Refusal {
+    pub number: u8,
+    pub record: usize,
+    pub byte: usize,
+}
+
+// The stream's answer.
+pub enum Checked {
+    // Accepted, with the number of its records.
+    Accepted(usize),
+    Refused(Refusal),
+}
+
+// Where a record lies: its number from 0, its first byte, and its size with the id.
+pub struct Place {
+    pub number: usize,
+    pub start: usize,
+    pub size: usize,
+}
+
+// A record's place, and beside it its kind with that kind's own numbers.
+pub struct Record {
+    pub place: Place,
+    pub shape: Shape,
+}
+
+// What one step of a walk hands out.
+pub enum Step {
+    // A message, and the cursor of what follows it.
+    Message(Record, Cursor),
+    // No more messages: the stream's answer.
+    End(Checked),
+}
+
+// The answer about the place and kind of a record.
+pub enum Placed {
+    Found(Record),
+    // The stream itself is refused.
+    Stream(Refusal),
+    // Refused with a number alone.
+    Refused(u8),
+}

@@ -79,10 +79,13 @@ checks h =
     (9 when not (eqb (get attribute-string-len h) (attributeLength h))) ∷
     []
 
--- 'the three matrix sizes times channels times the element size'
+-- 'the three matrix sizes times channels'
+unfoldable pub pixelCount : List ℕ → ℕ
+pixelCount h = getAt matrix-size 0 h * getAt matrix-size 1 h * getAt matrix-size 2 h * get channels h
+
+-- 'times the element size'
 unfoldable pub pixelsSize : List ℕ → ℕ
-pixelsSize h =
-    getAt matrix-size 0 h * getAt matrix-size 1 h * getAt matrix-size 2 h * get channels h * elementSize (get data-type h)
+pixelsSize h = pixelCount h * elementSize (get data-type h)
 
 -- what follows the fixed part: 'A bytes, then pixels'
 unfoldable pub bodySize : List ℕ → ℕ

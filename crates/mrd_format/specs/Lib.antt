@@ -5,6 +5,9 @@ pub mod Acquisition
 pub mod Image
 pub mod Waveform
 pub mod Message
+pub mod MaskLaws
+pub mod Sizes
+pub mod SizeLaws
 pub mod Shapes
 pub mod Content
 pub mod Flags

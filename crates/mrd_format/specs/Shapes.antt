@@ -4,6 +4,9 @@ use Prim.Native.Nat.{ℕ}
 use mathlib.Core.List.{List, [], _∷_}
 use Rattle.mrd_format.specs.declared.kind.Kind.{Kind}
 use Rattle.mrd_format.specs.declared.kind.Kind
+use Rattle.mrd_format.specs.declared.shape.AcquisitionShape.{AcquisitionShape}
+use Rattle.mrd_format.specs.declared.shape.ImageShape.{ImageShape}
+use Rattle.mrd_format.specs.declared.shape.WaveformShape.{WaveformShape}
 use Rattle.mrd_format.specs.declared.shape.Shape.{Shape}
 use Rattle.mrd_format.specs.declared.shape.Shape.the-variants.{ConfigurationName, ConfigurationText, HeaderText, Close, Text, Acquisition, Image, Waveform}
 
@@ -17,13 +20,22 @@ kindOf (Acquisition s) = Kind.Acquisition
 kindOf (Image s) = Kind.Image
 kindOf (Waveform s) = Kind.Waveform
 
+abbrev pub acquisitionNumbers : AcquisitionShape → List ℕ
+acquisitionNumbers s = s .«number_of_samples» ∷ s .«active_channels» ∷ s .«trajectory_dimensions» ∷ []
+
+abbrev pub imageNumbers : ImageShape → List ℕ
+imageNumbers s =
+    s .«matrix_size_x» ∷ s .«matrix_size_y» ∷ s .«matrix_size_z» ∷ s .channels ∷ s .«data_type» ∷ s .«attribute_length» ∷ []
+
+abbrev pub waveformNumbers : WaveformShape → List ℕ
+waveformNumbers s = s .«number_of_samples» ∷ s .channels ∷ []
+
 abbrev pub toldNumbers : Shape → List ℕ
 toldNumbers (ConfigurationName s) = s .length ∷ []
 toldNumbers (ConfigurationText s) = s .length ∷ []
 toldNumbers (HeaderText s) = s .length ∷ []
 toldNumbers Close = []
 toldNumbers (Text s) = s .length ∷ []
-toldNumbers (Acquisition s) = s .«number_of_samples» ∷ s .«active_channels» ∷ s .«trajectory_dimensions» ∷ []
-toldNumbers (Image s) =
-    s .«matrix_size_x» ∷ s .«matrix_size_y» ∷ s .«matrix_size_z» ∷ s .channels ∷ s .«data_type» ∷ s .«attribute_length» ∷ []
-toldNumbers (Waveform s) = s .«number_of_samples» ∷ s .channels ∷ []
+toldNumbers (Acquisition s) = acquisitionNumbers s
+toldNumbers (Image s) = imageNumbers s
+toldNumbers (Waveform s) = waveformNumbers s

@@ -1,9 +1,4 @@
 // A message's kind with that kind's own numbers.
-ghost use mathlib.Core.Path.{_≡_};
-ghost use lib.ListN.{length};
-ghost use Rattle.mrd_format.specs.Kinds.{fixedSize};
-ghost use Rattle.mrd_format.specs.Message.{numbersOf};
-ghost use Rattle.mrd_format.specs.Shapes.{kindOf, toldNumbers};
 
 // The length of a name or of a text, in bytes.
 pub struct TextShape {

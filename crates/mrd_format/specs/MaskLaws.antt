@@ -1,0 +1,67 @@
+-- The count of ones in the channel mask, word by word; and that a mask is all zero exactly when it has no ones.
+-- Assumes nothing.
+use Prim.Native.Nat.{ℕ, zero, suc, _+_, _-_, _*_, _/_, _^_, _≤_, _<_}
+use native.Mathlib.Omega.{arith}
+use mathlib.Core.Path.{_≡_, refl, sym, ap, _∙_}
+use mathlib.Core.Bool.{Bool, true, false, not, _&&_}
+use mathlib.Core.List.{List, [], _∷_}
+use borrow.Author.Tests.{ne-eqb, eq-eqb, eqb-true}
+use lib.Dec.{eqb}
+use lib.Count.{ones, ones-step, ones-le}
+use Rattle.mrd_numbers.specs.Little.{num}
+use Rattle.mrd_format.specs.Elements.{elements, elementsFrom}
+use Rattle.mrd_format.specs.Acquisition.{layout, channel-mask, active-channels, get, onesOf, allZero, maskDiffers}
+
+-- after i words: n ones counted, at most 64 a word, and with those of the words that are left they are all
+pub record Counted (h : List ℕ) (i n : ℕ) : Type 0 where
+  pub within : i ≤ 16
+  pub small : n ≤ 64 * i
+  pub sum : n + onesOf (elementsFrom (16 - i) 8 (40 + i * 8) h) ≡ onesOf (elements (layout channel-mask) h)
+
+pub start : (h : List ℕ) → Counted h 0 0
+start h = record { within = omega arith; small = omega arith; sum = omega arith }
+
+-- the words left are the next word and those after it
+next-word : (h : List ℕ) (k at : ℕ) → 0 < k →
+    onesOf (elementsFrom k 8 at h) ≡ ones (num 8 h at) + onesOf (elementsFrom (k - 1) 8 (at + 8) h)
+next-word h zero at p = omega arith
+next-word h (suc k) at p = let less : suc k - 1 ≡ k = omega arith in rw less
+
+pub step : {h : List ℕ} {i n : ℕ} → Counted h i n → i < 16 → num 8 h (40 + i * 8) < 2 ^ 64 →
+    Counted h (i + 1) (n + ones (num 8 h (40 + i * 8)))
+step {h} {i} {n} c p fits =
+    let few : ones (num 8 h (40 + i * 8)) ≤ 64 = ones-le 64 (num 8 h (40 + i * 8)) fits in
+    let at : 40 + (i + 1) * 8 ≡ 40 + i * 8 + 8 = omega arith in
+    let left : 16 - (i + 1) ≡ 16 - i - 1 = omega arith in
+    let next : onesOf (elementsFrom (16 - i) 8 (40 + i * 8) h) ≡
+    ones (num 8 h (40 + i * 8)) + onesOf (elementsFrom (16 - i - 1) 8 (40 + i * 8 + 8) h) = next-word h (16 - i) (40 + i * 8) (omega arith) in
+    record { within = omega arith; small = omega arith; sum = rw (at, left) (omega (arith, c .sum)) }
+
+pub finish : {h : List ℕ} {i n : ℕ} → Counted h i n → 16 ≤ i → n ≡ onesOf (elements (layout channel-mask) h)
+finish {h} {i} {n} c p =
+    let none : 16 - i ≡ 0 = omega arith in
+    let all : n + onesOf (elementsFrom 0 8 (40 + i * 8) h) ≡ onesOf (elements (layout channel-mask) h) = rw none at (c .sum) in
+    omega (arith, all)
+
+-- only zero has no ones
+no-ones : (d n : ℕ) → n ≤ d → ones n ≡ 0 → n ≡ 0
+no-ones zero n h e = omega arith
+no-ones (suc d) n h e =
+    let rest : n / 2 ≡ 0 = no-ones d (n / 2) (omega arith) (omega (arith, ones-step n)) in
+    omega (arith, ones-step n)
+
+zero-ones : (w : ℕ) → eqb w 0 ≡ eqb (ones w) 0
+unfolding ones
+zero-ones zero = refl
+zero-ones (suc w) =
+    ne-eqb (suc w) 0 (λ e. omega arith) ∙
+    sym (ne-eqb (ones (suc w)) 0 (λ e. let z : suc w ≡ 0 = no-ones (suc w) (suc w) (omega arith) e in omega arith))
+
+-- 'all zero' is 'no ones'
+pub all-zero : (ws : List ℕ) → allZero ws ≡ eqb (onesOf ws) 0
+all-zero [] = refl
+all-zero (w ∷ ws) = rw (zero-ones w, all-zero ws) (both (ones w) (onesOf ws))
+  where
+    both : (a b : ℕ) → (eqb a 0 && eqb b 0) ≡ eqb (a + b) 0
+    both zero b = let less : 0 + b ≡ b = omega arith in rw less
+    both (suc a) b = rw (ne-eqb (suc a) 0 (λ e. omega arith)) (sym (ne-eqb (suc a + b) 0 (λ e. omega arith)))

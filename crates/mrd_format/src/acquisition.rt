@@ -1,0 +1,103 @@
+// The acquisition header: the checks that it must pass, and the sizes and numbers that it gives.
+// Offsets count from the header's first byte.
+ghost use mathlib.Core.Path.{_≡_};
+ghost use Prim.Native.Nat.{_<_, _^_};
+ghost use lib.ListN.{length};
+ghost use Rattle.mrd_format.specs.Checks.{first};
+ghost use Rattle.mrd_format.specs.Elements.{elements};
+ghost use Rattle.mrd_format.specs.Acquisition.{layout, checks, maskDiffers, onesOf, bodySize, numbers};
+ghost use Rattle.mrd_format.specs.Acquisition.{«channel-mask»};
+ghost use Rattle.mrd_format.specs.Shapes.{acquisitionNumbers};
+use crate::refusal;
+use crate::shape::AcquisitionShape;
+use crate::size::product;
+use mrd_numbers::read_u16;
+use mrd_numbers::read_u64;
+
+const VERSION: usize = 0;
+
+const NUMBER_OF_SAMPLES: usize = 34;
+
+const AVAILABLE_CHANNELS: usize = 36;
+
+const ACTIVE_CHANNELS: usize = 38;
+
+const CHANNEL_MASK: usize = 40;
+
+const MASK_WORDS: usize = 16;
+
+const DISCARD_PRE: usize = 168;
+
+const DISCARD_POST: usize = 170;
+
+const TRAJECTORY_DIMENSIONS: usize = 176;
+
+// The number of the first of checks 4, 6 and 7 that refuses the header, or 0.
+pub(crate) fn fault(h: &[u8]) -> u8
+    requires { ⌜ length (now h) ≡ 340 ⌝ }
+    ensures { λ r. ⌜ r ≡ first (checks (now (h .entry))) ⌝ }
+{
+    if read_u16(h, VERSION) != 1 {
+        return refusal::VERSION;
+    }
+    if read_u16(h, AVAILABLE_CHANNELS) < read_u16(h, ACTIVE_CHANNELS) {
+        return refusal::CHANNELS;
+    }
+    if mask_differs(h) {
+        return refusal::CHANNELS;
+    }
+    let discarded = (read_u16(h, DISCARD_PRE) as u32) + (read_u16(h, DISCARD_POST) as u32);
+    if (read_u16(h, NUMBER_OF_SAMPLES) as u32) < discarded {
+        return refusal::DISCARD;
+    }
+    0
+}
+
+// Whether the channel mask isn't all zero and its count of ones differs from the active channels.
+fn mask_differs(h: &[u8]) -> bool
+    requires { ⌜ length (now h) ≡ 340 ⌝ }
+    ensures { λ r. ⌜ r ≡ maskDiffers (now (h .entry)) ⌝ }
+{
+    let ones = mask_ones(h);
+    if ones == 0 {
+        return false;
+    }
+    ones != read_u16(h, ACTIVE_CHANNELS) as u32
+}
+
+// The ones in the sixteen words of the channel mask.
+fn mask_ones(h: &[u8]) -> u32
+    requires { ⌜ length (now h) ≡ 340 ⌝ }
+    ensures { λ r. ⌜ r ≡ onesOf (elements (layout «channel-mask») (now (h .entry))) ⌝ }
+{
+    let mut ones: u32 = 0;
+    let mut i: usize = 0;
+    while i < MASK_WORDS {
+        ones += u64::count_ones(read_u64(h, CHANNEL_MASK + i * 8));
+        i += 1;
+    }
+    ones
+}
+
+// The bytes after the header: the trajectory and every channel's samples.
+pub(crate) fn body_size(h: &[u8]) -> usize
+    requires { ⌜ length (now h) ≡ 340 ⌝ }
+    ensures { λ r. ⌜ (r ≡ bodySize (now (h .entry))) × (r < 2 ^ 40) ⌝ }
+{
+    let samples = read_u16(h, NUMBER_OF_SAMPLES);
+    let trajectory = product(samples, read_u16(h, TRAJECTORY_DIMENSIONS)) * 4;
+    let channels = product(read_u16(h, ACTIVE_CHANNELS), samples) * 8;
+    (trajectory + channels) as usize
+}
+
+// The header's own numbers.
+pub(crate) fn shape(h: &[u8]) -> AcquisitionShape
+    requires { ⌜ length (now h) ≡ 340 ⌝ }
+    ensures { λ r. ⌜ acquisitionNumbers r ≡ numbers (now (h .entry)) ⌝ }
+{
+    AcquisitionShape {
+        number_of_samples: read_u16(h, NUMBER_OF_SAMPLES),
+        active_channels: read_u16(h, ACTIVE_CHANNELS),
+        trajectory_dimensions: read_u16(h, TRAJECTORY_DIMENSIONS),
+    }
+}

@@ -5,6 +5,7 @@ pub mod Acquisition
 pub mod Image
 pub mod Waveform
 pub mod Message
+pub mod CheckLaws
 pub mod MaskLaws
 pub mod Sizes
 pub mod SizeLaws
@@ -12,3 +13,4 @@ pub mod Shapes
 pub mod Content
 pub mod Flags
 pub mod Counters
+pub mod MessageLaws

@@ -5,6 +5,7 @@ pub mod Records
 pub mod Cut
 pub mod Normal
 pub mod Index
+pub mod JudgeLaws
 pub mod WalkLaws
 pub mod Told
 pub mod Examples

@@ -28,15 +28,17 @@ earlyChecks c t =
     (1 when eqb (length t) 1) ∷
     []
 
+-- the checks of a message's size: 10 and 11
+abbrev pub sizeChecks : Kind → List ℕ → List Check
+sizeChecks k t =
+    (10 when ltb limit (sizeOf k (fixedPart k t))) ∷ (11 when ltb (length t) (sizeOf k (fixedPart k t))) ∷ []
+
 -- the checks of a message whose kind is known: '12, 3, 4 to 9 in number order where they apply, 10, 11'
 unfoldable pub lateChecks : Kind → Phase → List ℕ → List Check
 lateChecks k p t =
     (12 when not (allowed k p)) ∷
     (3 when ltb (length t) (2 + fixedSize k)) ∷
-    (ownChecks k (fixedPart k t) ++
-    ((10 when ltb limit (sizeOf k (fixedPart k t))) ∷
-    (11 when ltb (length t) (sizeOf k (fixedPart k t))) ∷
-    []))
+    (ownChecks k (fixedPart k t) ++ sizeChecks k t)
 
 -- all checks of the message at the front of t, which is not empty, in order
 unfoldable pub checksAs : Identified → Cursor → List ℕ → List Check

@@ -1,4 +1,15 @@
-// Where a walk over a stream stands.
+// Where a walk over a stream stands, and the order of messages.
+ghost use mathlib.Core.Path.{_≡_};
+ghost use Prim.Native.Nat.{_+_, _<_, _^_};
+ghost use Rattle.mrd_stream.specs.Order.{isStart, isBeforeHeader, isHeaded, isOpen, isClosed, allowed, nextPhase};
+ghost use Rattle.mrd_stream.specs.Walk.{messageLimit, refused, ended, after, beginning};
+ghost use Rattle.mrd_stream.specs.Places.{over};
+ghost use Rattle.mrd_stream.specs.Told.{toldChecked, toldStep};
+use crate::answer::Checked;
+use crate::answer::Refusal;
+use crate::answer::Step;
+use mrd_format::Kind;
+use mrd_format::refusal;
 
 // How far the order of messages has come.
 pub enum Phase {
@@ -17,4 +28,145 @@ pub struct Cursor {
     pub number: usize,
     pub start: usize,
     pub phase: Phase,
+}
+
+impl Phase {
+    fn is_start(self) -> bool
+        ensures { λ r. ⌜ r ≡ isStart self ⌝ }
+    {
+        match self {
+            Phase::Start => true,
+            Phase::Configured => false,
+            Phase::Headed => false,
+            Phase::Closed => false,
+        }
+    }
+
+    fn is_before_header(self) -> bool
+        ensures { λ r. ⌜ r ≡ isBeforeHeader self ⌝ }
+    {
+        match self {
+            Phase::Start => true,
+            Phase::Configured => true,
+            Phase::Headed => false,
+            Phase::Closed => false,
+        }
+    }
+
+    fn is_headed(self) -> bool
+        ensures { λ r. ⌜ r ≡ isHeaded self ⌝ }
+    {
+        match self {
+            Phase::Start => false,
+            Phase::Configured => false,
+            Phase::Headed => true,
+            Phase::Closed => false,
+        }
+    }
+
+    fn is_open(self) -> bool
+        ensures { λ r. ⌜ r ≡ isOpen self ⌝ }
+    {
+        match self {
+            Phase::Start => true,
+            Phase::Configured => true,
+            Phase::Headed => true,
+            Phase::Closed => false,
+        }
+    }
+
+    pub(crate) fn is_closed(self) -> bool
+        ensures { λ r. ⌜ r ≡ isClosed self ⌝ }
+    {
+        match self {
+            Phase::Start => false,
+            Phase::Configured => false,
+            Phase::Headed => false,
+            Phase::Closed => true,
+        }
+    }
+
+    // Whether the order allows a message of this kind now.
+    pub(crate) fn allows(self, kind: Kind) -> bool
+        ensures { λ r. ⌜ r ≡ allowed kind self ⌝ }
+    {
+        match kind {
+            Kind::ConfigurationName => self.is_start(),
+            Kind::ConfigurationText => self.is_start(),
+            Kind::HeaderText => self.is_before_header(),
+            Kind::Close => self.is_open(),
+            Kind::Text => self.is_open(),
+            Kind::Acquisition => self.is_headed(),
+            Kind::Image => self.is_headed(),
+            Kind::Waveform => self.is_headed(),
+        }
+    }
+
+    // The phase after a message of this kind.
+    fn next(self, kind: Kind) -> Phase
+        ensures { λ r. ⌜ r ≡ nextPhase kind self ⌝ }
+    {
+        match kind {
+            Kind::ConfigurationName => Phase::Configured,
+            Kind::ConfigurationText => Phase::Configured,
+            Kind::HeaderText => Phase::Headed,
+            Kind::Close => Phase::Closed,
+            Kind::Text => self,
+            Kind::Acquisition => self,
+            Kind::Image => self,
+            Kind::Waveform => self,
+        }
+    }
+}
+
+impl Cursor {
+    // Where each walk begins.
+    pub fn beginning() -> Cursor
+        ensures { λ r. ⌜ r ≡ beginning ⌝ }
+    {
+        Cursor {
+            number: 0,
+            start: 0,
+            phase: Phase::Start,
+        }
+    }
+
+    // Where the walk stands after a message of this kind and size.
+    pub(crate) fn after(self, kind: Kind, size: usize) -> Cursor
+        requires { ⌜ (self .number < messageLimit) × (self .start + size < 2 ^ 64) ⌝ }
+        ensures { λ r. ⌜ r ≡ after self kind size ⌝ }
+    {
+        let phase = self.phase;
+        Cursor {
+            number: self.number + 1,
+            start: self.start + size,
+            phase: phase.next(kind),
+        }
+    }
+
+    // The answer where no bytes are left.
+    pub(crate) fn ended(self) -> Checked
+        ensures { λ r. ⌜ toldChecked r ≡ ended self ⌝ }
+    {
+        let phase = self.phase;
+        if phase.is_closed() {
+            return Checked::Accepted(self.number);
+        }
+        Checked::Refused(Refusal {
+            number: refusal::NO_CLOSE,
+            record: self.number,
+            byte: self.start,
+        })
+    }
+
+    // The answer where the message that is due is refused with this number.
+    pub(crate) fn refused(self, number: u8) -> Step
+        ensures { λ r. ⌜ toldStep r ≡ over (refused number (self .number) (self .start)) ⌝ }
+    {
+        Step::End(Checked::Refused(Refusal {
+            number: number,
+            record: self.number,
+            byte: self.start,
+        }))
+    }
 }

@@ -1,6 +1,11 @@
-// The stream: a walk over its messages.
+// The stream: checked whole, walked record by record, and asked for a record's place and kind.
+//
+// No public function here has a `requires`: any bytes, any number and any cursor get an answer. Nothing
+// is copied, nothing is kept, and no payload byte is read. Assumes nothing.
 mod answer;
 mod cursor;
+mod judge;
+mod reader;
 
 pub use answer::Checked;
 pub use answer::Place;
@@ -10,3 +15,6 @@ pub use answer::Refusal;
 pub use answer::Step;
 pub use cursor::Cursor;
 pub use cursor::Phase;
+pub use judge::MESSAGE_LIMIT;
+pub use reader::check;
+pub use reader::place;

@@ -1,0 +1,77 @@
+// The reader: a whole stream checked, walked record by record, and asked for a record's place and kind.
+ghost use mathlib.Core.Path.{_≡_};
+ghost use Rattle.mrd_stream.specs.Walk.{answer};
+ghost use Rattle.mrd_stream.specs.Places.{place, step};
+ghost use Rattle.mrd_stream.specs.Told.{toldChecked, toldPlaced, toldStep};
+use crate::answer::Checked;
+use crate::answer::Placed;
+use crate::answer::Step;
+use crate::cursor::Cursor;
+use crate::judge::judge;
+use mrd_format::refusal;
+
+impl Cursor {
+    // One step over the stream s: the message that is due, with its place and kind and the cursor of
+    // what follows, or the stream's answer. From Cursor::beginning() on, the steps hand out the
+    // stream's messages in order and then its answer; any other cursor gets some answer too. A step
+    // reads the fixed part of one message and none of its payload.
+    pub fn next(self, s: &[u8]) -> Step
+        ensures { λ r. ⌜ toldStep r ≡ step self (now (s .entry)) ⌝ }
+    {
+        let start = self.start;
+        if s.len() <= start {
+            return Step::End(self.ended());
+        }
+        judge(self, &s[start..])
+    }
+}
+
+// Checks a whole stream: accepted with the number of its records, or the refusal of its first faulty
+// message.
+pub fn check(s: &[u8]) -> Checked
+    ensures { λ r. ⌜ toldChecked r ≡ answer (now (s .entry)) ⌝ }
+{
+    let mut c = Cursor::beginning();
+    loop {
+        let step = c.next(s);
+        match step {
+            Step::Message(_, next) => {
+                c = next;
+            }
+            Step::End(answer) => {
+                return answer;
+            }
+        }
+    }
+}
+
+// The place and kind of record n; else the stream's refusal, or 16 where there is no such record. One
+// walk over the whole stream.
+pub fn place(s: &[u8], n: usize) -> Placed
+    ensures { λ r. ⌜ toldPlaced r ≡ place (now (s .entry)) n ⌝ }
+{
+    let mut c = Cursor::beginning();
+    let mut found = Placed::Refused(refusal::NO_RECORD);
+    loop {
+        let step = c.next(s);
+        match step {
+            Step::Message(record, next) => {
+                if c.number == n {
+                    found = Placed::Found(record);
+                }
+                c = next;
+            }
+            Step::End(answer) => {
+                return concluded(found, answer);
+            }
+        }
+    }
+}
+
+// What was found, unless the stream is refused.
+fn concluded(found: Placed, answer: Checked) -> Placed {
+    match answer {
+        Checked::Accepted(_) => found,
+        Checked::Refused(refusal) => Placed::Stream(refusal),
+    }
+}

@@ -9,3 +9,4 @@ pub mod Shapes
 pub mod Content
 pub mod Flags
 pub mod Counters
+pub mod MessageLaws

@@ -1,0 +1,56 @@
+-- What follows a well-formed message does not matter to it: its id, its fixed part and its size are read from its own bytes.
+-- Hence no well-formed message is the beginning of another.
+-- Assumes nothing.
+use Prim.Native.Nat.{ℕ, _+_, _≤_}
+use native.Mathlib.Nat.{le-trans, le-add-right, le-of-eq}
+use native.Mathlib.Omega.{arith}
+use mathlib.Core.Path.{_≡_, refl, sym, ap, _∙_}
+use mathlib.Core.List.{List, [], _∷_, _++_}
+use lib.ListN.{length, take, drop, length-drop}
+use lib.Seq.{take-append-le, drop-append-le, take-append-seam}
+use Rattle.mrd_numbers.specs.Laws.{num-append}
+use Rattle.mrd_format.specs.declared.kind.Kind.{Kind}
+use Rattle.mrd_format.specs.declared.kind.Identified.{Identified}
+use Rattle.mrd_format.specs.declared.kind.Identified.the-variants.{Known, Unknown}
+use Rattle.mrd_format.specs.Kinds.{fixedSize, identified}
+use Rattle.mrd_format.specs.Message.{idAt, fixedPart, sizeOf, WellFormed}
+
+-- what follows an id does not matter to it
+pub id-append : (m rest : List ℕ) → 2 ≤ length m → idAt (m ++ rest) ≡ idAt m
+id-append m rest h = num-append 2 m rest 0 h
+
+-- what follows a fixed part does not matter to it
+pub fixed-append : (k : Kind) (m rest : List ℕ) → 2 + fixedSize k ≤ length m → fixedPart k (m ++ rest) ≡ fixedPart k m
+unfolding fixedPart
+fixed-append k m rest h =
+    let id : 2 ≤ length m = omega arith in
+    let fits : fixedSize k ≤ length (drop 2 m) = simp length-drop (omega arith) in
+    rw (drop-append-le, take-append-le)
+
+-- a message is no shorter than its id and fixed part
+pub size-least : (k : Kind) (h : List ℕ) → 2 + fixedSize k ≤ sizeOf k h
+unfolding sizeOf
+size-least k h = omega arith
+
+-- the same message, with bytes after it
+module _ (m rest : List ℕ) (w : WellFormed m) where
+  pub well-least : 2 + fixedSize (w .kind) ≤ length m
+  well-least = omega (arith, size-least (w .kind) (fixedPart (w .kind) m), w .whole)
+
+  pub well-known : identified (idAt (m ++ rest)) ≡ Known (w .kind)
+  well-known =
+      let h : 2 ≤ length m = omega (arith, well-least) in
+      rw id-append (w .known)
+
+  pub well-fixed : fixedPart (w .kind) (m ++ rest) ≡ fixedPart (w .kind) m
+  well-fixed = fixed-append (w .kind) m rest well-least
+
+  pub well-size : sizeOf (w .kind) (fixedPart (w .kind) (m ++ rest)) ≡ length m
+  well-size = rw well-fixed (w .whole)
+
+-- two well-formed messages at the front of the same bytes are the same
+pub prefix-free : (m n a b : List ℕ) → WellFormed m → WellFormed n → m ++ a ≡ n ++ b → m ≡ n
+prefix-free m n a b w v e =
+    let k : w .kind ≡ v .kind = cc (well-known m a w, well-known n b v) in
+    let z : length m ≡ length n = cc (well-size m a w, well-size n b v) in
+    cc (take-append-seam m a, take-append-seam n b)

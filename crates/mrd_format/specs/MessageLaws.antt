@@ -6,8 +6,8 @@ use native.Mathlib.Nat.{le-trans, le-add-right, le-of-eq}
 use native.Mathlib.Omega.{arith}
 use mathlib.Core.Path.{_≡_, refl, sym, ap, _∙_}
 use mathlib.Core.List.{List, [], _∷_, _++_}
-use lib.ListN.{length, take, drop, length-drop}
-use lib.Seq.{take-append-le, drop-append-le, take-append-seam}
+use lib.ListN.{length, take, drop, length-drop, take-append-drop}
+use lib.Seq.{length-take-le, take-append-le, drop-append-le, take-append-seam}
 use Rattle.mrd_numbers.specs.Laws.{num-append}
 use Rattle.mrd_format.specs.declared.kind.Kind.{Kind}
 use Rattle.mrd_format.specs.declared.kind.Identified.{Identified}
@@ -31,6 +31,17 @@ fixed-append k m rest h =
 pub size-least : (k : Kind) (h : List ℕ) → 2 + fixedSize k ≤ sizeOf k h
 unfolding sizeOf
 size-least k h = omega arith
+
+-- the id and the fixed part of a part that holds them are the whole's
+module _ (k : Kind) (z : ℕ) (t : List ℕ) (least : 2 + fixedSize k ≤ z) (fits : z ≤ length t) where
+  long : 2 + fixedSize k ≤ length (take z t)
+  long = rw length-take-le least
+
+  pub id-take : idAt (take z t) ≡ idAt t
+  id-take = sym (id-append (take z t) (drop z t) (omega (arith, long))) ∙ ap idAt (take-append-drop z t)
+
+  pub fixed-take : fixedPart k (take z t) ≡ fixedPart k t
+  fixed-take = sym (fixed-append k (take z t) (drop z t) long) ∙ ap (fixedPart k) (take-append-drop z t)
 
 -- the same message, with bytes after it
 module _ (m rest : List ℕ) (w : WellFormed m) where

@@ -17,8 +17,8 @@ use Rattle.mrd_stream.specs.declared.cursor.Cursor.{Cursor}
 use Rattle.mrd_stream.specs.Order.{allowed, nextPhase}
 use Rattle.mrd_stream.specs.Walk.{messageLimit, checksAs, Judged, faulty, whole, judge, Verdict, refused, ended, after, beginning, Trace, message, done, walk, trace, verdict, answer}
 use Rattle.mrd_stream.specs.WalkLaws.{walk-end, walk-fault, walk-next}
-use Rattle.mrd_stream.specs.Cut.{Every, joined, kindsIn, FirstFault}
-use Rattle.mrd_cut.specs.Order.{phaseFrom, AllowedFrom}
+use Rattle.mrd_stream.specs.Cut.{Every, joined, kindsIn, InOrder, FirstFault}
+use Rattle.mrd_cut.specs.Order.{phaseFrom, phaseAfter, AllowedFrom, in-order-iff}
 use Rattle.mrd_cut.specs.Unique.{not-empty}
 use Rattle.mrd_cut.specs.Judged.{WholeAt, judge-whole, judge-faulty, whole-judge, wellFormed, well-whole}
 
@@ -118,3 +118,42 @@ walked (meets {c} {m} {rest} {r} w a n v) =
       counted = λ h. omega (arith, later .counted (omega arith));
       stops = rw (← standing-next c m (piecesOf r) all) (later .stops);
     }
+
+-- where the walk of a stream stands after well-formed messages: their number, their bytes, and the phase that their kinds lead to
+abbrev pub cursorAfter : (ms : List (List ℕ)) → Every WellFormed ms → Cursor
+cursorAfter ms w = record { number = length ms; start = length (joined ms); phase = phaseAfter (kindsIn ms w) }
+
+pub standing-beginning : (ms : List (List ℕ)) (w : Every WellFormed ms) → standing beginning ms w ≡ cursorAfter ms w
+standing-beginning ms w =
+    λ i. record { number = zero-add (length ms) i; start = zero-add (length (joined ms)) i; phase = phaseAfter (kindsIn ms w) }
+
+-- the messages that the walk of s met: they are well formed, in order, and not too many; after them the walk stops with the answer
+pub record Met (s : List ℕ) : Type 0 where
+  pub well : Every WellFormed (piecesOf (trace s))
+  pub rest : List ℕ
+  pub whole : joined (piecesOf (trace s)) ++ rest ≡ s
+  pub ordered : InOrder (kindsIn (piecesOf (trace s)) well)
+  pub few : length (piecesOf (trace s)) ≤ messageLimit
+  pub stops : Stops (cursorAfter (piecesOf (trace s)) well) rest (answer s)
+
+pub met : (s : List ℕ) → Met s
+unfolding answer
+met s =
+    let r = walked (walks s) in
+    let ms = piecesOf (trace s) in
+    record {
+      well = r .well;
+      rest = r .rest;
+      whole = r .whole;
+      ordered = in-order-iff (kindsIn ms (r .well)) .0 (r .ordered);
+      few = omega (arith, r .counted (omega arith));
+      stops = subst (λ (d : Cursor). Stops d (r .rest) (verdict (trace s))) (standing-beginning ms (r .well)) (r .stops);
+    }
+
+-- well-formed messages, allowed and not too many, are walked over, whatever follows them
+pub walk-pieces : (ms : List (List ℕ)) (w : Every WellFormed ms) (c : Cursor) (rest : List ℕ) → AllowedFrom (c .phase) (kindsIn ms w) →
+    c .number + length ms ≤ messageLimit → verdict (walk (joined ms ++ rest) 0 c) ≡ verdict (walk rest 0 (standing c ms w))
+walk-pieces [] w c rest a n = ap (λ (d : Cursor). verdict (walk rest 0 d)) (sym (standing-none c))
+walk-pieces (m ∷ ms) w c rest a n =
+    rw (append-assoc, walk-well c m (joined ms ++ rest) (w .0) (a .0) (omega arith), ← standing-next c m ms w)
+      (walk-pieces ms (w .1) (after c (w .0 .kind) (length m)) rest (a .1) (omega arith))

@@ -157,3 +157,11 @@ walk-pieces [] w c rest a n = ap (λ (d : Cursor). verdict (walk rest 0 d)) (sym
 walk-pieces (m ∷ ms) w c rest a n =
     rw (append-assoc, walk-well c m (joined ms ++ rest) (w .0) (a .0) (omega arith), ← standing-next c m ms w)
       (walk-pieces ms (w .1) (after c (w .0 .kind) (length m)) rest (a .1) (omega arith))
+
+-- the answer about well-formed messages in order, not too many, and what follows them: that of the walk from there on
+pub answer-after : (ms : List (List ℕ)) (w : Every WellFormed ms) (rest : List ℕ) → InOrder (kindsIn ms w) → length ms ≤ messageLimit →
+    answer (joined ms ++ rest) ≡ verdict (walk rest 0 (cursorAfter ms w))
+unfolding answer trace
+answer-after ms w rest o n =
+    walk-pieces ms w beginning rest (in-order-iff (kindsIn ms w) .1 o) (omega arith) ∙
+    ap (λ (c : Cursor). verdict (walk rest 0 c)) (standing-beginning ms w)

@@ -16,7 +16,7 @@ use Rattle.mrd_stream.specs.Walk.{messageLimit, accepted, refused, endedAs, end
 use Rattle.mrd_stream.specs.WalkLaws.{walk-end}
 use Rattle.mrd_stream.specs.Cut.{Every, joined, Cut, kindsIn, InOrder, EndsInClose}
 use Rattle.mrd_cut.specs.Order.{phaseAfter, in-order-iff, closed-iff-ends}
-use Rattle.mrd_cut.specs.Walked.{Stops, Met, met, piecesOf, cursorAfter, answer-after}
+use Rattle.mrd_cut.specs.Walked.{refused-not-accepted, Stops, Met, met, piecesOf, cursorAfter, answer-after}
 
 -- the kinds of a cut's messages
 abbrev pub kindsOf : {s : List ℕ} → Cut s → List Kind
@@ -29,13 +29,10 @@ pub record Acceptable (s : List ℕ) : Type 0 where
   pub ordered : InOrder (kindsOf cut)
   pub closed : EndsInClose (kindsOf cut)
 
-not-both : {f b n m : ℕ} → refused f b n ≡ accepted m → ⊥
-not-both e = let z : _≡_ {A = ℕ} 0 1 = cc in omega arith
-
 -- a walk ends accepted only after a close, with the number of messages
 ended-accepted : (b : Bool) (c : Cursor) {n : ℕ} → endedAs b c ≡ accepted n → (b ≡ true) × (c .number ≡ n)
 ended-accepted true c e = (refl, cc)
-ended-accepted false c e = absurd (not-both e)
+ended-accepted false c e = absurd (refused-not-accepted e)
 
 -- the messages that the walk of an accepted stream met are such a cut, and the answer is their number
 pub accepted-cut : (s : List ℕ) {n : ℕ} → answer s ≡ accepted n →
@@ -48,7 +45,7 @@ accepted-cut s {n} e = go (met s .rest) (met s .whole) (rw e at (met s .stops))
 
     go : (rest : List ℕ) → joined ms ++ rest ≡ s → Stops (cursorAfter ms (met s .well)) rest (accepted n) →
         (a : Acceptable s) × (a .cut .pieces ≡ ms) × (length (a .cut .pieces) ≡ n)
-    go (b ∷ t) whole st = absurd (not-both (sym (st .2)))
+    go (b ∷ t) whole st = absurd (refused-not-accepted (sym (st .2)))
     go [] whole st =
         let end = ended-accepted (isClosed (phaseAfter (kindsIn ms (met s .well)))) (cursorAfter ms (met s .well)) (sym st) in
         let a : Acceptable s = record {

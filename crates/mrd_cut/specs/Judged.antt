@@ -7,7 +7,7 @@ use native.Mathlib.Omega.{arith}
 use mathlib.Core.Path.{_≡_, refl, sym, ap, _∙_}
 use mathlib.Core.Logic.{_↔_}
 use mathlib.Core.Bool.{Bool, true, false, not, true≢false, false≢true}
-use mathlib.Core.List.{List, [], _∷_, _++_}
+use mathlib.Core.List.{List, [], _∷_, _++_, append-nil}
 use lib.ListN.{length, take, drop, length-append}
 use lib.Seq.{length-take-le}
 use lib.Dec.{ltb}
@@ -42,10 +42,14 @@ first-passed ((zero when b) ∷ cs) n e = absurd (false≢true n)
 first-passed ((suc f when true) ∷ cs) n e = absurd (suc-ne-zero f e)
 first-passed ((suc f when false) ∷ cs) n e = (refl, first-passed cs n e)
 
+-- checks that pass decide nothing
+first-skip : (cs ds : List Check) → Every Passed cs → first (cs ++ ds) ≡ first ds
+first-skip [] ds p = refl
+first-skip ((f when true) ∷ cs) ds p = absurd (true≢false (p .0))
+first-skip ((f when false) ∷ cs) ds p = first-skip cs ds (p .1)
+
 passed-first : (cs : List Check) → Every Passed cs → first cs ≡ 0
-passed-first [] p = refl
-passed-first ((f when true) ∷ cs) p = absurd (true≢false (p .0))
-passed-first ((f when false) ∷ cs) p = passed-first cs (p .1)
+passed-first cs p = rw append-nil at (first-skip cs [] p)
 
 -- a refusal: the first check that refuses
 first-fault : (cs : List Check) (f : ℕ) → first cs ≡ f → (f ≡ 0 → ⊥) → FirstFault f cs
@@ -59,6 +63,9 @@ first-fault ((g when false) ∷ cs) f e n =
       all = ap (λ (l : List Check). (g when false) ∷ l) (r .all);
       passed = (refl, r .passed);
     }
+
+fault-first : (cs : List Check) {f : ℕ} → FirstFault f cs → first cs ≡ f
+fault-first cs {f} r = rw (r .all) (first-skip (r .earlier) ((f when true) ∷ r .later) (r .passed))
 
 own-numbered : (k : Kind) (h : List ℕ) → numbered (ownChecks k h) ≡ true
 unfolding ownChecks acquisition.checks image.checks waveform.checks
@@ -175,6 +182,27 @@ judge-faulty c t {f} e = go (identified (idAt t)) e
     go (Known k) e =
         let u = unless-faulty (first (checksAs (Known k) c t)) k (sizeOf k (fixedPart k t)) e in
         first-fault (checksAs (Known k) c t) f (u .0) (u .1)
+
+-- a fault's number is not 0
+fault-not-zero : (cs : List Check) {f : ℕ} → numbered cs ≡ true → FirstFault f cs → f ≡ 0 → ⊥
+fault-not-zero cs {f} n r z =
+    let p : Every Passed cs = first-passed cs n (fault-first cs r ∙ z) in
+    true≢false (every-split (r .earlier) ((f when true) ∷ r .later) (rw (r .all) at p) .1 .0)
+
+unless-fault : (n : ℕ) (k : Kind) (z : ℕ) → (n ≡ 0 → ⊥) → unless n k z ≡ faulty n
+unless-fault zero k z h = absurd (h refl)
+unless-fault (suc n) k z h = refl
+
+-- where a check refuses, the message is judged faulty by the first that does
+pub faulty-judge : (c : Cursor) (t : List ℕ) {f : ℕ} → FirstFault f (checksAs (identified (idAt t)) c t) → judge c t ≡ faulty f
+unfolding judge judgeAs
+faulty-judge c t {f} r = go (identified (idAt t)) r
+  where
+    go : (i : Identified) → FirstFault f (checksAs i c t) → judgeAs i c t ≡ faulty f
+    go Unknown r = ap faulty (fault-first (checksAs Unknown c t) r)
+    go (Known k) r =
+        let n = fault-not-zero (checksAs (Known k) c t) (numbered-known c t k) r in
+        rw (fault-first (checksAs (Known k) c t) r) (unless-fault f k (sizeOf k (fixedPart k t)) n)
 
 -- the bytes of a whole message are a well-formed message
 abbrev pub wellFormed : (c : Cursor) (t : List ℕ) {k : Kind} {z : ℕ} → WholeAt c t k z → WellFormed (take z t)

@@ -228,12 +228,12 @@ ends-closed p (k ∷ ks) = ends-closed (nextPhase k p) ks
 pub closed-iff-ends : (ks : List Kind) → InOrder ks → (isClosed (phaseAfter ks) ≡ true) ↔ EndsInClose ks
 closed-iff-ends ks o = (closed-ends Start ks (in-order-iff ks .1 o) refl, λ e. rw (e .1) (ends-closed Start (e .0)))
 
--- kinds that do not lead to the close's phase lack a close
-open-lacks : (p : Phase) (ks : List Kind) → Means p ks → isClosed p ≡ false → Lacks close ks
-open-lacks Start ks m o = m .0
-open-lacks Configured ks m o = m .0
-open-lacks Headed ks m o = m .0
-open-lacks Closed ks m o = absurd (true≢false o)
+-- kinds in order lack a close exactly when they do not lead to its phase
+open-iff-lacks : (p : Phase) (ks : List Kind) → Means p ks → (isClosed p ≡ false) ↔ Lacks close ks
+open-iff-lacks Start ks m = (λ e. m .0, λ l. refl)
+open-iff-lacks Configured ks m = (λ e. m .0, λ l. refl)
+open-iff-lacks Headed ks m = (λ e. m .0, λ l. refl)
+open-iff-lacks Closed ks m = (λ e. absurd (true≢false e), λ l. absurd (m l))
 
-pub open-lacks-close : (ks : List Kind) → InOrder ks → isClosed (phaseAfter ks) ≡ false → Lacks close ks
-open-lacks-close ks o = open-lacks (phaseAfter ks) ks (phase-after-means ks o)
+pub open-iff-lacks-close : (ks : List Kind) → InOrder ks → (isClosed (phaseAfter ks) ≡ false) ↔ Lacks close ks
+open-iff-lacks-close ks o = open-iff-lacks (phaseAfter ks) ks (phase-after-means ks o)

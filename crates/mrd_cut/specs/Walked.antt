@@ -15,7 +15,7 @@ use Rattle.mrd_format.specs.Message.{idAt, fixedPart, WellFormed}
 use Rattle.mrd_format.specs.MessageLaws.{size-least}
 use Rattle.mrd_stream.specs.declared.cursor.Cursor.{Cursor}
 use Rattle.mrd_stream.specs.Order.{allowed, nextPhase}
-use Rattle.mrd_stream.specs.Walk.{messageLimit, checksAs, Judged, faulty, whole, judge, Verdict, refused, ended, after, beginning, Trace, message, done, walk, trace, verdict, answer}
+use Rattle.mrd_stream.specs.Walk.{messageLimit, checksAs, Judged, faulty, whole, judge, Verdict, accepted, refused, ended, after, beginning, Trace, message, done, walk, trace, verdict, answer}
 use Rattle.mrd_stream.specs.WalkLaws.{walk-end, walk-fault, walk-next}
 use Rattle.mrd_stream.specs.Cut.{Every, joined, kindsIn, InOrder, FirstFault}
 use Rattle.mrd_cut.specs.Order.{phaseFrom, phaseAfter, AllowedFrom, in-order-iff}
@@ -57,6 +57,10 @@ walks-within (suc n) (b ∷ t) c h = go (λ s d l. walks-within n s d l) (judge 
 pub walks : (s : List ℕ) → Walks beginning s (trace s)
 unfolding trace
 walks s = walks-within (length s) s beginning (le-refl (length s))
+
+-- an answer is one or the other
+pub refused-not-accepted : {f r b n : ℕ} → refused f r b ≡ accepted n → ⊥
+refused-not-accepted e = let z : _≡_ {A = ℕ} 0 1 = cc in omega arith
 
 -- the messages that a walk met
 abbrev pub piecesOf : Trace → List (List ℕ)

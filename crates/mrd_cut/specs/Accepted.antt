@@ -2,8 +2,6 @@
 -- and the count of the answer is the number of those messages.
 -- Assumes nothing.
 use Prim.Native.Nat.{ℕ, _≤_}
-use native.Mathlib.Omega.{arith}
-use native.Mathlib.Nat.{zero-add}
 use mathlib.Core.Path.{_≡_, refl, sym, ap, _∙_}
 use mathlib.Core.Logic.{_↔_}
 use mathlib.Core.Bool.{Bool, true, false}
@@ -12,11 +10,11 @@ use lib.ListN.{length}
 use Rattle.mrd_format.specs.declared.kind.Kind.{Kind}
 use Rattle.mrd_stream.specs.declared.cursor.Cursor.{Cursor}
 use Rattle.mrd_stream.specs.Order.{isClosed}
-use Rattle.mrd_stream.specs.Walk.{messageLimit, accepted, refused, endedAs, ended, beginning, trace, walk, verdict, answer}
+use Rattle.mrd_stream.specs.Walk.{messageLimit, accepted, endedAs, ended, trace, walk, verdict, answer}
 use Rattle.mrd_stream.specs.WalkLaws.{walk-end}
-use Rattle.mrd_stream.specs.Cut.{Every, joined, Cut, kindsIn, InOrder, EndsInClose}
-use Rattle.mrd_cut.specs.Order.{phaseAfter, in-order-iff, closed-iff-ends}
-use Rattle.mrd_cut.specs.Walked.{refused-not-accepted, Stops, Met, met, piecesOf, cursorAfter, answer-after}
+use Rattle.mrd_stream.specs.Cut.{joined, Cut, kindsIn, InOrder, EndsInClose}
+use Rattle.mrd_cut.specs.Order.{phaseAfter, closed-iff-ends}
+use Rattle.mrd_cut.specs.Walked.{refused-not-accepted, Stops, met, piecesOf, cursorAfter, answer-after}
 
 -- the kinds of a cut's messages
 abbrev pub kindsOf : {s : List ℕ} → Cut s → List Kind
@@ -38,15 +36,15 @@ ended-accepted false c e = absurd (refused-not-accepted e)
 pub accepted-cut : (s : List ℕ) {n : ℕ} → answer s ≡ accepted n →
     (a : Acceptable s) × (a .cut .pieces ≡ piecesOf (trace s)) × (length (a .cut .pieces) ≡ n)
 unfolding ended
-accepted-cut s {n} e = go (met s .rest) (met s .whole) (rw e at (met s .stops))
+accepted-cut s {n} e = by-rest (met s .rest) (met s .whole) (rw e at (met s .stops))
   where
     ms : List (List ℕ)
     ms = piecesOf (trace s)
 
-    go : (rest : List ℕ) → joined ms ++ rest ≡ s → Stops (cursorAfter ms (met s .well)) rest (accepted n) →
+    by-rest : (rest : List ℕ) → joined ms ++ rest ≡ s → Stops (cursorAfter ms (met s .well)) rest (accepted n) →
         (a : Acceptable s) × (a .cut .pieces ≡ ms) × (length (a .cut .pieces) ≡ n)
-    go (b ∷ t) whole st = absurd (refused-not-accepted (sym (st .2)))
-    go [] whole st =
+    by-rest (b ∷ t) whole st = absurd (refused-not-accepted (sym (st .2)))
+    by-rest [] whole st =
         let end = ended-accepted (isClosed (phaseAfter (kindsIn ms (met s .well)))) (cursorAfter ms (met s .well)) (sym st) in
         let a : Acceptable s = record {
           cut = record { pieces = ms; well = met s .well; whole = sym (append-nil (joined ms)) ∙ whole };
@@ -63,9 +61,8 @@ cut-accepted s a =
     let ms = a .cut .pieces in
     let w = a .cut .well in
     let closed : isClosed (phaseAfter (kindsIn ms w)) ≡ true = closed-iff-ends (kindsIn ms w) (a .ordered) .1 (a .closed) in
-    let walked : answer (joined ms ++ []) ≡ accepted (length ms) =
-      answer-after ms w [] (a .ordered) (a .few) ∙ rw (walk-end, closed) in
-    rw (append-nil, a .cut .whole) at walked
+    let end : verdict (walk [] 0 (cursorAfter ms w)) ≡ accepted (length ms) = rw (walk-end, closed) in
+    rw (append-nil, a .cut .whole) at (answer-after ms w [] (a .ordered) (a .few) ∙ end)
 
 -- a stream is accepted exactly when it has such a cut, and the answer is its number of messages
 pub accepted-iff : (s : List ℕ) (n : ℕ) → (answer s ≡ accepted n) ↔ ((a : Acceptable s) × (length (a .cut .pieces) ≡ n))

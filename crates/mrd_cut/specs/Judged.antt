@@ -1,16 +1,14 @@
--- What the walk finds where it stands, said of the bytes there: a whole message is one that passes every check, and a refusal's number is that of
--- the first check that refuses.
+-- What the walk finds where it stands, said of the bytes there: a whole message passes every check, which is to be well formed, in order and
+-- within the count; a refusal's number is that of the first check that refuses.
 -- Assumes nothing.
 use Prim.Native.Nat.{ℕ, zero, suc, _+_, _≤_, _<_}
-use native.Mathlib.Nat.{suc-ne-zero}
 use native.Mathlib.Omega.{arith}
 use mathlib.Core.Path.{_≡_, refl, sym, ap, _∙_}
-use mathlib.Core.Logic.{_↔_}
-use mathlib.Core.Bool.{Bool, true, false, not, true≢false, false≢true}
-use mathlib.Core.List.{List, [], _∷_, _++_, append-nil}
-use lib.ListN.{length, take, drop, length-append}
+use mathlib.Core.Bool.{true, false, not, true≢false}
+use mathlib.Core.List.{List, [], _∷_, _++_}
+use lib.ListN.{length, take, length-append}
 use lib.Seq.{length-take-le}
-use lib.Dec.{ltb}
+use lib.Dec.{ltb, eqb}
 use borrow.Author.Tests.{leb-false, ltb-false, not-false, lt-leb, le-ltb, ne-eqb}
 use Rattle.mrd_format.specs.declared.kind.Kind.{Kind}
 use Rattle.mrd_format.specs.declared.kind.Kind.the-variants.{ConfigurationName, ConfigurationText, HeaderText, Close, Text, Acquisition, Image, Waveform}
@@ -24,49 +22,13 @@ use Rattle.mrd_format.specs.Acquisition as acquisition
 use Rattle.mrd_format.specs.Image as image
 use Rattle.mrd_format.specs.Waveform as waveform
 use Rattle.mrd_stream.specs.declared.cursor.Cursor.{Cursor}
-use Rattle.mrd_stream.specs.Order.{allowed, isClosed}
-use Rattle.mrd_stream.specs.Walk.{messageLimit, earlyChecks, lateChecks, checksAs, Judged, faulty, whole, unless, judgeAs, judge}
+use Rattle.mrd_stream.specs.Order.{allowed}
+use Rattle.mrd_stream.specs.Walk.{messageLimit, earlyChecks, lateChecks, checksAs, faulty, whole, unless, judgeAs, judge}
 use Rattle.mrd_stream.specs.Cut.{Every, Passed, FirstFault}
 use Rattle.mrd_cut.specs.Order.{allowed-open}
+use Rattle.mrd_cut.specs.Checks.{numbered, first-passed, passed-first, first-fault, fault-first, numbered-append, every-split, every-append, fault-not-zero}
 
--- whether no check has the number 0, which stands for 'no refusal'
-abbrev numbered : List Check → Bool
-numbered [] = true
-numbered ((zero when b) ∷ cs) = false
-numbered ((suc n when b) ∷ cs) = numbered cs
-
--- no refusal: every check passed
-first-passed : (cs : List Check) → numbered cs ≡ true → first cs ≡ 0 → Every Passed cs
-first-passed [] n e = tt
-first-passed ((zero when b) ∷ cs) n e = absurd (false≢true n)
-first-passed ((suc f when true) ∷ cs) n e = absurd (suc-ne-zero f e)
-first-passed ((suc f when false) ∷ cs) n e = (refl, first-passed cs n e)
-
--- checks that pass decide nothing
-first-skip : (cs ds : List Check) → Every Passed cs → first (cs ++ ds) ≡ first ds
-first-skip [] ds p = refl
-first-skip ((f when true) ∷ cs) ds p = absurd (true≢false (p .0))
-first-skip ((f when false) ∷ cs) ds p = first-skip cs ds (p .1)
-
-passed-first : (cs : List Check) → Every Passed cs → first cs ≡ 0
-passed-first cs p = rw append-nil at (first-skip cs [] p)
-
--- a refusal: the first check that refuses
-first-fault : (cs : List Check) (f : ℕ) → first cs ≡ f → (f ≡ 0 → ⊥) → FirstFault f cs
-first-fault [] f e n = absurd (n (sym e))
-first-fault ((g when true) ∷ cs) f e n = record { earlier = []; later = cs; all = rw e; passed = tt }
-first-fault ((g when false) ∷ cs) f e n =
-    let r : FirstFault f cs = first-fault cs f e n in
-    record {
-      earlier = (g when false) ∷ r .earlier;
-      later = r .later;
-      all = ap (λ (l : List Check). (g when false) ∷ l) (r .all);
-      passed = (refl, r .passed);
-    }
-
-fault-first : (cs : List Check) {f : ℕ} → FirstFault f cs → first cs ≡ f
-fault-first cs {f} r = rw (r .all) (first-skip (r .earlier) ((f when true) ∷ r .later) (r .passed))
-
+-- no check of a message has the number 0
 own-numbered : (k : Kind) (h : List ℕ) → numbered (ownChecks k h) ≡ true
 unfolding ownChecks acquisition.checks image.checks waveform.checks
 own-numbered ConfigurationName h = refl
@@ -77,19 +39,6 @@ own-numbered Text h = refl
 own-numbered Acquisition h = refl
 own-numbered Image h = refl
 own-numbered Waveform h = refl
-
-numbered-append : (cs ds : List Check) → numbered cs ≡ true → numbered ds ≡ true → numbered (cs ++ ds) ≡ true
-numbered-append [] ds n o = o
-numbered-append ((zero when b) ∷ cs) ds n o = n
-numbered-append ((suc f when b) ∷ cs) ds n o = numbered-append cs ds n o
-
-every-split : (cs ds : List Check) → Every Passed (cs ++ ds) → Every Passed cs × Every Passed ds
-every-split [] ds p = (tt, p)
-every-split (a ∷ cs) ds p = let r = every-split cs ds (p .1) in ((p .0, r .0), r .1)
-
-every-append : (cs ds : List Check) → Every Passed cs → Every Passed ds → Every Passed (cs ++ ds)
-every-append [] ds p q = q
-every-append (a ∷ cs) ds p q = (p .0, every-append cs ds (p .1) q)
 
 -- the message at the front of t, of kind k and size z, passes every check where the walk stands at c
 pub record WholeAt (c : Cursor) (t : List ℕ) (k : Kind) (z : ℕ) : Type 0 where
@@ -106,6 +55,7 @@ abbrev sizeChecks : Kind → List ℕ → List Check
 sizeChecks k t =
     (10 when ltb limit (sizeOf k (fixedPart k t))) ∷ (11 when ltb (length t) (sizeOf k (fixedPart k t))) ∷ []
 
+-- every check of a message of kind k passed exactly when the facts of WholeAt hold
 module _ (c : Cursor) (t : List ℕ) (k : Kind) where
   numbered-known : numbered (checksAs (Known k) c t) ≡ true
   unfolding checksAs earlyChecks lateChecks
@@ -134,8 +84,10 @@ module _ (c : Cursor) (t : List ℕ) (k : Kind) where
       let least : 2 + fixedSize k ≤ length t = omega (arith, size-least k (fixedPart k t)) in
       let small : sizeOf k (fixedPart k t) ≤ limit = rw (w .size) (w .small) in
       let fits : sizeOf k (fixedPart k t) ≤ length t = rw (w .size) (w .fits) in
-      let late : Every Passed (own ++ sizeChecks k t) = every-append own (sizeChecks k t) (first-passed own (own-numbered k (fixedPart k t)) (w .sound)) (le-ltb _ _ small, (le-ltb _ _ fits, tt)) in
-      (allowed-open k (c .phase) (w .ordered), (lt-leb _ _ (w .counted), (ne-eqb (length t) 1 (λ e. omega arith), (ap not (w .ordered), (le-ltb _ _ least, late)))))
+      let passed : Every Passed own = first-passed own (own-numbered k (fixedPart k t)) (w .sound) in
+      let late = every-append own (sizeChecks k t) passed (le-ltb _ _ small, (le-ltb _ _ fits, tt)) in
+      let two : eqb (length t) 1 ≡ false = ne-eqb (length t) 1 (λ e. omega arith) in
+      (allowed-open k (c .phase) (w .ordered), (lt-leb _ _ (w .counted), (two, (ap not (w .ordered), (le-ltb _ _ least, late)))))
 
 -- an id that no kind has is always refused
 unknown-refused : (c : Cursor) (t : List ℕ) → first (checksAs Unknown c t) ≡ 0 → ⊥
@@ -146,6 +98,7 @@ unknown-refused c t e = true≢false (first-passed (checksAs Unknown c t) refl e
 not-both : {f : ℕ} {k : Kind} {z : ℕ} → faulty f ≡ whole k z → ⊥
 not-both e = let z : _≡_ {A = ℕ} 0 1 = cc in omega arith
 
+-- which judgement a number leads to
 unless-whole : (n : ℕ) (j : Kind) (y : ℕ) {k : Kind} {z : ℕ} → unless n j y ≡ whole k z → (n ≡ 0) × (j ≡ k) × (y ≡ z)
 unless-whole zero j y e = (refl, cc, cc)
 unless-whole (suc n) j y e = absurd (not-both e)
@@ -157,11 +110,11 @@ unless-faulty (suc n) j y {f} e = let s : suc n ≡ f = cc in (s, λ z. omega ar
 -- what is judged whole passes every check
 pub judge-whole : (c : Cursor) (t : List ℕ) {k : Kind} {z : ℕ} → judge c t ≡ whole k z → WholeAt c t k z
 unfolding judge judgeAs
-judge-whole c t {k} {z} e = go (identified (idAt t)) refl e
+judge-whole c t {k} {z} e = by-id (identified (idAt t)) refl e
   where
-    go : (i : Identified) → identified (idAt t) ≡ i → judgeAs i c t ≡ whole k z → WholeAt c t k z
-    go Unknown n e = absurd (not-both e)
-    go (Known j) n e =
+    by-id : (i : Identified) → identified (idAt t) ≡ i → judgeAs i c t ≡ whole k z → WholeAt c t k z
+    by-id Unknown n e = absurd (not-both e)
+    by-id (Known j) n e =
         let u = unless-whole (first (checksAs (Known j) c t)) j (sizeOf j (fixedPart j t)) e in
         rw (← u .1, ← u .2) (passed-facts c t j n (first-passed (checksAs (Known j) c t) (numbered-known c t j) (u .0)))
 
@@ -173,21 +126,15 @@ whole-judge c t {k} {z} w = rw (w .known, passed-first _ (facts-passed c t k w),
 -- what is judged faulty is refused by the first check that refuses
 pub judge-faulty : (c : Cursor) (t : List ℕ) {f : ℕ} → judge c t ≡ faulty f → FirstFault f (checksAs (identified (idAt t)) c t)
 unfolding judge judgeAs
-judge-faulty c t {f} e = go (identified (idAt t)) e
+judge-faulty c t {f} e = by-id (identified (idAt t)) e
   where
-    go : (i : Identified) → judgeAs i c t ≡ faulty f → FirstFault f (checksAs i c t)
-    go Unknown e =
+    by-id : (i : Identified) → judgeAs i c t ≡ faulty f → FirstFault f (checksAs i c t)
+    by-id Unknown e =
         let n : first (checksAs Unknown c t) ≡ f = cc in
         first-fault (checksAs Unknown c t) f n (λ z. unknown-refused c t (n ∙ z))
-    go (Known k) e =
+    by-id (Known k) e =
         let u = unless-faulty (first (checksAs (Known k) c t)) k (sizeOf k (fixedPart k t)) e in
         first-fault (checksAs (Known k) c t) f (u .0) (u .1)
-
--- a fault's number is not 0
-fault-not-zero : (cs : List Check) {f : ℕ} → numbered cs ≡ true → FirstFault f cs → f ≡ 0 → ⊥
-fault-not-zero cs {f} n r z =
-    let p : Every Passed cs = first-passed cs n (fault-first cs r ∙ z) in
-    true≢false (every-split (r .earlier) ((f when true) ∷ r .later) (rw (r .all) at p) .1 .0)
 
 unless-fault : (n : ℕ) (k : Kind) (z : ℕ) → (n ≡ 0 → ⊥) → unless n k z ≡ faulty n
 unless-fault zero k z h = absurd (h refl)
@@ -196,11 +143,11 @@ unless-fault (suc n) k z h = refl
 -- where a check refuses, the message is judged faulty by the first that does
 pub faulty-judge : (c : Cursor) (t : List ℕ) {f : ℕ} → FirstFault f (checksAs (identified (idAt t)) c t) → judge c t ≡ faulty f
 unfolding judge judgeAs
-faulty-judge c t {f} r = go (identified (idAt t)) r
+faulty-judge c t {f} r = by-id (identified (idAt t)) r
   where
-    go : (i : Identified) → FirstFault f (checksAs i c t) → judgeAs i c t ≡ faulty f
-    go Unknown r = ap faulty (fault-first (checksAs Unknown c t) r)
-    go (Known k) r =
+    by-id : (i : Identified) → FirstFault f (checksAs i c t) → judgeAs i c t ≡ faulty f
+    by-id Unknown r = ap faulty (fault-first (checksAs Unknown c t) r)
+    by-id (Known k) r =
         let n = fault-not-zero (checksAs (Known k) c t) (numbered-known c t k) r in
         rw (fault-first (checksAs (Known k) c t) r) (unless-fault f k (sizeOf k (fixedPart k t)) n)
 
@@ -231,3 +178,7 @@ well-whole c m rest w a n =
       small = rw (← w .whole) (w .small);
       fits = simp length-append (omega arith);
     }
+
+pub well-judge : (c : Cursor) (m rest : List ℕ) (w : WellFormed m) → allowed (w .kind) (c .phase) ≡ true → c .number < messageLimit →
+    judge c (m ++ rest) ≡ whole (w .kind) (length m)
+well-judge c m rest w a n = whole-judge c (m ++ rest) (well-whole c m rest w a n)

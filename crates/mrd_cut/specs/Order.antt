@@ -4,7 +4,7 @@
 use Prim.Native.Nat.{ℕ}
 use mathlib.Core.Path.{_≡_, refl, sym, ap, _∙_}
 use mathlib.Core.Logic.{_↔_}
-use mathlib.Core.Bool.{Bool, true, false, true≢false, false≢true}
+use mathlib.Core.Bool.{true, false, true≢false, false≢true}
 use mathlib.Core.List.{List, [], _∷_, _++_, append-nil, nil≢cons, head-eq-of-cons-eq, tail-eq-of-cons-eq}
 use lib.Seq.{append-snoc}
 use lib.Dec.{eqb}
@@ -14,7 +14,7 @@ use Rattle.mrd_format.specs.declared.kind.Kind.the-variants.{ConfigurationName,
 use Rattle.mrd_stream.specs.declared.cursor.Phase.{Phase}
 use Rattle.mrd_stream.specs.declared.cursor.Phase.the-variants.{Start, Configured, Headed, Closed}
 use Rattle.mrd_stream.specs.Order.{isStart, isBeforeHeader, isHeaded, isOpen, isClosed, allowed, nextPhase}
-use Rattle.mrd_stream.specs.Cut.{Every, Role, configuration, header, measured, text, close, roleOf, Lacks, May, InOrder, EndsInClose}
+use Rattle.mrd_stream.specs.Cut.{Role, configuration, header, measured, text, close, roleOf, Lacks, May, InOrder, EndsInClose}
 
 -- the phase that kinds lead to from p
 abbrev pub phaseFrom : Phase → List Kind → Phase
@@ -48,6 +48,7 @@ both a = (λ e. a, λ _. refl)
 neither : {A : Type 0} → (A → ⊥) → (false ≡ true) ↔ A
 neither f = (λ e. absurd (false≢true e), λ a. absurd (f a))
 
+-- each test of a phase beside the order rule for the roles that it allows, of kinds of which the phase's meaning holds
 module _ (ks : List Kind) where
   start-iff : (p : Phase) → Means p ks → (isStart p ≡ true) ↔ (Lacks close ks × May configuration ks)
   start-iff Start m = both (m .0, (m .3, m .1, m .2))
@@ -110,41 +111,47 @@ module _ (ks : List Kind) (k : Kind) where
   still : {q : Role} (r : Role) → roleOf k ≡ q → eqb (rank q) (rank r) ≡ false → Lacks r ks → Lacks r (ks ++ (k ∷ []))
   still r e t l = still-lacks r ks k (apart e t) l
 
+  had : (r : Role) → (Lacks r ks → ⊥) → Lacks r (ks ++ (k ∷ [])) → ⊥
+  had r n l = n (lacked r ks k l .0)
+
+  has : {r : Role} → roleOf k ≡ r → Lacks r (ks ++ (k ∷ [])) → ⊥
+  has {r} e l = lacked r ks k l .1 e
+
   to-configured : roleOf k ≡ configuration → Lacks close ks × May configuration ks → Means Configured (ks ++ (k ∷ []))
-  to-configured e o =
-      (still close e refl (o .0), still header e refl (o .1 .1), still measured e refl (o .1 .2), λ l. lacked configuration ks k l .1 e)
+  to-configured e o = (still close e refl (o .0), still header e refl (o .1 .1), still measured e refl (o .1 .2), has e)
 
   to-headed : roleOf k ≡ header → Lacks close ks × May header ks → Means Headed (ks ++ (k ∷ []))
-  to-headed e o = (still close e refl (o .0), λ l. lacked header ks k l .1 e)
+  to-headed e o = (still close e refl (o .0), has e)
 
-  to-closed : roleOf k ≡ close → Means Closed (ks ++ (k ∷ []))
-  to-closed e l = lacked close ks k l .1 e
+  stays-headed : {q : Role} → roleOf k ≡ q → eqb (rank q) (rank close) ≡ false → Means Headed ks → Means Headed (ks ++ (k ∷ []))
+  stays-headed e t m = (still close e t (m .0), had header (m .1))
 
   with-data : (p : Phase) → roleOf k ≡ measured → isHeaded p ≡ true → Means p ks → Means p (ks ++ (k ∷ []))
   with-data Start e h m = absurd (false≢true h)
   with-data Configured e h m = absurd (false≢true h)
-  with-data Headed e h m = (still close e refl (m .0), λ l. m .1 (lacked header ks k l .0))
+  with-data Headed e h m = stays-headed e refl m
   with-data Closed e h m = absurd (false≢true h)
 
   with-text : (p : Phase) → roleOf k ≡ text → Means p ks → Means p (ks ++ (k ∷ []))
   with-text Start e m =
       (still close e refl (m .0), still header e refl (m .1), still measured e refl (m .2), still configuration e refl (m .3))
   with-text Configured e m =
-      (still close e refl (m .0), still header e refl (m .1), still measured e refl (m .2), λ l. m .3 (lacked configuration ks k l .0))
-  with-text Headed e m = (still close e refl (m .0), λ l. m .1 (lacked header ks k l .0))
-  with-text Closed e m = λ l. m (lacked close ks k l .0)
+      (still close e refl (m .0), still header e refl (m .1), still measured e refl (m .2), had configuration (m .3))
+  with-text Headed e m = stays-headed e refl m
+  with-text Closed e m = had close m
 
 -- an allowed step keeps what the phases mean
 step-means : (k : Kind) (p : Phase) (ks : List Kind) → Means p ks → allowed k p ≡ true → Means (nextPhase k p) (ks ++ (k ∷ []))
 step-means ConfigurationName p ks m a = to-configured ks ConfigurationName refl (start-iff ks p m .0 a)
 step-means ConfigurationText p ks m a = to-configured ks ConfigurationText refl (start-iff ks p m .0 a)
 step-means HeaderText p ks m a = to-headed ks HeaderText refl (before-header-iff ks p m .0 a)
-step-means Close p ks m a = to-closed ks Close refl
+step-means Close p ks m a = has ks Close refl
 step-means Text p ks m a = with-text ks Text p refl m
 step-means Acquisition p ks m a = with-data ks Acquisition p refl a m
 step-means Image p ks m a = with-data ks Image p refl a m
 step-means Waveform p ks m a = with-data ks Waveform p refl a m
 
+-- so the phase that allowed kinds lead to means what it says of all kinds so far
 phase-means : (p : Phase) (before ks : List Kind) → Means p before → AllowedFrom p ks → Means (phaseFrom p ks) (before ++ ks)
 phase-means p before [] m a = rw append-nil m
 phase-means p before (k ∷ ks) m a =
@@ -161,7 +168,7 @@ allowed-ordered p before (j ∷ ks) m a [] k rest e =
     rw (append-nil, ← head-eq-of-cons-eq e) (allowed-iff-follows before j p m .0 (a .0))
 allowed-ordered p before (j ∷ ks) m a (x ∷ mid) k rest e =
     rw (← head-eq-of-cons-eq e, ← append-snoc before j mid)
-      (allowed-ordered (nextPhase j p) (before ++ (j ∷ [])) ks (step-means j p before m (a .0)) (a .1) mid k rest (tail-eq-of-cons-eq e))
+    (allowed-ordered (nextPhase j p) (before ++ (j ∷ [])) ks (step-means j p before m (a .0)) (a .1) mid k rest (tail-eq-of-cons-eq e))
 
 ordered-allowed : (p : Phase) (before ks : List Kind) → Means p before → OrderAfter before ks → AllowedFrom p ks
 ordered-allowed p before [] m o = tt
@@ -185,6 +192,7 @@ pub allowed-iff-in-order : (ks : List Kind) (k : Kind) → InOrder ks →
     (allowed k (phaseAfter ks) ≡ true) ↔ (Lacks close ks × May (roleOf k) ks)
 allowed-iff-in-order ks k o = allowed-iff-follows ks k (phaseAfter ks) (phase-after-means ks o)
 
+-- nothing is allowed after a close
 closed-allows-none : (k : Kind) → allowed k Closed ≡ false
 closed-allows-none ConfigurationName = refl
 closed-allows-none ConfigurationText = refl

@@ -1,7 +1,7 @@
 -- The places that the walk of an accepted stream gives are those of the messages of its only cut.
 -- Assumes nothing.
 use Prim.Native.Nat.{ℕ, _+_}
-use mathlib.Core.Path.{_≡_, refl, sym, ap, ap₂, _∙_}
+use mathlib.Core.Path.{_≡_, refl, sym, ap₂, _∙_}
 use mathlib.Core.List.{List, [], _∷_, _++_, map, append-assoc}
 use lib.ListN.{length, take, drop, length-append}
 use lib.Seq.{take-append-seam, drop-at}
@@ -11,7 +11,7 @@ use Rattle.mrd_stream.specs.Walk.{accepted, Trace, trace, answer}
 use Rattle.mrd_stream.specs.Places.{Located, located, places}
 use Rattle.mrd_stream.specs.Cut.{Every, joined, Cut}
 use Rattle.mrd_cut.specs.Unique.{cut-unique}
-use Rattle.mrd_cut.specs.Accepted.{Acceptable, accepted-cut}
+use Rattle.mrd_cut.specs.Accepted.{accepted-cut}
 use Rattle.mrd_cut.specs.Walked.{Walks, ends, faults, meets, piecesOf, walks}
 
 -- the bytes that a place names

@@ -2,7 +2,7 @@
 -- well formed and in order.
 -- Assumes nothing.
 use Prim.Native.Nat.{ℕ, _≤_}
-use mathlib.Core.Path.{_≡_, refl, sym, ap, _∙_}
+use mathlib.Core.Path.{_≡_, refl, sym, ap}
 use mathlib.Core.Logic.{_↔_}
 use mathlib.Core.Bool.{Bool, true, false}
 use mathlib.Core.List.{List, [], _∷_, _++_}
@@ -12,12 +12,12 @@ use Rattle.mrd_format.specs.Kinds.{identified}
 use Rattle.mrd_format.specs.Message.{idAt, WellFormed}
 use Rattle.mrd_stream.specs.declared.cursor.Cursor.{Cursor}
 use Rattle.mrd_stream.specs.Order.{isClosed}
-use Rattle.mrd_stream.specs.Walk.{messageLimit, checksAs, accepted, refused, endedAs, ended, trace, walk, verdict, answer}
+use Rattle.mrd_stream.specs.Walk.{messageLimit, checksAs, refused, endedAs, ended, trace, walk, verdict, answer}
 use Rattle.mrd_stream.specs.WalkLaws.{walk-end, walk-fault}
 use Rattle.mrd_stream.specs.Cut.{Every, joined, kindsIn, close, Lacks, InOrder, FirstFault}
-use Rattle.mrd_cut.specs.Order.{phaseAfter, open-iff-lacks-close}
+use Rattle.mrd_cut.specs.Order.{open-iff-lacks-close}
 use Rattle.mrd_cut.specs.Judged.{faulty-judge}
-use Rattle.mrd_cut.specs.Walked.{refused-not-accepted, Stops, Met, met, piecesOf, cursorAfter, answer-after}
+use Rattle.mrd_cut.specs.Walked.{refused-not-accepted, Stops, met, piecesOf, cursorAfter, answer-after}
 
 -- the fault f where the walk stands at c, after messages of the kinds ks, with t left: 'the stream ends without a close', or the first check
 -- that refuses the message at the front of t
@@ -37,7 +37,7 @@ pub record RefusedAt (s : List ℕ) (f n b : ℕ) : Type 0 where
   pub ordered : InOrder (kindsIn pieces well)
   pub fault : FaultAt f (cursorAfter pieces well) (kindsIn pieces well) rest
 
--- where the walk stops with a refusal, it stands at the fault
+-- the walk stops at c with a refusal exactly where it stands at the fault
 module _ (c : Cursor) (ks : List Kind) where
   ended-refused : (closed : Bool) {f n b : ℕ} → endedAs closed c ≡ refused f n b → (c .number ≡ n) × (c .start ≡ b) × (f ≡ 13) × (closed ≡ false)
   ended-refused true e = absurd (refused-not-accepted (sym e))
@@ -52,11 +52,11 @@ module _ (c : Cursor) (ks : List Kind) where
       let same : f ≡ s .0 = cc in
       (cc, cc, rw same (s .1))
 
-  fault-stops : (rest : List ℕ) {f : ℕ} → (Lacks close ks → isClosed (c .phase) ≡ false) → FaultAt f c ks rest →
+  fault-stops : (rest : List ℕ) (f : ℕ) → (Lacks close ks → isClosed (c .phase) ≡ false) → FaultAt f c ks rest →
       verdict (walk rest 0 c) ≡ refused f (c .number) (c .start)
   unfolding ended
-  fault-stops [] l a = rw (walk-end, l (a .1), a .0)
-  fault-stops (x ∷ t) l a = ap verdict (walk-fault x t c (faulty-judge c (x ∷ t) a))
+  fault-stops [] f l a = rw (walk-end, l (a .1), a .0)
+  fault-stops (x ∷ t) f l a = ap verdict (walk-fault x t c (faulty-judge c (x ∷ t) a))
 
 -- a refused stream has that fault, and nothing before it has one
 pub refused-why : (s : List ℕ) (f n b : ℕ) → answer s ≡ refused f n b → RefusedAt s f n b
@@ -82,9 +82,8 @@ pub fault-refused : (s : List ℕ) (f n b : ℕ) → RefusedAt s f n b → answe
 fault-refused s f n b r =
     let ks = kindsIn (r .pieces) (r .well) in
     let c = cursorAfter (r .pieces) (r .well) in
-    let stop : verdict (walk (r .rest) 0 c) ≡ refused f (c .number) (c .start) =
-      fault-stops c ks (r .rest) (open-iff-lacks-close ks (r .ordered) .1) (r .fault) in
-    cc (answer-after (r .pieces) (r .well) (r .rest) (r .ordered) (r .few))
+    let stop = fault-stops c ks (r .rest) f (open-iff-lacks-close ks (r .ordered) .1) (r .fault) in
+    cc (stop, answer-after (r .pieces) (r .well) (r .rest) (r .ordered) (r .few))
 
 -- 'the first faulty message decides'
 pub refused-iff : (s : List ℕ) (f n b : ℕ) → (answer s ≡ refused f n b) ↔ RefusedAt s f n b

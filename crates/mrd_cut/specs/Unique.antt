@@ -1,6 +1,6 @@
 -- A stream has at most one cut. Nothing here speaks of the walk.
 -- Assumes nothing.
-use Prim.Native.Nat.{ℕ, _≤_}
+use Prim.Native.Nat.{ℕ}
 use native.Mathlib.Omega.{arith}
 use mathlib.Core.Path.{_≡_, refl, sym, ap, _∙_}
 use mathlib.Core.List.{List, [], _∷_, _++_, append-cancel-left}
@@ -11,7 +11,7 @@ use Rattle.mrd_stream.specs.Cut.{Every, joined, Cut}
 
 -- a well-formed message takes bytes
 pub not-empty : (m rest : List ℕ) → WellFormed m → m ++ rest ≡ [] → ⊥
-not-empty m rest w e = omega (arith, well-least m rest w, simp length-append at (ap length e))
+not-empty m rest w e = omega (arith, well-least m w, simp length-append at (ap length e))
 
 -- well-formed messages that join to the same bytes are the same
 pub joined-unique : (ms ns : List (List ℕ)) → Every WellFormed ms → Every WellFormed ns → joined ms ≡ joined ns → ms ≡ ns

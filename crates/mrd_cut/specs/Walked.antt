@@ -5,55 +5,57 @@ use Prim.Native.Nat.{ℕ, zero, suc, _+_, _≤_, _<_}
 use native.Mathlib.Nat.{add-zero, zero-add, le-refl, not-suc-le-zero}
 use native.Mathlib.Omega.{arith}
 use mathlib.Core.Path.{_≡_, refl, sym, ap, _∙_, subst}
-use mathlib.Core.Bool.{Bool, true, false}
+use mathlib.Core.Bool.{true}
 use mathlib.Core.List.{List, [], _∷_, _++_, append-assoc}
 use lib.ListN.{length, take, drop, length-append, length-drop, take-append-drop}
-use lib.Seq.{length-take-le, take-append-seam, drop-append-seam}
-use Rattle.mrd_format.specs.declared.kind.Kind.{Kind}
+use lib.Seq.{take-append-seam, drop-append-seam}
 use Rattle.mrd_format.specs.Kinds.{identified}
 use Rattle.mrd_format.specs.Message.{idAt, fixedPart, WellFormed}
 use Rattle.mrd_format.specs.MessageLaws.{size-least}
 use Rattle.mrd_stream.specs.declared.cursor.Cursor.{Cursor}
-use Rattle.mrd_stream.specs.Order.{allowed, nextPhase}
+use Rattle.mrd_stream.specs.Order.{allowed}
 use Rattle.mrd_stream.specs.Walk.{messageLimit, checksAs, Judged, faulty, whole, judge, Verdict, accepted, refused, ended, after, beginning, Trace, message, done, walk, trace, verdict, answer}
 use Rattle.mrd_stream.specs.WalkLaws.{walk-end, walk-fault, walk-next}
 use Rattle.mrd_stream.specs.Cut.{Every, joined, kindsIn, InOrder, FirstFault}
 use Rattle.mrd_cut.specs.Order.{phaseFrom, phaseAfter, AllowedFrom, in-order-iff}
 use Rattle.mrd_cut.specs.Unique.{not-empty}
-use Rattle.mrd_cut.specs.Judged.{WholeAt, judge-whole, judge-faulty, whole-judge, wellFormed, well-whole}
+use Rattle.mrd_cut.specs.Judged.{WholeAt, judge-whole, judge-faulty, wellFormed, well-judge}
 
 -- walking s from c meets r: the end, a fault, or a well-formed message and then the rest
 pub data Walks : Cursor → List ℕ → Trace → Type 0 where
   ends : {c : Cursor} → Walks c [] (done (ended c))
-  faults : {c : Cursor} {b : ℕ} {t : List ℕ} {f : ℕ} → judge c (b ∷ t) ≡ faulty f → Walks c (b ∷ t) (done (refused f (c .number) (c .start)))
-  meets : {c : Cursor} {m rest : List ℕ} {r : Trace} (w : WellFormed m) → allowed (w .kind) (c .phase) ≡ true → c .number < messageLimit → Walks (after c (w .kind) (length m)) rest r →
-    Walks c (m ++ rest) (message c (w .kind) m r)
+  faults : {c : Cursor} {b : ℕ} {t : List ℕ} {f : ℕ} → judge c (b ∷ t) ≡ faulty f →
+      Walks c (b ∷ t) (done (refused f (c .number) (c .start)))
+  meets : {c : Cursor} {m rest : List ℕ} {r : Trace} (w : WellFormed m) → allowed (w .kind) (c .phase) ≡ true →
+      c .number < messageLimit → Walks (after c (w .kind) (length m)) rest r → Walks c (m ++ rest) (message c (w .kind) m r)
 
 -- at a well-formed message that the order and the count allow, the walk meets it and goes on after it
 pub walk-well : (c : Cursor) (m rest : List ℕ) (w : WellFormed m) → allowed (w .kind) (c .phase) ≡ true → c .number < messageLimit →
     walk (m ++ rest) 0 c ≡ message c (w .kind) m (walk rest 0 (after c (w .kind) (length m)))
 walk-well c [] rest w a n = absurd (not-empty [] [] w refl)
 walk-well c (b ∷ m) rest w a n =
-    let here = whole-judge c (b ∷ m ++ rest) (well-whole c (b ∷ m) rest w a n) in
-    rw (walk-next b (m ++ rest) c here (omega arith), take-append-seam m rest, drop-append-seam m rest)
+    rw (walk-next b (m ++ rest) c (well-judge c (b ∷ m) rest w a n) (omega arith), take-append-seam m rest, drop-append-seam m rest)
 
--- every walk is one of these
+-- every walk is one of these; n bounds the bytes left
 walks-within : (n : ℕ) (s : List ℕ) (c : Cursor) → length s ≤ n → Walks c s (walk s 0 c)
 walks-within zero [] c h = rw walk-end ends
 walks-within (suc n) [] c h = rw walk-end ends
 walks-within zero (b ∷ t) c h = absurd (not-suc-le-zero h)
-walks-within (suc n) (b ∷ t) c h = go (λ s d l. walks-within n s d l) (judge c (b ∷ t)) refl
+walks-within (suc n) (b ∷ t) c h = by-judgement (λ s d l. walks-within n s d l) (judge c (b ∷ t)) refl
   where
-    go : ((s : List ℕ) (d : Cursor) → length s ≤ n → Walks d s (walk s 0 d)) → (j : Judged) → judge c (b ∷ t) ≡ j → Walks c (b ∷ t) (walk (b ∷ t) 0 c)
-    go ih (faulty f) e = rw (walk-fault b t c e) (faults e)
-    go ih (whole k z) e =
+    by-judgement : ((s : List ℕ) (d : Cursor) → length s ≤ n → Walks d s (walk s 0 d)) → (j : Judged) → judge c (b ∷ t) ≡ j →
+        Walks c (b ∷ t) (walk (b ∷ t) 0 c)
+    by-judgement shorter (faulty f) e = rw (walk-fault b t c e) (faults e)
+    by-judgement shorter (whole k z) e =
         let here : WholeAt c (b ∷ t) k z = judge-whole c (b ∷ t) e in
         let w : WellFormed (take z (b ∷ t)) = wellFormed c (b ∷ t) here in
         let less : length (drop z (b ∷ t)) ≤ n = simp length-drop (omega (arith, size-least k (fixedPart k (b ∷ t)))) in
-        let more = ih (drop z (b ∷ t)) (after c k (length (take z (b ∷ t)))) less in
-        subst (λ (s : List ℕ). Walks c s (walk s 0 c)) (take-append-drop z (b ∷ t))
-          (rw (walk-well c (take z (b ∷ t)) (drop z (b ∷ t)) w (here .ordered) (here .counted)) (meets w (here .ordered) (here .counted) more))
+        let later = shorter (drop z (b ∷ t)) (after c k (length (take z (b ∷ t)))) less in
+        let next = walk-well c (take z (b ∷ t)) (drop z (b ∷ t)) w (here .ordered) (here .counted) in
+        let met = rw (← next) at (meets w (here .ordered) (here .counted) later) in
+        subst (λ (s : List ℕ). Walks c s (walk s 0 c)) (take-append-drop z (b ∷ t)) met
 
+-- the walk of a stream
 pub walks : (s : List ℕ) → Walks beginning s (trace s)
 unfolding trace
 walks s = walks-within (length s) s beginning (le-refl (length s))
@@ -87,6 +89,7 @@ pub record Walked (c : Cursor) (s : List ℕ) (r : Trace) : Type 0 where
   pub counted : c .number ≤ messageLimit → c .number + length (piecesOf r) ≤ messageLimit
   pub stops : Stops (standing c (piecesOf r) well) rest (verdict r)
 
+-- after no message the walk stands where it stood; after one more, where the next message is due
 standing-none : (c : Cursor) → standing c [] tt ≡ c
 standing-none c = λ i. record { number = add-zero (c .number) i; start = add-zero (c .start) i; phase = c .phase }
 
@@ -97,20 +100,22 @@ standing-next c m ms w =
     let s : c .start + length m + length (joined ms) ≡ c .start + length (m ++ joined ms) = simp length-append (omega arith) in
     λ i. record { number = n i; start = s i; phase = phaseFrom (c .phase) (kindsIn (m ∷ ms) w) }
 
-pub walked : {c : Cursor} {s : List ℕ} {r : Trace} → Walks c s r → Walked c s r
-walked (ends {c}) =
-    record { well = tt; rest = []; whole = refl; ordered = tt; counted = λ h. omega arith; stops = ap ended (sym (standing-none c)) }
-walked (faults {c} {b} {t} {f} e) =
-    let v : Verdict = refused f (c .number) (c .start) in
-    let here : Stops c (b ∷ t) v = (f, judge-faulty c (b ∷ t) e, refl) in
+-- a walk that stops at once
+stopped : (c : Cursor) (t : List ℕ) (v : Verdict) → Stops c t v → Walked c t (done v)
+stopped c t v h =
     record {
       well = tt;
-      rest = b ∷ t;
+      rest = t;
       whole = refl;
       ordered = tt;
       counted = λ h. omega arith;
-      stops = subst (λ (d : Cursor). Stops d (b ∷ t) v) (sym (standing-none c)) here;
+      stops = subst (λ (d : Cursor). Stops d t v) (sym (standing-none c)) h;
     }
+
+-- this holds of every walk
+pub walked : {c : Cursor} {s : List ℕ} {r : Trace} → Walks c s r → Walked c s r
+walked (ends {c}) = stopped c [] (ended c) refl
+walked (faults {c} {b} {t} {f} e) = stopped c (b ∷ t) (refused f (c .number) (c .start)) (f, judge-faulty c (b ∷ t) e, refl)
 walked (meets {c} {m} {rest} {r} w a n v) =
     let later = walked v in
     let all : Every WellFormed (m ∷ piecesOf r) = (w, later .well) in
@@ -127,6 +132,7 @@ walked (meets {c} {m} {rest} {r} w a n v) =
 abbrev pub cursorAfter : (ms : List (List ℕ)) → Every WellFormed ms → Cursor
 cursorAfter ms w = record { number = length ms; start = length (joined ms); phase = phaseAfter (kindsIn ms w) }
 
+-- from the beginning on
 pub standing-beginning : (ms : List (List ℕ)) (w : Every WellFormed ms) → standing beginning ms w ≡ cursorAfter ms w
 standing-beginning ms w =
     λ i. record { number = zero-add (length ms) i; start = zero-add (length (joined ms)) i; phase = phaseAfter (kindsIn ms w) }
@@ -140,6 +146,7 @@ pub record Met (s : List ℕ) : Type 0 where
   pub few : length (piecesOf (trace s)) ≤ messageLimit
   pub stops : Stops (cursorAfter (piecesOf (trace s)) well) rest (answer s)
 
+-- this holds of every stream
 pub met : (s : List ℕ) → Met s
 unfolding answer
 met s =
@@ -160,7 +167,7 @@ pub walk-pieces : (ms : List (List ℕ)) (w : Every WellFormed ms) (c : Cursor) 
 walk-pieces [] w c rest a n = ap (λ (d : Cursor). verdict (walk rest 0 d)) (sym (standing-none c))
 walk-pieces (m ∷ ms) w c rest a n =
     rw (append-assoc, walk-well c m (joined ms ++ rest) (w .0) (a .0) (omega arith), ← standing-next c m ms w)
-      (walk-pieces ms (w .1) (after c (w .0 .kind) (length m)) rest (a .1) (omega arith))
+    (walk-pieces ms (w .1) (after c (w .0 .kind) (length m)) rest (a .1) (omega arith))
 
 -- the answer about well-formed messages in order, not too many, and what follows them: that of the walk from there on
 pub answer-after : (ms : List (List ℕ)) (w : Every WellFormed ms) (rest : List ℕ) → InOrder (kindsIn ms w) → length ms ≤ messageLimit →

@@ -2,16 +2,14 @@
 -- Hence no well-formed message is the beginning of another.
 -- Assumes nothing.
 use Prim.Native.Nat.{ℕ, _+_, _≤_}
-use native.Mathlib.Nat.{le-trans, le-add-right, le-of-eq}
 use native.Mathlib.Omega.{arith}
-use mathlib.Core.Path.{_≡_, refl, sym, ap, _∙_}
-use mathlib.Core.List.{List, [], _∷_, _++_}
+use mathlib.Core.Path.{_≡_, sym, ap, _∙_}
+use mathlib.Core.List.{List, _++_}
 use lib.ListN.{length, take, drop, length-drop, take-append-drop}
 use lib.Seq.{length-take-le, take-append-le, drop-append-le, take-append-seam}
 use Rattle.mrd_numbers.specs.Laws.{num-append}
 use Rattle.mrd_format.specs.declared.kind.Kind.{Kind}
-use Rattle.mrd_format.specs.declared.kind.Identified.{Identified}
-use Rattle.mrd_format.specs.declared.kind.Identified.the-variants.{Known, Unknown}
+use Rattle.mrd_format.specs.declared.kind.Identified.the-variants.{Known}
 use Rattle.mrd_format.specs.Kinds.{fixedSize, identified}
 use Rattle.mrd_format.specs.Message.{idAt, fixedPart, sizeOf, WellFormed}
 
@@ -43,18 +41,19 @@ module _ (k : Kind) (z : ℕ) (t : List ℕ) (least : 2 + fixedSize k ≤ z) (fi
   pub fixed-take : fixedPart k (take z t) ≡ fixedPart k t
   fixed-take = sym (fixed-append k (take z t) (drop z t) long) ∙ ap (fixedPart k) (take-append-drop z t)
 
--- the same message, with bytes after it
-module _ (m rest : List ℕ) (w : WellFormed m) where
-  pub well-least : 2 + fixedSize (w .kind) ≤ length m
-  well-least = omega (arith, size-least (w .kind) (fixedPart (w .kind) m), w .whole)
+-- a well-formed message holds its id and fixed part
+pub well-least : (m : List ℕ) (w : WellFormed m) → 2 + fixedSize (w .kind) ≤ length m
+well-least m w = omega (arith, size-least (w .kind) (fixedPart (w .kind) m))
 
+-- a well-formed message with bytes after it: its kind, its fixed part and its size
+module _ (m rest : List ℕ) (w : WellFormed m) where
   pub well-known : identified (idAt (m ++ rest)) ≡ Known (w .kind)
   well-known =
-      let h : 2 ≤ length m = omega (arith, well-least) in
+      let h : 2 ≤ length m = omega (arith, well-least m w) in
       rw id-append (w .known)
 
   pub well-fixed : fixedPart (w .kind) (m ++ rest) ≡ fixedPart (w .kind) m
-  well-fixed = fixed-append (w .kind) m rest well-least
+  well-fixed = fixed-append (w .kind) m rest (well-least m w)
 
   pub well-size : sizeOf (w .kind) (fixedPart (w .kind) (m ++ rest)) ≡ length m
   well-size = rw well-fixed (w .whole)

@@ -179,6 +179,7 @@ well-whole c m rest w a n =
       fits = simp length-append (omega arith);
     }
 
+-- so it is judged whole, with its kind and length
 pub well-judge : (c : Cursor) (m rest : List ℕ) (w : WellFormed m) → allowed (w .kind) (c .phase) ≡ true → c .number < messageLimit →
     judge c (m ++ rest) ≡ whole (w .kind) (length m)
 well-judge c m rest w a n = whole-judge c (m ++ rest) (well-whole c m rest w a n)

@@ -39,7 +39,8 @@ pub record RefusedAt (s : List ℕ) (f n b : ℕ) : Type 0 where
 
 -- the walk stops at c with a refusal exactly where it stands at the fault
 module _ (c : Cursor) (ks : List Kind) where
-  ended-refused : (closed : Bool) {f n b : ℕ} → endedAs closed c ≡ refused f n b → (c .number ≡ n) × (c .start ≡ b) × (f ≡ 13) × (closed ≡ false)
+  ended-refused : (closed : Bool) {f n b : ℕ} → endedAs closed c ≡ refused f n b →
+      (c .number ≡ n) × (c .start ≡ b) × (f ≡ 13) × (closed ≡ false)
   ended-refused true e = absurd (refused-not-accepted (sym e))
   ended-refused false e = (cc, cc, cc, refl)
 

@@ -41,6 +41,7 @@ module _ (k : Kind) (z : ℕ) (t : List ℕ) (least : 2 + fixedSize k ≤ z) (fi
   pub fixed-take : fixedPart k (take z t) ≡ fixedPart k t
   fixed-take = sym (fixed-append k (take z t) (drop z t) long) ∙ ap (fixedPart k) (take-append-drop z t)
 
+-- a well-formed message holds its id and fixed part
 pub well-least : (m : List ℕ) (w : WellFormed m) → 2 + fixedSize (w .kind) ≤ length m
 well-least m w = omega (arith, size-least (w .kind) (fixedPart (w .kind) m))
 

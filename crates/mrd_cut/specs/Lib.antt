@@ -1,0 +1,9 @@
+pub mod Order
+pub mod Unique
+pub mod Checks
+pub mod Judged
+pub mod Walked
+pub mod Accepted
+pub mod Refused
+pub mod Places
+pub mod Steps

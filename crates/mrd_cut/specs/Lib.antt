@@ -1,7 +1,5 @@
 pub mod Order
 pub mod Unique
-pub mod Checks
-pub mod Judged
 pub mod Walked
 pub mod Accepted
 pub mod Refused

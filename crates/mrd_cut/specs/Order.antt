@@ -13,6 +13,7 @@ use Rattle.mrd_format.specs.declared.kind.Kind.{Kind}
 use Rattle.mrd_format.specs.declared.kind.Kind.the-variants.{ConfigurationName, ConfigurationText, HeaderText, Close, Text, Acquisition, Image, Waveform}
 use Rattle.mrd_stream.specs.declared.cursor.Phase.{Phase}
 use Rattle.mrd_stream.specs.declared.cursor.Phase.the-variants.{Start, Configured, Headed, Closed}
+use Rattle.mrd_stream.specs.OrderLaws.{allowed-open}
 use Rattle.mrd_stream.specs.Order.{isStart, isBeforeHeader, isHeaded, isOpen, isClosed, allowed, nextPhase}
 use Rattle.mrd_stream.specs.Cut.{Role, configuration, header, measured, text, close, roleOf, Lacks, May, InOrder, EndsInClose}
 
@@ -191,24 +192,6 @@ phase-after-means ks o = phase-means Start [] ks (tt, tt, tt, tt) (in-order-iff 
 pub allowed-iff-in-order : (ks : List Kind) (k : Kind) → InOrder ks →
     (allowed k (phaseAfter ks) ≡ true) ↔ (Lacks close ks × May (roleOf k) ks)
 allowed-iff-in-order ks k o = allowed-iff-follows ks k (phaseAfter ks) (phase-after-means ks o)
-
--- nothing is allowed after a close
-closed-allows-none : (k : Kind) → allowed k Closed ≡ false
-closed-allows-none ConfigurationName = refl
-closed-allows-none ConfigurationText = refl
-closed-allows-none HeaderText = refl
-closed-allows-none Close = refl
-closed-allows-none Text = refl
-closed-allows-none Acquisition = refl
-closed-allows-none Image = refl
-closed-allows-none Waveform = refl
-
--- a phase that allows anything is not the close's
-pub allowed-open : (k : Kind) (p : Phase) → allowed k p ≡ true → isClosed p ≡ false
-allowed-open k Start a = refl
-allowed-open k Configured a = refl
-allowed-open k Headed a = refl
-allowed-open k Closed a = sym a ∙ closed-allows-none k
 
 -- only a close leads to the close's phase
 only-close-closes : (k : Kind) (p : Phase) → isClosed p ≡ false → isClosed (nextPhase k p) ≡ true → k ≡ Close

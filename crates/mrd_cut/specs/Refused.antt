@@ -14,9 +14,11 @@ use Rattle.mrd_stream.specs.declared.cursor.Cursor.{Cursor}
 use Rattle.mrd_stream.specs.Order.{isClosed}
 use Rattle.mrd_stream.specs.Walk.{messageLimit, checksAs, refused, endedAs, ended, trace, walk, verdict, answer}
 use Rattle.mrd_stream.specs.WalkLaws.{walk-end, walk-fault}
-use Rattle.mrd_stream.specs.Cut.{Every, joined, kindsIn, close, Lacks, InOrder, FirstFault}
+use Rattle.mrd_format.specs.Every.{Every}
+use Rattle.mrd_format.specs.Checks.{FirstFault}
+use Rattle.mrd_stream.specs.Cut.{joined, kindsIn, close, Lacks, InOrder}
 use Rattle.mrd_cut.specs.Order.{open-iff-lacks-close}
-use Rattle.mrd_cut.specs.Judged.{faulty-judge}
+use Rattle.mrd_stream.specs.Judged.{faulty-judge}
 use Rattle.mrd_cut.specs.Walked.{refused-not-accepted, Stops, met, piecesOf, cursorAfter, answer-after}
 
 -- the fault f where the walk stands at c, after messages of the kinds ks, with t left: 'the stream ends without a close', or the first check

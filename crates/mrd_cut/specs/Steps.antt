@@ -12,7 +12,7 @@ use Rattle.mrd_stream.specs.Order.{allowed}
 use Rattle.mrd_stream.specs.Walk.{messageLimit, after, beginning, Trace, message, done, trace}
 use Rattle.mrd_stream.specs.Places.{located, handed, over, stepAt, step}
 use Rattle.mrd_cut.specs.Unique.{not-empty}
-use Rattle.mrd_cut.specs.Judged.{well-judge}
+use Rattle.mrd_stream.specs.Judged.{well-judge}
 use Rattle.mrd_cut.specs.Walked.{Walks, ends, faults, meets, walks}
 
 -- the steps from c on hand out what the trace holds: each message's place and kind, with the cursor of what follows, and last the answer

@@ -1,8 +1,10 @@
 -- 'Order of checks': a list of checks in order, each with the number it refuses with. The first that refuses decides.
 -- Assumes nothing.
 use Prim.Native.Nat.{ℕ}
+use mathlib.Core.Path.{_≡_}
 use mathlib.Core.Bool.{Bool, true, false}
-use mathlib.Core.List.{List, [], _∷_}
+use mathlib.Core.List.{List, [], _∷_, _++_}
+use Rattle.mrd_format.specs.Every.{Every}
 
 infix 20 _when_
 -- a number of refusal, and whether it is given
@@ -14,3 +16,14 @@ abbrev pub first : List Check → ℕ
 first [] = 0
 first ((n when true) ∷ cs) = n
 first ((n when false) ∷ cs) = first cs
+
+-- a check that does not refuse
+abbrev pub Passed : Check → Type 0
+Passed (n when b) = b ≡ false
+
+-- f is the number of a check that refuses, and every earlier check passed
+pub record FirstFault (f : ℕ) (cs : List Check) : Type 0 where
+  pub earlier : List Check
+  pub later : List Check
+  pub all : cs ≡ earlier ++ ((f when true) ∷ later)
+  pub passed : Every Passed earlier

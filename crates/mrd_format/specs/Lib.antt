@@ -1,3 +1,4 @@
+pub mod Every
 pub mod Kinds
 pub mod Elements
 pub mod Checks
@@ -6,6 +7,7 @@ pub mod Image
 pub mod Waveform
 pub mod Message
 pub mod CheckLaws
+pub mod MessageLaws
 pub mod MaskLaws
 pub mod Sizes
 pub mod SizeLaws
@@ -13,4 +15,3 @@ pub mod Shapes
 pub mod Content
 pub mod Flags
 pub mod Counters
-pub mod MessageLaws

@@ -4,16 +4,10 @@
 use Prim.Native.Nat.{ℕ}
 use mathlib.Core.Path.{_≡_}
 use mathlib.Core.List.{List, [], _∷_, _++_}
-use mathlib.Core.Bool.{true, false}
 use Rattle.mrd_format.specs.declared.kind.Kind.{Kind}
 use Rattle.mrd_format.specs.declared.kind.Kind.the-variants.{ConfigurationName, ConfigurationText, HeaderText, Close, Text, Acquisition, Image, Waveform}
+use Rattle.mrd_format.specs.Every.{Every}
 use Rattle.mrd_format.specs.Message.{WellFormed}
-use Rattle.mrd_format.specs.Checks.{Check, _when_}
-
--- P holds of each element
-abbrev pub Every {ℓ} : {A : Type ℓ} → (A → Type 0) → List A → Type 0
-Every P [] = Unit {0}
-Every P (x ∷ xs) = P x × Every P xs
 
 -- pieces, one after the other
 abbrev pub joined : List (List ℕ) → List ℕ
@@ -66,14 +60,3 @@ InOrder ks =
 -- 'the close is last'
 abbrev pub EndsInClose : List Kind → Type 0
 EndsInClose ks = (before : List Kind) × (ks ≡ before ++ (Close ∷ []))
-
--- a check that does not refuse
-abbrev pub Passed : Check → Type 0
-Passed (n when b) = b ≡ false
-
--- f is the number of a check that refuses, and every earlier check passed
-pub record FirstFault (f : ℕ) (cs : List Check) : Type 0 where
-  pub earlier : List Check
-  pub later : List Check
-  pub all : cs ≡ earlier ++ ((f when true) ∷ later)
-  pub passed : Every Passed earlier

@@ -14,7 +14,7 @@ use Rattle.mrd_format.specs.declared.kind.Kind.{Kind}
 use Rattle.mrd_format.specs.declared.kind.Identified.the-variants.{Known, Unknown}
 use Rattle.mrd_format.specs.Kinds.{fixedSize, identified}
 use Rattle.mrd_format.specs.Checks.{Check, _when_, first}
-use Rattle.mrd_format.specs.CheckLaws.{first-pass, first-fault, own-numbered}
+use Rattle.mrd_format.specs.CheckLaws.{first-skip, first-passed, first-stops, own-numbered}
 use Rattle.mrd_format.specs.Message.{limit, idAt, fixedPart, ownChecks, sizeOf, numbersOf}
 use Rattle.mrd_format.specs.MessageLaws.{size-least, fixed-take}
 use Rattle.mrd_format.specs.Sizes.{capped}
@@ -75,7 +75,7 @@ pub record Fixed (k : Kind) (c : Cursor) (t h : List ℕ) : Type 0 where
 module _ (k : Kind) (c : Cursor) (t : List ℕ) where
   -- where the early checks passed the late ones decide
   known : (f : ℕ) → Early c t → first (lateChecks k (c .phase) t) ≡ f →
-    judgeAs (Known k) c t ≡ unless f k (sizeOf k (fixedPart k t))
+      judgeAs (Known k) c t ≡ unless f k (sizeOf k (fixedPart k t))
   unfolding judgeAs checksAs
   known f e q = ap (λ (f : ℕ). unless f k (sizeOf k (fixedPart k t))) (early c t (lateChecks k (c .phase) t) e ∙ q)
 
@@ -96,7 +96,7 @@ handedOut c k h z =
 
 -- what is handed out by the fixed part is what the bytes of the message give
 handed-out : (k : Kind) (c : Cursor) (t : List ℕ) (z : ℕ) → 2 + fixedSize k ≤ z → z ≤ length t →
-  handedOut c k (fixedPart k t) z ≡ handed (located c k (take z t)) (after c k z)
+    handedOut c k (fixedPart k t) z ≡ handed (located c k (take z t)) (after c k z)
 handed-out k c t z least fits = rw (fixed-take k z t least fits, length-take-le z t fits)
 
 module _ (k : Kind) (c : Cursor) (t h : List ℕ) (x : Fixed k c t h) where
@@ -113,7 +113,7 @@ module _ (k : Kind) (c : Cursor) (t h : List ℕ) (x : Fixed k c t h) where
   judge-own (suc f) q n =
       known k c t (suc f) (x .early)
       (simp (x .ordered, le-ltb _ _ (x .fits))
-      (first-fault (ownChecks k (fixedPart k t)) (sizeChecks k t) (rw (x .part) at q)))
+      (first-stops (ownChecks k (fixedPart k t)) (sizeChecks k t) (rw (x .part) at q)))
 
   module _ (own : first (ownChecks k h) ≡ 0) where
     -- checks 10 and 11 decide
@@ -121,7 +121,8 @@ module _ (k : Kind) (c : Cursor) (t h : List ℕ) (x : Fixed k c t h) where
     unfolding lateChecks
     last =
         simp (x .ordered, le-ltb _ _ (x .fits))
-        (first-pass (ownChecks k (fixedPart k t)) (sizeChecks k t) (own-numbered k (fixedPart k t)) (rw (x .part) at own))
+        (first-skip (ownChecks k (fixedPart k t)) (sizeChecks k t)
+        (first-passed (ownChecks k (fixedPart k t)) (own-numbered k (fixedPart k t)) (rw (x .part) at own)))
 
     module _ (z : ℕ) (size : z ≡ capped (sizeOf k h)) where
       -- over the limit

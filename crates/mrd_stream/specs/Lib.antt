@@ -5,7 +5,11 @@ pub mod Records
 pub mod Cut
 pub mod Normal
 pub mod Index
+pub mod OrderLaws
+pub mod Judged
 pub mod JudgeLaws
 pub mod WalkLaws
+pub mod StepLaws
+pub mod Seek
 pub mod Told
 pub mod Examples

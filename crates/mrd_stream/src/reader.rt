@@ -2,6 +2,7 @@
 ghost use mathlib.Core.Path.{_≡_};
 ghost use Rattle.mrd_stream.specs.Walk.{answer};
 ghost use Rattle.mrd_stream.specs.Places.{place, step};
+ghost use Rattle.mrd_stream.specs.Seek.{concluded};
 ghost use Rattle.mrd_stream.specs.Told.{toldChecked, toldPlaced, toldStep};
 use crate::answer::Checked;
 use crate::answer::Placed;
@@ -69,7 +70,9 @@ pub fn place(s: &[u8], n: usize) -> Placed
 }
 
 // What was found, unless the stream is refused.
-fn concluded(found: Placed, answer: Checked) -> Placed {
+fn concluded(found: Placed, answer: Checked) -> Placed
+    ensures { λ r. ⌜ toldPlaced r ≡ concluded (toldPlaced found) (toldChecked answer) ⌝ }
+{
     match answer {
         Checked::Accepted(_) => found,
         Checked::Refused(refusal) => Placed::Stream(refusal),

@@ -50,14 +50,15 @@ fixed-part-requires c κs = omega (arith, c .before .fixed-size .ensures, c .bef
 
 -- src/judge.rt:62:5
 judge-fixed-requires : tie.Need-judge-fixed-requires
-judge-fixed-requires c κs = let p = c .before .before .before .before .before .before .pre in
-    (record {
-      early = p .0;
-      ordered = sym (c .before .before .before .before .allows .ensures) ∙ not-false _ (c .before .before .before .if1 .left);
-      fits = omega (arith, c .before .before .fixed-size .ensures, p .0 .two);
-      part = c .fixed-part .ensures
-    },
-    p .1)
+judge-fixed-requires c κs = let p = c .before .before .before .before .before .before .pre in (
+  record {
+    early = p .0;
+    ordered = sym (c .before .before .before .before .allows .ensures) ∙ not-false _ (c .before .before .before .if1 .left);
+    fits = omega (arith, c .before .before .fixed-size .ensures, p .0 .two);
+    part = c .fixed-part .ensures;
+  },
+  p .1,
+)
 
 -- src/judge.rt:50:1
 returns-3 : tie.Need-returns-3

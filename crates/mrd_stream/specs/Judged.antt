@@ -11,34 +11,18 @@ use lib.Seq.{length-take-le}
 use lib.Dec.{ltb, eqb}
 use borrow.Author.Tests.{leb-false, ltb-false, not-false, lt-leb, le-ltb, ne-eqb}
 use Rattle.mrd_format.specs.declared.kind.Kind.{Kind}
-use Rattle.mrd_format.specs.declared.kind.Kind.the-variants.{ConfigurationName, ConfigurationText, HeaderText, Close, Text, Acquisition, Image, Waveform}
 use Rattle.mrd_format.specs.declared.kind.Identified.{Identified}
 use Rattle.mrd_format.specs.declared.kind.Identified.the-variants.{Known, Unknown}
 use Rattle.mrd_format.specs.Kinds.{fixedSize, identified}
-use Rattle.mrd_format.specs.Checks.{Check, _when_, first}
+use Rattle.mrd_format.specs.Checks.{Check, _when_, first, Passed, FirstFault}
 use Rattle.mrd_format.specs.Message.{limit, idAt, fixedPart, ownChecks, sizeOf, WellFormed}
 use Rattle.mrd_format.specs.MessageLaws.{size-least, id-take, fixed-take, well-known, well-fixed, well-size}
-use Rattle.mrd_format.specs.Acquisition as acquisition
-use Rattle.mrd_format.specs.Image as image
-use Rattle.mrd_format.specs.Waveform as waveform
 use Rattle.mrd_stream.specs.declared.cursor.Cursor.{Cursor}
 use Rattle.mrd_stream.specs.Order.{allowed}
-use Rattle.mrd_stream.specs.Walk.{messageLimit, earlyChecks, lateChecks, checksAs, faulty, whole, unless, judgeAs, judge}
-use Rattle.mrd_stream.specs.Cut.{Every, Passed, FirstFault}
-use Rattle.mrd_cut.specs.Order.{allowed-open}
-use Rattle.mrd_cut.specs.Checks.{numbered, first-passed, passed-first, first-fault, fault-first, numbered-append, every-split, every-append, fault-not-zero}
-
--- no check of a message has the number 0
-own-numbered : (k : Kind) (h : List ℕ) → numbered (ownChecks k h) ≡ true
-unfolding ownChecks acquisition.checks image.checks waveform.checks
-own-numbered ConfigurationName h = refl
-own-numbered ConfigurationText h = refl
-own-numbered HeaderText h = refl
-own-numbered Close h = refl
-own-numbered Text h = refl
-own-numbered Acquisition h = refl
-own-numbered Image h = refl
-own-numbered Waveform h = refl
+use Rattle.mrd_stream.specs.Walk.{messageLimit, earlyChecks, sizeChecks, lateChecks, checksAs, faulty, whole, unless, judgeAs, judge}
+use Rattle.mrd_format.specs.Every.{Every}
+use Rattle.mrd_stream.specs.OrderLaws.{allowed-open}
+use Rattle.mrd_format.specs.CheckLaws.{own-numbered, numbered, first-passed, passed-first, first-fault, fault-first, numbered-append, every-split, every-append, fault-not-zero}
 
 -- the message at the front of t, of kind k and size z, passes every check where the walk stands at c
 pub record WholeAt (c : Cursor) (t : List ℕ) (k : Kind) (z : ℕ) : Type 0 where
@@ -49,11 +33,6 @@ pub record WholeAt (c : Cursor) (t : List ℕ) (k : Kind) (z : ℕ) : Type 0 whe
   pub size : sizeOf k (fixedPart k t) ≡ z
   pub small : z ≤ limit
   pub fits : z ≤ length t
-
--- checks 10 and 11, the last
-abbrev sizeChecks : Kind → List ℕ → List Check
-sizeChecks k t =
-    (10 when ltb limit (sizeOf k (fixedPart k t))) ∷ (11 when ltb (length t) (sizeOf k (fixedPart k t))) ∷ []
 
 -- every check of a message of kind k passed exactly when the facts of WholeAt hold
 module _ (c : Cursor) (t : List ℕ) (k : Kind) where

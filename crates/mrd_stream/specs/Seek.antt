@@ -1,0 +1,84 @@
+-- A record's place found in one walk: what is held on the way, and that it is the place asked for.
+-- Assumes nothing.
+use Prim.Native.Nat.{ℕ, zero, suc, pred, _+_, _<_}
+use native.Mathlib.Numerals.{add-one}
+use native.Mathlib.Omega.{arith}
+use mathlib.Core.Path.{_≡_, refl, sym, _∙_, subst}
+use mathlib.Core.Bool.{Bool, true, false}
+use mathlib.Core.List.{List, [], _∷_}
+use borrow.Author.Tests.{eq-eqb, ne-eqb}
+use lib.Dec.{eqb}
+use Rattle.mrd_format.specs.declared.kind.Kind.{Kind}
+use Rattle.mrd_stream.specs.declared.cursor.Cursor.{Cursor}
+use Rattle.mrd_stream.specs.Walk.{Verdict, accepted, refused, Judged, faulty, whole, judge, after, beginning, Trace, message, done, walk, trace, verdict, answer}
+use Rattle.mrd_stream.specs.Places.{Located, located, Answer, found, stream, number, places, nth, placeBy, place}
+
+-- what was found, unless the stream is refused
+abbrev pub concluded : Answer → Verdict → Answer
+concluded a (accepted n) = a
+concluded a (refused f r b) = stream f r b
+
+abbrev pub heldBy : Bool → Answer → Answer → Answer
+heldBy true new old = new
+heldBy false new old = old
+
+-- the place of record n in what is left of a trace, where `held` was found so far
+abbrev pub seek : ℕ → Answer → Trace → Answer
+seek n held (message c k m r) = seek n (heldBy (eqb (c .number) n) (found (located c k m)) held) r
+seek n held (done v) = concluded held v
+
+-- at record n its place is held
+pub seek-here : (n : ℕ) (held : Answer) (c : Cursor) (k : Kind) (m : List ℕ) (r : Trace) {l : Located} → c .number ≡ n → l ≡ located c k m →
+    seek n held (message c k m r) ≡ seek n (found l) r
+seek-here n held c k m r e q = rw (eq-eqb (c .number) n e, q)
+
+-- at any other record what was held stays
+pub seek-other : (n : ℕ) (held : Answer) (c : Cursor) (k : Kind) (m : List ℕ) (r : Trace) → (c .number ≡ n → ⊥) →
+    seek n held (message c k m r) ≡ seek n held r
+seek-other n held c k m r e = rw (ne-eqb (c .number) n e)
+
+-- the messages of a trace are numbered from i on
+abbrev pub Numbered : ℕ → Trace → Type 0
+Numbered i (message c k m r) = (c .number ≡ i) × Numbered (suc i) r
+Numbered i (done v) = Unit {0}
+
+-- past its number, a record is not found again
+seek-past : (n i : ℕ) (held : Answer) (r : Trace) → Numbered i r → n < i → seek n held r ≡ concluded held (verdict r)
+seek-past n i held (done v) u h = refl
+seek-past n i held (message c k m r) u h =
+    rw (ne-eqb (c .number) n (λ e. omega (arith, u .0))) (seek-past n (suc i) held r (u .1) (omega arith))
+
+concluded-nth : (v : Verdict) (ls : List Located) (n : ℕ) → concluded (nth ls n) v ≡ placeBy v ls n
+concluded-nth (accepted k) ls n = refl
+concluded-nth (refused f r b) ls n = refl
+
+seek-ahead : (d i : ℕ) (r : Trace) → Numbered i r → seek (i + d) (number 16) r ≡ placeBy (verdict r) (places r) d
+seek-ahead d i (done v) u = concluded-nth v [] d
+seek-ahead zero i (message c k m r) u =
+    let here : c .number ≡ i + 0 = omega (arith, u .0) in
+    rw (eq-eqb (c .number) (i + 0) here) (seek-past (i + 0) (suc i) (found (located c k m)) r (u .1) (omega arith) ∙ concluded-nth (verdict r) (located c k m ∷ places r) 0)
+seek-ahead (suc d) i (message c k m r) u =
+    let next : i + suc d ≡ suc i + d = omega arith in
+    rw (ne-eqb (c .number) (i + suc d) (λ e. omega (arith, u .0)), next) (seek-ahead d (suc i) r (u .1) ∙
+    sym (concluded-nth (verdict r) (places r) d) ∙
+    concluded-nth (verdict r) (located c k m ∷ places r) (suc d))
+
+-- the messages that a walk meets are numbered from its cursor's number on
+pub walk-numbered : (t : List ℕ) (k : ℕ) (c : Cursor) → Numbered (c .number) (walk t k c)
+unfolding walk
+walk-numbered [] k c = tt
+walk-numbered (b ∷ t) (suc k) c = walk-numbered t k c
+walk-numbered (b ∷ t) zero c = judged (λ k z. walk-numbered t (pred z) (after c k z)) (judge c (b ∷ t)) refl
+  where
+    judged : ((k : Kind) (z : ℕ) → Numbered (c .number + 1) (walk t (pred z) (after c k z))) → (j : Judged) → judge c (b ∷ t) ≡ j →
+        Numbered (c .number) (walk (b ∷ t) 0 c)
+    judged ih (faulty f) e = rw (e, walk) tt
+    judged ih (whole k z) e =
+        rw (e, walk) (refl, subst (λ (n : ℕ). Numbered n (walk t (pred z) (after c k z))) (add-one (c .number)) (ih k z))
+
+-- seeking record n from the beginning finds its place
+pub seek-place : (s : List ℕ) (n : ℕ) → seek n (number 16) (trace s) ≡ place s n
+unfolding place answer trace
+seek-place s n =
+    let same : 0 + n ≡ n = omega arith in
+    rw same at (seek-ahead n 0 (walk s 0 beginning) (walk-numbered s 0 beginning))

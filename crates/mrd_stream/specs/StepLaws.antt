@@ -1,0 +1,97 @@
+-- What a step tells of the walk: it hands out the next message of the trace and goes past it, or it gives the answer that ends the trace.
+-- Assumes nothing.
+use Prim.Native.Nat.{ℕ, _+_, _-_, _≤_, _<_}
+use native.Mathlib.Omega.{arith}
+use mathlib.Core.Path.{_≡_, refl, sym, ap, _∙_}
+use mathlib.Core.List.{List, [], _∷_}
+use lib.ListN.{length, take, drop, length-drop}
+use lib.Seq.{drop-drop}
+use Rattle.mrd_format.specs.declared.kind.Kind.{Kind}
+use Rattle.mrd_format.specs.Message.{fixedPart}
+use Rattle.mrd_format.specs.MessageLaws.{size-least}
+use Rattle.mrd_stream.specs.declared.cursor.Cursor.{Cursor}
+use Rattle.mrd_stream.specs.Walk.{Judged, faulty, whole, judge, after, Verdict, Trace, message, done, beginning, walk, trace}
+use Rattle.mrd_stream.specs.WalkLaws.{walk-end, walk-fault, walk-next}
+use Rattle.mrd_stream.specs.Judged.{WholeAt, judge-whole}
+use Rattle.mrd_stream.specs.Places.{Located, located, Stepped, handed, over, stepBy, stepAt, step}
+
+-- the trace from a cursor on
+abbrev pub from : Cursor → List ℕ → Trace
+from c s = walk (drop (c .start) s) 0 c
+
+-- a step from c over s that hands out l goes to d: it passes one message of the trace
+pub record Passes (c : Cursor) (s : List ℕ) (l : Located) (d : Cursor) : Type 0 where
+  pub kind : Kind
+  pub bytes : List ℕ
+  pub trace : from c s ≡ message c kind bytes (from d s)
+  pub place : l ≡ located c kind bytes
+  pub ahead : c .start < d .start
+  pub within : d .start ≤ length s
+  pub counted : d .number ≡ c .number + 1
+
+-- a step hands out a message or ends the walk, and not both
+not-both : {l : Located} {d : Cursor} {v : Verdict} → over v ≡ handed l d → ⊥
+not-both e = let z : _≡_ {A = ℕ} 0 1 = cc in omega arith
+
+pub step-over : (c : Cursor) (s : List ℕ) {v : Verdict} → step c s ≡ over v → from c s ≡ done v
+unfolding step stepAt
+step-over c s {v} e = at (drop (c .start) s) e
+  where
+    judged : (b : ℕ) (t : List ℕ) (j : Judged) → judge c (b ∷ t) ≡ j → stepBy j c (b ∷ t) ≡ over v → walk (b ∷ t) 0 c ≡ done v
+    judged b t (faulty f) q e = walk-fault b t c q ∙ ap done (cc)
+    judged b t (whole k z) q e = absurd (not-both (sym e))
+
+    at : (t : List ℕ) → stepAt c t ≡ over v → walk t 0 c ≡ done v
+    at [] e = walk-end c ∙ ap done (cc)
+    at (b ∷ t) e = judged b t (judge c (b ∷ t)) refl e
+
+pub step-handed : (c : Cursor) (s : List ℕ) {l : Located} {d : Cursor} → step c s ≡ handed l d → Passes c s l d
+unfolding step stepAt
+step-handed c s {l} {d} e = at (drop (c .start) s) refl e
+  where
+    judged : (b : ℕ) (t : List ℕ) → drop (c .start) s ≡ b ∷ t → (j : Judged) → judge c (b ∷ t) ≡ j → stepBy j c (b ∷ t) ≡ handed l d →
+        Passes c s l d
+    judged b t here (faulty f) q e = absurd (not-both e)
+    judged b t here (whole k z) q e =
+        let w : WholeAt c (b ∷ t) k z = judge-whole c (b ∷ t) q in
+        let least = size-least k (fixedPart k (b ∷ t)) in
+        let some : 0 < z = omega (arith, least, w .size) in
+        let room : length s ≡ length (b ∷ t) + c .start = omega (arith, length-drop (c .start) s, ap length here) in
+        let next : d ≡ after c k z = cc in
+        let rest : drop z (b ∷ t) ≡ drop (c .start + z) s = rw (← here) (drop-drop z (c .start) s) in
+        record {
+          kind = k;
+          bytes = take z (b ∷ t);
+          trace = rw (here, next, walk-next b t c q some, rest);
+          place = cc;
+          ahead = rw next (omega arith);
+          within = rw next (omega (arith, w .fits));
+          counted = rw next;
+        }
+
+    at : (t : List ℕ) → drop (c .start) s ≡ t → stepAt c t ≡ handed l d → Passes c s l d
+    at [] here e = absurd (not-both e)
+    at (b ∷ t) here e = judged b t here (judge c (b ∷ t)) refl e
+
+-- a walk over s that stands at c, and of whose trace f is to be found: f of what is left is the answer wanted
+pub record On {A : Type 0} (f : Trace → A) (wanted : A) (c : Cursor) (s : List ℕ) : Type 0 where
+  pub within : c .start ≤ length s
+  pub kept : f (from c s) ≡ wanted
+
+module _ {A : Type 0} (f : Trace → A) (s : List ℕ) where
+  pub on-start : On f (f (trace s)) beginning s
+  unfolding trace
+  on-start = record { within = omega arith; kept = refl }
+
+  -- past a message, where what f finds from there on is what g finds in the rest
+  pub on-next : {wanted : A} {c d : Cursor} {l : Located} (g : Trace → A) → On f wanted c s → (p : Passes c s l d) →
+      ((r : Trace) → f (message c (p .kind) (p .bytes) r) ≡ g r) → On g wanted d s
+  on-next {d = d} g o p e = record { within = p .within; kept = sym (e (from d s)) ∙ sym (ap f (p .trace)) ∙ o .kept }
+
+  -- at the end
+  pub on-end : {wanted : A} {c : Cursor} {v : Verdict} → On f wanted c s → step c s ≡ over v → f (done v) ≡ wanted
+  on-end {wanted} {c} o e = sym (ap f (step-over c s e)) ∙ o .kept
+
+-- a step goes forward
+pub on-less : {c d : Cursor} {l : Located} (s : List ℕ) → Passes c s l d → length s - d .start < length s - c .start
+on-less s p = omega (arith, p .ahead, p .within)

@@ -32,6 +32,10 @@ meant-letter (starts i32) = refl
 meant-letter (starts f32) = refl
 meant-letter none = refl
 
+-- a letter stands for one start only
+start-by-letter : (s t : Start) → letterOf s ≡ letterOf t → s ≡ t
+start-by-letter s t e = sym (meant-letter s) ∙ ap meant e ∙ meant-letter t
+
 nowhere : (e : ElementType) → none ≡ starts e → ⊥
 nowhere e found =
     let z : _≡_ {A = ℕ} 0 1 = cc in
@@ -53,17 +57,16 @@ pub record Found (k : Kind) (h : List ℕ) (at : ℕ) (e : ElementType) : Type 0
   pub inside : at + width e ≤ length h
   pub value : fieldOf k h at ≡ valueOf e (num (width e) h at)
 
-pub found-by-letter : (k : Kind) (h : List ℕ) (at n : ℕ) (e : ElementType) → length h ≡ fixedSize k → n ≡ letterOf (startOf k at) → meant n ≡ starts e → Found k h at e
+pub found-by-letter : (k : Kind) (h : List ℕ) (at : ℕ) (e : ElementType) → length h ≡ fixedSize k → letterOf (startOf k at) ≡ letterOf (starts e) → Found k h at e
 unfolding fieldOf
-found-by-letter k h at n e whole letter means =
-    let start : startOf k at ≡ starts e = sym (meant-letter (startOf k at)) ∙ ap meant (sym letter) ∙ means in
+found-by-letter k h at e whole letter =
+    let start : startOf k at ≡ starts e = start-by-letter (startOf k at) (starts e) letter in
     record { inside = omega (arith, header-inside k at e start); value = ap (λ (s : Start). answered s h at) start }
 
 -- no element starts at the offset
-pub absent-by-letter : (k : Kind) (h : List ℕ) (at n : ℕ) → n ≡ letterOf (startOf k at) → meant n ≡ none → fieldOf k h at ≡ number 20
+pub absent-by-letter : (k : Kind) (h : List ℕ) (at : ℕ) → meant (letterOf (startOf k at)) ≡ none → fieldOf k h at ≡ number 20
 unfolding fieldOf
-absent-by-letter k h at n letter means =
-    ap (λ (s : Start). answered s h at) (sym (meant-letter (startOf k at)) ∙ ap meant (sym letter) ∙ means)
+absent-by-letter k h at means = ap (λ (s : Start). answered s h at) (sym (meant-letter (startOf k at)) ∙ means)
 
 -- 'physiology stamps 22, three u32': each is an element of its own, and inside them none starts. An image's 8-byte length at 198 is no header
 -- element

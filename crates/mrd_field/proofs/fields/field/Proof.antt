@@ -1,14 +1,14 @@
 -- `mrd_field::fields::field` meets its contract: the letter tells the element's type, so its bytes lie in the fixed part and each arm reads them as
 -- that type. Past the five letters no element starts there.
 -- Assumes nothing.
-use Prim.Native.Nat.{ℕ}
-use mathlib.Core.Path.{_≡_, refl, sym, ap, _∙_}
+use mathlib.Core.Path.{_≡_, sym, ap, _∙_}
 use borrow.Author.Tests.{ne-eqb}
 use mir.Syntax.{w32}
 use mir.ValLaws.{toZ-ofZ}
 use Rattle.mrd_format.specs.Elements.{ElementType, u16, u32, u64, i32, f32}
 use Rattle.mrd_format.specs.Counters as counters
 use Rattle.mrd_field.specs.Field.{starts, none, whole, signed, float}
+use Rattle.mrd_field.specs.Letters.{letterOf}
 use Rattle.mrd_field.specs.FieldLaws.{meant, Found, found-by-letter, absent-by-letter}
 use borrow.Author.Needs.{needs}
 use Rattle.mrd_field.proofs.fields.field.Statement.{statement}
@@ -18,23 +18,23 @@ use Rattle.mrd_field.proofs.fields.field.Tie as tie
 abbrev FoundIn : tie.After-letter → ElementType → Type 0
 FoundIn c e = Found (c .before .before .args .kind) (c .before .before .args .h .now) (c .before .before .args .offset) e
 
-found : (c : tie.After-letter) (n : ℕ) (e : ElementType) → c .letter .result ≡ n → meant n ≡ starts e → FoundIn c e
-found c n e key means = found-by-letter _ _ _ n e (c .before .before .pre) (sym key ∙ c .letter .ensures) means
+found : (c : tie.After-letter) (e : ElementType) → c .letter .result ≡ letterOf (starts e) → FoundIn c e
+found c e key = found-by-letter _ _ _ e (c .before .before .pre) (sym (c .letter .ensures) ∙ key)
 
 at-u16 : (c : tie.At-match-keys1) → FoundIn (c .before) u16
-at-u16 c = found (c .before) 72 u16 (c .match .keys1) refl
+at-u16 c = found (c .before) u16 (c .match .keys1)
 
 at-u32 : (c : tie.At-match-keys2) → FoundIn (c .before) u32
-at-u32 c = found (c .before) 73 u32 (c .match .keys2) refl
+at-u32 c = found (c .before) u32 (c .match .keys2)
 
 at-u64 : (c : tie.At-match-keys3) → FoundIn (c .before) u64
-at-u64 c = found (c .before) 81 u64 (c .match .keys3) refl
+at-u64 c = found (c .before) u64 (c .match .keys3)
 
 at-i32 : (c : tie.At-match-keys4) → FoundIn (c .before) i32
-at-i32 c = found (c .before) 105 i32 (c .match .keys4) refl
+at-i32 c = found (c .before) i32 (c .match .keys4)
 
 at-f32 : (c : tie.At-match-keys5) → FoundIn (c .before) f32
-at-f32 c = found (c .before) 102 f32 (c .match .keys5) refl
+at-f32 c = found (c .before) f32 (c .match .keys5)
 
 letter-requires : tie.Need-letter-requires
 letter-requires c κs = search needs
@@ -101,7 +101,8 @@ returns-6 c =
       ne-eqb _ _ (r .0 .0 .0 .1),
       ne-eqb _ _ (r .0 .0 .0 .0 .1),
     ) in
-    record { says = sym (absent-by-letter (a .kind) (a .h .now) (a .offset) _ (c .before .letter .ensures) means); apart = tt }
+    let absent = absent-by-letter (a .kind) (a .h .now) (a .offset) (ap meant (sym (c .before .letter .ensures)) ∙ means) in
+    record { says = sym absent; apart = tt }
 
 pub field-spec : {M : Type 1} → statement M
 field-spec =

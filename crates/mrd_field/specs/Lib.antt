@@ -1,0 +1,5 @@
+pub mod Field
+pub mod Told
+pub mod Letters
+pub mod Floats
+pub mod FieldLaws

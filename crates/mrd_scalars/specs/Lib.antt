@@ -1,0 +1,4 @@
+pub mod Bits
+pub mod Masks
+pub mod Signed
+pub mod FlagLaws

@@ -5,7 +5,7 @@ ghost use Prim.Native.Nat.{_<_, _^_};
 ghost use lib.ListN.{length};
 ghost use Rattle.mrd_format.specs.Checks.{first};
 ghost use Rattle.mrd_format.specs.Elements.{elements};
-ghost use Rattle.mrd_format.specs.Acquisition.{layout, checks, maskDiffers, onesOf, bodySize, numbers};
+ghost use Rattle.mrd_format.specs.Acquisition.{layout, checks, maskDiffers, onesOf, trajectorySize, bodySize, numbers};
 ghost use Rattle.mrd_format.specs.Acquisition.{«channel-mask»};
 ghost use Rattle.mrd_format.specs.Shapes.{acquisitionNumbers};
 use crate::refusal;
@@ -88,6 +88,18 @@ pub(crate) fn body_size(h: &[u8]) -> usize
     let trajectory = product(samples, read_u16(h, TRAJECTORY_DIMENSIONS)) * 4;
     let channels = product(read_u16(h, ACTIVE_CHANNELS), samples) * 8;
     (trajectory + channels) as usize
+}
+
+// The trajectory's bytes, the first of those after the header.
+pub fn trajectory_size(h: &[u8]) -> usize
+    requires { ⌜ length (now h) ≡ 340 ⌝ }
+    ensures { λ r. ⌜ (r ≡ trajectorySize (now (h .entry))) × (r < 2 ^ 40) ⌝ }
+{
+    (product(
+        read_u16(h, NUMBER_OF_SAMPLES),
+        read_u16(h, TRAJECTORY_DIMENSIONS),
+    )
+        * 4) as usize
 }
 
 // The header's own numbers.

@@ -12,6 +12,7 @@ mod shape;
 pub mod size;
 mod waveform;
 
+pub use acquisition::trajectory_size;
 pub use kind::Identified;
 pub use kind::Kind;
 pub use shape::AcquisitionShape;

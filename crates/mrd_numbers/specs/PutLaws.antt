@@ -6,9 +6,10 @@ use native.Mathlib.Omega.{arith}
 use mathlib.Core.Path.{_≡_, sym, ap, _∙_}
 use mathlib.Core.List.{List, _++_}
 use lib.ListN.{length, drop}
-use Rattle.mrd_numbers.specs.Little.{toBytes}
-use Rattle.mrd_numbers.specs.WriteLaws.{length-toBytes}
-use Rattle.mrd_numbers.specs.Stored.{lentFrom, returned, front-first, front-next}
+use lib.Seq.{take-at, drop-append-seam}
+use Rattle.mrd_numbers.specs.Little.{toBytes, num}
+use Rattle.mrd_numbers.specs.WriteLaws.{length-toBytes, from-to}
+use Rattle.mrd_numbers.specs.Stored.{front, lentFrom, returned, front-two}
 
 -- a number is written as its low part and, after that, its high part
 pub to-halves : (m n a b : ℕ) → a < 256 ^ m → toBytes (m + n) (a + b * 256 ^ m) ≡ toBytes m a ++ toBytes n b
@@ -34,6 +35,14 @@ pub halves-stored : (w v : ℕ) (o x y : List ℕ) → w + w ≤ length o → x 
 halves-stored w v o x y fits p q =
     let low = toBytes w (v % 256 ^ w) in
     let high = toBytes w (v / 256 ^ w) in
-    let first : returned 0 o x ≡ low ++ drop w o = front-first w o low x (length-toBytes w _) p in
-    let whole : low ++ high ≡ toBytes (w + w) v = sym (to-halves w w _ _ (mod-lt v (power-pos w))) ∙ ap (toBytes (w + w)) (mod-add-div' v (256 ^ w)) in
-    front-next w w o (returned 0 o x) low high y first (length-toBytes w _) (omega arith) (length-toBytes w _) q ∙ ap (λ (l : List ℕ). l ++ drop (w + w) o) whole
+    let whole : low ++ high ≡ toBytes (w + w) v =
+    sym (to-halves w w _ _ (mod-lt v (power-pos w))) ∙ ap (toBytes (w + w)) (mod-add-div' v (256 ^ w)) in
+    let two : returned w (returned 0 o x) y ≡ front (low ++ high) o =
+    front-two w w o low high x y (length-toBytes w _) (length-toBytes w _) (omega arith) p q in
+    rw length-toBytes at (rw whole at two)
+
+-- a number reads back where it was written
+pub read-after-write : (w v : ℕ) (before after : List ℕ) → v < 256 ^ w → num w (before ++ (toBytes w v ++ after)) (length before) ≡ v
+unfolding num
+read-after-write w v before after h =
+    rw (drop-append-seam, take-at (toBytes w v) after w (length-toBytes w v)) (from-to w v h)

@@ -13,8 +13,11 @@ use lib.Seq.{length-take-le, take-all, drop-drop, take-at, drop-at}
 unfoldable pub stored : ℕ → List ℕ → List ℕ → List ℕ
 stored at m o = take at o ++ (m ++ drop (at + length m) o)
 
--- bytes at the front
-pub stored-front : (m o : List ℕ) → stored 0 m o ≡ m ++ drop (length m) o
+-- the same at the front
+abbrev pub front : List ℕ → List ℕ → List ℕ
+front m o = m ++ drop (length m) o
+
+pub stored-front : (m o : List ℕ) → stored 0 m o ≡ front m o
 unfolding stored
 stored-front m o = rw zero-add
 
@@ -68,3 +71,10 @@ front-after o m n y h q =
 pub front-next : (w z : ℕ) (o o′ m n y : List ℕ) → o′ ≡ m ++ drop w o → length m ≡ w → w ≤ length o → length n ≡ z →
     y ≡ n ++ drop z (lentFrom w o′) → returned w o′ y ≡ (m ++ n) ++ drop (w + z) o
 front-next w z o o′ m n y p e h f q = rw (p, ← e, ← f) (front-after o m n y (rw e h) (rw (p, ← e, ← f) at q))
+
+-- bytes m written in the part from the front on, and then n in the part after them: x and y are the parts as they came back
+pub front-two : (w z : ℕ) (o m n x y : List ℕ) → length m ≡ w → length n ≡ z → w ≤ length o → x ≡ m ++ drop w (lentFrom 0 o) →
+    y ≡ n ++ drop z (lentFrom w (returned 0 o x)) → returned w (returned 0 o x) y ≡ front (m ++ n) o
+front-two w z o m n x y e f h p q =
+    let all : length (m ++ n) ≡ w + z = simp (length-append, e, f) in
+    rw all (front-next w z o (returned 0 o x) m n y (front-first w o m x e p) e h f q)

@@ -1,0 +1,60 @@
+-- `mrd_writer::judge::judge_acquisition` meets its contract: what checks 4 to 10 leave, then check 18.
+-- Assumes nothing.
+use native.Mathlib.Omega.{arith}
+use mathlib.Core.Path.{sym, ap, _∙_}
+use mathlib.Core.List.{[]}
+use denote.Ref.{now}
+use borrow.Author.Needs.{needs}
+use Rattle.mrd_writer.specs.Refusals.{toldJudged}
+use Rattle.mrd_writer.specs.HeadedLaws.{acquisition-refused, acquisition-sized}
+use Rattle.mrd_writer.proofs.judge.judge_acquisition.Statement.{statement}
+use Rattle.mrd_writer.proofs.judge.judge_acquisition.Tie as tie
+
+checked-size-requires : tie.Need-checked-size-requires
+checked-size-requires c κs = search needs
+
+enum-known-checked : tie.Need-enum-known-checked
+enum-known-checked c = search needs
+
+trajectory-size-requires : tie.Need-trajectory-size-requires
+trajectory-size-requires c κs = search needs
+
+none-requires : tie.Need-none-requires
+none-requires c κs = search needs
+
+add-due : tie.Need-add-due
+add-due c = search needs
+
+sub-due : tie.Need-sub-due
+sub-due c = omega (arith, acquisition-sized (now (c .before .before .before .before .before .before .before .args .header)) [] (c .before .before .before .before .before .before .before .args .lent) (sym (c .before .before .before .before .before .checked-size .ensures) ∙ ap toldJudged (c .before .before .before .checked .given .1)) .0)
+
+sub-due-2 : tie.Need-sub-due-2
+sub-due-2 c = omega (arith, c .before .trajectory-size .ensures, acquisition-sized (now (c .before .before .before .before .before .before .before .args .header)) [] (c .before .before .before .before .before .before .before .args .lent) (sym (c .before .before .before .before .before .checked-size .ensures) ∙ ap toldJudged (c .before .before .before .checked .given .1)) .0)
+
+judge-bodies-requires : tie.Need-judge-bodies-requires
+judge-bodies-requires c κs = search needs
+
+enum-known-checked-2 : tie.Need-enum-known-checked-2
+enum-known-checked-2 c = search needs
+
+returns : tie.Need-returns
+returns c = c .judge-bodies .ensures ∙ rw (c .before .none .ensures, c .before .before .trajectory-size .ensures .0) (sym (acquisition-sized (now (c .before .before .before .before .before .before .before .before .args .header)) [] (c .before .before .before .before .before .before .before .before .args .lent) (sym (c .before .before .before .before .before .before .checked-size .ensures) ∙ ap toldJudged (c .before .before .before .before .checked .given .1)) .1))
+
+returns-2 : tie.Need-returns-2
+returns-2 c = sym (acquisition-refused (now (c .before .before .before .before .before .args .header)) [] (c .before .before .before .before .before .args .lent) (sym (c .before .before .before .checked-size .ensures) ∙ ap toldJudged (c .before .checked2 .given .1)))
+
+pub judge-acquisition-spec : {M : Type 1} → statement M
+judge-acquisition-spec =
+    tie.close
+    (tie.spec
+    checked-size-requires
+    enum-known-checked
+    trajectory-size-requires
+    none-requires
+    add-due
+    sub-due
+    sub-due-2
+    judge-bodies-requires
+    enum-known-checked-2
+    returns
+    returns-2)

@@ -1,0 +1,9 @@
+pub mod Lent
+pub mod Refusals
+pub mod JudgeLaws
+pub mod ImageLaws
+pub mod HeadedLaws
+pub mod Write
+pub mod PutLaws
+pub mod Sound
+pub mod WriteLaws

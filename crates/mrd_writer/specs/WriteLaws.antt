@@ -1,0 +1,84 @@
+-- The writer's answer and output, one law for each way that it ends.
+-- Assumes nothing.
+use Prim.Native.Nat.{ℕ, zero, suc, _+_, _≤_, _<_}
+use native.Mathlib.Omega.{arith}
+use mathlib.Core.Path.{_≡_, refl, sym, _∙_}
+use mathlib.Core.List.{List, [], _∷_}
+use lib.Dec.{ltb}
+use lib.ListN.{length, length-drop}
+use borrow.Author.Tests.{lt-ltb, le-ltb}
+use Rattle.mrd_numbers.specs.Stored.{front, lentFrom, returned, lent-is, stored-lent}
+use Rattle.mrd_format.specs.declared.kind.Kind.{Kind}
+use Rattle.mrd_format.specs.declared.kind.Identified.the-variants.{Known, Unknown}
+use Rattle.mrd_format.specs.Kinds.{identified}
+use Rattle.mrd_format.specs.Checks.{Check, _when_, first}
+use Rattle.mrd_format.specs.CheckLaws.{first-skip, first-passed, first-stops}
+use Rattle.mrd_writer.specs.Lent.{Lent, lengthsOf, contentOf, messageOf}
+use Rattle.mrd_writer.specs.Refusals.{sizeOf, lentChecks, Answer, done, refused, unless, judged}
+use Rattle.mrd_writer.specs.JudgeLaws.{done-not-refused}
+use Rattle.mrd_writer.specs.Sound.{lent-numbered, passed-sound, judged-done, content-length, sound-ready}
+use Rattle.mrd_writer.specs.PutLaws.{Ready}
+use Rattle.mrd_writer.specs.Write.{judgedLent, writeChecks, answerAs, outputAs, writeAnswer, writeOutput}
+
+-- both halves of what a function ensures: its answer, and the output as it leaves it
+abbrev pub Ends : Kind → Lent → ℕ → List ℕ → Answer → List ℕ → Type 0
+Ends k l at o a o′ = (a ≡ answerAs (Known k) l at o) × (o′ ≡ outputAs (Known k) l at o)
+
+-- check 14 of a message of size z
+abbrev roomCheck : ℕ → ℕ → List ℕ → List Check
+roomCheck z at o = (14 when ltb (length o) (at + z)) ∷ []
+
+module _ (k : Kind) (l : Lent) (at : ℕ) (o : List ℕ) where
+  -- the output by the answer
+  ends-refused : {x : ℕ} → answerAs (Known k) l at o ≡ refused x → Ends k l at o (refused x) o
+  unfolding outputAs
+  ends-refused e = (sym e, rw e)
+
+  -- what is lent is refused
+  pub refused-lent : {x : ℕ} → judgedLent k l ≡ refused x → Ends k l at o (refused x) o
+  unfolding judged answerAs writeChecks
+  refused-lent {x} e = by-first (first own) refl e
+    where
+      own : List Check
+      own = lentChecks k (l .header) (l .name) (lengthsOf l)
+
+      by-first : (f : ℕ) → first own ≡ f → unless f (sizeOf k (l .header) (lengthsOf l)) ≡ refused x → Ends k l at o (refused x) o
+      by-first zero p e = absurd (done-not-refused e)
+      by-first (suc f) p e = ends-refused (rw (first-stops own (roomCheck (sizeOf k (l .header) (lengthsOf l)) at o) p) e)
+
+  -- it passes, and makes a message of size z: check 14 decides
+  module _ {z : ℕ} (e : judgedLent k l ≡ done z) where
+    last : answerAs (Known k) l at o ≡ unless (first (roomCheck z at o)) (at + z)
+    unfolding answerAs writeChecks
+    last =
+        let d = judged-done k l e in
+        let n = lengthsOf l in
+        let sound = first-passed (lentChecks k (l .header) (l .name) n) (lent-numbered k (l .header) (l .name) n) (d .0) in
+        rw (first-skip (lentChecks k (l .header) (l .name) n) (roomCheck (sizeOf k (l .header) n) at o) sound, d .1)
+
+    pub no-room : length o < at + z → Ends k l at o (refused 14) o
+    no-room h = ends-refused (last ∙ rw (lt-ltb _ _ h))
+
+    pub room : at + z ≤ length o → (y : List ℕ) → y ≡ front (messageOf k l) (lentFrom at o) → Ends k l at o (done (at + z)) (returned at o y)
+    unfolding outputAs
+    room h y p =
+        let a : answerAs (Known k) l at o ≡ done (at + z) = last ∙ rw (le-ltb _ _ h) in
+        (sym a, rw a (stored-lent at o (messageOf k l) y p))
+
+    -- the part from the position on has room for the message
+    pub part-room : at + z ≤ length o → Ready k l × (2 + length (contentOf k l) ≤ length (lentFrom at o))
+    part-room h =
+        let d = judged-done k l e in
+        let s = passed-sound k l (d .0) in
+        (sound-ready k l s, simp (lent-is, length-drop, content-length k l s, d .1) (omega arith))
+
+-- a kind that is known, and an id that is not in the table
+pub write-known : (id : ℕ) (k : Kind) (l : Lent) (at : ℕ) (o o′ : List ℕ) (a : Answer) → identified id ≡ Known k → Ends k l at o a o′ →
+    (a ≡ writeAnswer id l at o) × (o′ ≡ writeOutput id l at o)
+unfolding writeAnswer writeOutput
+write-known id k l at o o′ a e p = (rw e (p .0), rw e (p .1))
+
+pub write-unknown : (id : ℕ) (l : Lent) (at : ℕ) (o : List ℕ) → identified id ≡ Unknown →
+    (refused 2 ≡ writeAnswer id l at o) × (o ≡ writeOutput id l at o)
+unfolding writeAnswer writeOutput answerAs outputAs
+write-unknown id l at o e = (rw e, rw e)

@@ -4,7 +4,7 @@
 use Prim.Native.Nat.{ℕ, _+_, _-_, _≤_}
 use native.Mathlib.Nat.{zero-add, add-assoc, le-of-eq}
 use native.Mathlib.Omega.{arith}
-use mathlib.Core.Path.{_≡_, _∙_}
+use mathlib.Core.Path.{_≡_, ap, _∙_}
 use mathlib.Core.List.{List, [], _++_, append-assoc, append-nil}
 use lib.ListN.{length, take, drop, length-append, length-drop, drop-of-length-le}
 use lib.Seq.{length-take-le, take-all, drop-drop, take-at, drop-at}
@@ -49,6 +49,9 @@ returned at o x = take at o ++ (x ++ drop (length o - at) (drop at o))
 
 pub lent-is : (at : ℕ) (o : List ℕ) → lentFrom at o ≡ drop at o
 lent-is at o = take-all (length o - at) (drop at o) (le-of-eq (length-drop at o))
+
+pub length-lent : (at : ℕ) (o : List ℕ) → length (lentFrom at o) ≡ length o - at
+length-lent at o = ap length (lent-is at o) ∙ length-drop at o
 
 -- bytes written at the front of the part lent from `at` on are stored there
 pub stored-lent : (at : ℕ) (o m x : List ℕ) → x ≡ m ++ drop (length m) (lentFrom at o) → returned at o x ≡ stored at m o

@@ -11,8 +11,8 @@ use Rattle.mrd_numbers.specs.WriteLaws.{length-toBytes}
 use Rattle.mrd_numbers.specs.Stored.{front, lentFrom, returned, front-next, front-two}
 use Rattle.mrd_format.specs.declared.kind.Kind.{Kind}
 use Rattle.mrd_format.specs.declared.kind.Kind.the-variants.{ConfigurationName, Acquisition, Image, Waveform}
-use Rattle.mrd_format.specs.Kinds.{idOf, fixedSize}
-use Rattle.mrd_writer.specs.Lent.{Lent, fixedOf, bodyOf, contentOf, messageOf}
+use Rattle.mrd_format.specs.Kinds.{fixedSize}
+use Rattle.mrd_writer.specs.Lent.{Lent, fixedOf, bodyOf, contentOf}
 
 -- what is lent makes a whole fixed part, and a text's length fits its four bytes
 pub record Ready (k : Kind) (l : Lent) : Type 0 where
@@ -107,11 +107,3 @@ module _ (k : Kind) (l : Lent) (o : List ℕ) (ready : Ready k l) (room : length
   pub waveform-room : k ≡ Waveform → length (l .header) + length (l .waveform) ≤ length o
   unfolding contentOf fixedOf bodyOf
   waveform-room e = simp length-append at (content-room e)
-
--- the id and what follows it
-pub message-put : (k : Kind) (l : Lent) (id : ℕ) (o x y : List ℕ) → id ≡ idOf k → 2 + length (contentOf k l) ≤ length o →
-    x ≡ toBytes 2 id ++ drop 2 (lentFrom 0 o) → y ≡ front (contentOf k l) (lentFrom 2 (returned 0 o x)) →
-    returned 2 (returned 0 o x) y ≡ front (messageOf k l) o
-unfolding messageOf
-message-put k l id o x y e h p q =
-    rw (← e) (front-two 2 (length (contentOf k l)) o (toBytes 2 id) (contentOf k l) x y (length-toBytes 2 id) refl (omega arith) p q)

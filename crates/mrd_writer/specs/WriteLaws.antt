@@ -2,15 +2,16 @@
 -- Assumes nothing.
 use Prim.Native.Nat.{ℕ, zero, suc, _+_, _≤_, _<_}
 use native.Mathlib.Omega.{arith}
-use mathlib.Core.Path.{_≡_, refl, sym, _∙_}
-use mathlib.Core.List.{List, [], _∷_}
+use mathlib.Core.Path.{_≡_, refl, sym, ap, _∙_}
+use mathlib.Core.List.{List, [], _∷_, _++_}
 use lib.Dec.{ltb}
-use lib.ListN.{length, length-drop}
+use lib.ListN.{length, drop}
 use borrow.Author.Tests.{lt-ltb, le-ltb}
-use Rattle.mrd_numbers.specs.Stored.{front, lentFrom, returned, lent-is, stored-lent}
+use Rattle.mrd_numbers.specs.Little.{toBytes}
+use Rattle.mrd_numbers.specs.Stored.{stored, front, lentFrom, returned, stored-next, stored-lent}
 use Rattle.mrd_format.specs.declared.kind.Kind.{Kind}
 use Rattle.mrd_format.specs.declared.kind.Identified.the-variants.{Known, Unknown}
-use Rattle.mrd_format.specs.Kinds.{identified}
+use Rattle.mrd_format.specs.Kinds.{idOf, identified}
 use Rattle.mrd_format.specs.Checks.{Check, _when_, first}
 use Rattle.mrd_format.specs.CheckLaws.{first-skip, first-passed, first-stops}
 use Rattle.mrd_writer.specs.Lent.{Lent, lengthsOf, contentOf, messageOf}
@@ -59,18 +60,25 @@ module _ (k : Kind) (l : Lent) (at : ℕ) (o : List ℕ) where
     pub no-room : length o < at + z → Ends k l at o (refused 14) o
     no-room h = ends-refused (last ∙ rw (lt-ltb _ _ h))
 
-    pub room : at + z ≤ length o → (y : List ℕ) → y ≡ front (messageOf k l) (lentFrom at o) → Ends k l at o (done (at + z)) (returned at o y)
-    unfolding outputAs
-    room h y p =
-        let a : answerAs (Known k) l at o ≡ done (at + z) = last ∙ rw (le-ltb _ _ h) in
-        (sym a, rw a (stored-lent at o (messageOf k l) y p))
-
-    -- the part from the position on has room for the message
-    pub part-room : at + z ≤ length o → Ready k l × (2 + length (contentOf k l) ≤ length (lentFrom at o))
-    part-room h =
+    -- the position, the id and what follows it lie in the output
+    pub within : at + z ≤ length o → Ready k l × (at + (2 + length (contentOf k l)) ≤ length o)
+    within h =
         let d = judged-done k l e in
         let s = passed-sound k l (d .0) in
-        (sound-ready k l s, simp (lent-is, length-drop, content-length k l s, d .1) (omega arith))
+        (sound-ready k l s, rw (content-length k l s, d .1) h)
+
+    -- the id put into the part from the position on, and the content into the part after it
+    pub room : at + z ≤ length o → (id : ℕ) (x y : List ℕ) → id ≡ idOf k → x ≡ toBytes 2 id ++ drop 2 (lentFrom at o) →
+        y ≡ front (contentOf k l) (lentFrom (at + 2) (returned at o x)) → Ends k l at o (done (at + z)) (returned (at + 2) (returned at o x) y)
+    unfolding outputAs messageOf
+    room h id x y i p q =
+        let a : answerAs (Known k) l at o ≡ done (at + z) = last ∙ rw (le-ltb _ _ h) in
+        let first : returned at o x ≡ stored at (toBytes 2 id) o = stored-lent at o (toBytes 2 id) x p in
+        let second : returned (at + 2) (returned at o x) y ≡ stored (at + 2) (contentOf k l) (returned at o x) =
+        stored-lent (at + 2) (returned at o x) (contentOf k l) y q in
+        let whole : stored (at + 2) (contentOf k l) (stored at (toBytes 2 id) o) ≡ stored at (toBytes 2 id ++ contentOf k l) o =
+        stored-next at (toBytes 2 id) (contentOf k l) o (omega (arith, within h .1)) in
+        (sym a, rw (a, ← i) (second ∙ ap (stored (at + 2) (contentOf k l)) first ∙ whole))
 
 -- a kind that is known, and an id that is not in the table
 pub write-known : (id : ℕ) (k : Kind) (l : Lent) (at : ℕ) (o o′ : List ℕ) (a : Answer) → identified id ≡ Known k → Ends k l at o a o′ →

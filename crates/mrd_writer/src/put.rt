@@ -1,52 +1,20 @@
-// One message put at the front of a lent part of the output, field by field: each writer is lent the
-// part from its own place on.
+// What follows a message's id, put at the front of a lent part of the output, field by field: each
+// writer is lent the part from its own place on.
 ghost use mathlib.Core.Path.{_≡_};
 ghost use Prim.Native.Nat.{_+_, _-_, _≤_, _<_, _^_};
 ghost use mathlib.Core.List.{_++_};
 ghost use lib.ListN.{length, replicate};
 ghost use Rattle.mrd_numbers.specs.Little.{toBytes};
 ghost use Rattle.mrd_numbers.specs.Stored.{front};
-ghost use Rattle.mrd_writer.specs.Lent.{lent, contentOf, messageOf};
+ghost use Rattle.mrd_writer.specs.Lent.{lent, contentOf};
 ghost use Rattle.mrd_writer.specs.PutLaws.{Ready};
 use mrd_format::Kind;
-use mrd_numbers::put_u16;
 use mrd_numbers::put_u32;
 use mrd_numbers::put_u64;
 use mrd_numbers::put_zeros;
 
-// The id, and what follows it.
-pub(crate) fn put_message(
-    kind: Kind,
-    header: &[u8],
-    name: &[u8],
-    text: &[u8],
-    trajectory: &[u8],
-    samples: &[u8],
-    attributes: &[u8],
-    pixels: &[u8],
-    waveform: &[u8],
-    out: &mut [u8],
-)
-    requires { ⌜ Ready kind (lent (now header) (now name) (now text) (now trajectory) (now samples) (now attributes) (now pixels) (now waveform)) × (2 + length (contentOf kind (lent (now header) (now name) (now text) (now trajectory) (now samples) (now attributes) (now pixels) (now waveform))) ≤ length (now out)) ⌝ }
-    ensures { λ _. ⌜ now (out .exit) ≡ front (messageOf kind (lent (now (header .entry)) (now (name .entry)) (now (text .entry)) (now (trajectory .entry)) (now (samples .entry)) (now (attributes .entry)) (now (pixels .entry)) (now (waveform .entry)))) (now (out .entry)) ⌝ }
-{
-    put_u16(&mut out[0..], kind.id());
-    put_content(
-        kind,
-        header,
-        name,
-        text,
-        trajectory,
-        samples,
-        attributes,
-        pixels,
-        waveform,
-        &mut out[2..],
-    );
-}
-
 // The bytes after the id, by kind.
-fn put_content(
+pub(crate) fn put_content(
     kind: Kind,
     header: &[u8],
     name: &[u8],

@@ -9,10 +9,11 @@ use crate::answer::Judged;
 use crate::answer::Written;
 use crate::judge::judge;
 use crate::lengths::Lengths;
-use crate::put::put_message;
+use crate::put::put_content;
 use mrd_format::Identified;
 use mrd_format::Kind;
 use mrd_format::refusal;
+use mrd_numbers::put_u16;
 
 // Puts one message into out from `position` on, and gives the position after it: the id, the fixed
 // header's bytes (none for a name, a text or a close), and the parts, of which those that the kind
@@ -34,49 +35,11 @@ pub fn write(
     ensures { λ r. ⌜ (told r ≡ writeAnswer id (lent (now (header .entry)) (now (name .entry)) (now (text .entry)) (now (trajectory .entry)) (now (samples .entry)) (now (attributes .entry)) (now (pixels .entry)) (now (waveform .entry))) position (now (out .entry))) × (now (out .exit) ≡ writeOutput id (lent (now (header .entry)) (now (name .entry)) (now (text .entry)) (now (trajectory .entry)) (now (samples .entry)) (now (attributes .entry)) (now (pixels .entry)) (now (waveform .entry))) position (now (out .entry))) ⌝ }
 {
     let identified = Kind::of_id(id);
-    match identified {
-        Identified::Known(kind) => write_known(
-            kind,
-            header,
-            name,
-            text,
-            trajectory,
-            samples,
-            attributes,
-            pixels,
-            waveform,
-            out,
-            position,
-        ),
-        Identified::Unknown => Written::Refused(refusal::UNKNOWN_ID),
-    }
-}
-
-// The same for a message whose kind is known.
-fn write_known(
-    kind: Kind,
-    header: &[u8],
-    name: &[u8],
-    text: &[u8],
-    trajectory: &[u8],
-    samples: &[u8],
-    attributes: &[u8],
-    pixels: &[u8],
-    waveform: &[u8],
-    out: &mut [u8],
-    position: usize,
-) -> Written
-    ensures { λ r. ⌜ (told r ≡ answerAs (Known kind) (lent (now (header .entry)) (now (name .entry)) (now (text .entry)) (now (trajectory .entry)) (now (samples .entry)) (now (attributes .entry)) (now (pixels .entry)) (now (waveform .entry))) position (now (out .entry))) × (now (out .exit) ≡ outputAs (Known kind) (lent (now (header .entry)) (now (name .entry)) (now (text .entry)) (now (trajectory .entry)) (now (samples .entry)) (now (attributes .entry)) (now (pixels .entry)) (now (waveform .entry))) position (now (out .entry))) ⌝ }
-{
-    let lent = lengths(
-        name,
-        text,
-        trajectory,
-        samples,
-        attributes,
-        pixels,
-        waveform,
-    );
+    let Identified::Known(kind) = identified else {
+        return Written::Refused(refusal::UNKNOWN_ID);
+    };
+    let mut lent = body_lengths(text, trajectory, samples, attributes, pixels, waveform);
+    lent.name = name.len();
     let judged = judge(kind, header, name, lent);
     match judged {
         Judged::Size(size) => store(
@@ -97,7 +60,7 @@ fn write_known(
     }
 }
 
-// The same where what is lent passes every check and makes a message of this size.
+// The same for a message of this kind and size, of which all that is lent passes every check.
 fn store(
     kind: Kind,
     header: &[u8],
@@ -121,7 +84,9 @@ fn store(
     if out.len() - position < size {
         return Written::Refused(refusal::OUTPUT);
     }
-    put_message(
+    put_u16(&mut out[position..], kind.id());
+    let content = position + 2;
+    put_content(
         kind,
         header,
         name,
@@ -131,14 +96,13 @@ fn store(
         attributes,
         pixels,
         waveform,
-        &mut out[position..],
+        &mut out[content..],
     );
     Written::To(position + size)
 }
 
-// The lengths of the seven parts.
-fn lengths(
-    name: &[u8],
+// The lengths of the six parts that may follow a fixed part.
+fn body_lengths(
     text: &[u8],
     trajectory: &[u8],
     samples: &[u8],
@@ -146,10 +110,10 @@ fn lengths(
     pixels: &[u8],
     waveform: &[u8],
 ) -> Lengths
-    ensures { λ r. ⌜ r ≡ partLengths (length (now (name .entry))) (length (now (text .entry))) (length (now (trajectory .entry))) (length (now (samples .entry))) (length (now (attributes .entry))) (length (now (pixels .entry))) (length (now (waveform .entry))) ⌝ }
+    ensures { λ r. ⌜ r ≡ partLengths 0 (length (now (text .entry))) (length (now (trajectory .entry))) (length (now (samples .entry))) (length (now (attributes .entry))) (length (now (pixels .entry))) (length (now (waveform .entry))) ⌝ }
 {
     Lengths {
-        name: name.len(),
+        name: 0,
         text: text.len(),
         trajectory: trajectory.len(),
         samples: samples.len(),

@@ -1,10 +1,12 @@
--- `mrd_writer::writer::store` meets its contract: check 14, and the message put into the part from the position on.
+-- `mrd_writer::writer::store` meets its contract: check 14, and the id and the content put into the parts from their places on.
 -- Assumes nothing.
+use Prim.Native.Nat.{_+_}
 use native.Mathlib.Omega.{arith}
 use denote.Ref.{now}
 use borrow.Author.Needs.{needs}
+use Rattle.mrd_numbers.specs.Stored.{returned, length-lent}
 use Rattle.mrd_writer.specs.Lent.{lent}
-use Rattle.mrd_writer.specs.WriteLaws.{no-room, room, part-room}
+use Rattle.mrd_writer.specs.WriteLaws.{no-room, within, room}
 use Rattle.mrd_writer.proofs.writer.store.Statement.{statement}
 use Rattle.mrd_writer.proofs.writer.store.Tie as tie
 
@@ -21,30 +23,57 @@ returns-2 c =
     let start = c .before .before .before .before .before .before .before .before .before .before .before in
     no-room (start .args .kind) (lent (now (start .args .header)) (now (start .args .name)) (now (start .args .text)) (now (start .args .trajectory)) (now (start .args .samples)) (now (start .args .attributes)) (now (start .args .pixels)) (now (start .args .waveform))) (start .args .position) (now (start .args .out)) (start .pre) (omega arith)
 
-sub-put-message : tie.Need-sub-put-message
-sub-put-message c = search needs
+sub-put-u16 : tie.Need-sub-put-u16
+sub-put-u16 c = search needs
 
-part-put-message-start : tie.Need-part-put-message-start
-part-put-message-start c = search needs
+part-put-u16-start : tie.Need-part-put-u16-start
+part-put-u16-start c = search needs
 
-part-put-message-end : tie.Need-part-put-message-end
-part-put-message-end c = search needs
+part-put-u16-end : tie.Need-part-put-u16-end
+part-put-u16-end c = search needs
 
-put-message-requires : tie.Need-put-message-requires
-put-message-requires c κs =
-    let start = c .before .before .before .before .before .before .before .before .before .before .before .before in
-    part-room (start .args .kind) (lent (now (start .args .header)) (now (start .args .name)) (now (start .args .text)) (now (start .args .trajectory)) (now (start .args .samples)) (now (start .args .attributes)) (now (start .args .pixels)) (now (start .args .waveform))) (start .args .position) (now (start .args .out)) (start .pre) (omega arith)
+id-requires : tie.Need-id-requires
+id-requires c κs = search needs
 
-add-t15 : tie.Need-add-t15
-add-t15 c = search needs
+put-u16-requires : tie.Need-put-u16-requires
+put-u16-requires c κs =
+    let start = c .before .before .before .before .before .before .before .before .before .before .before .before .before in
+    omega (arith, length-lent (start .args .position) (now (start .args .out)), within (start .args .kind) (lent (now (start .args .header)) (now (start .args .name)) (now (start .args .text)) (now (start .args .trajectory)) (now (start .args .samples)) (now (start .args .attributes)) (now (start .args .pixels)) (now (start .args .waveform))) (start .args .position) (now (start .args .out)) (start .pre) (omega arith) .1)
+
+add-content : tie.Need-add-content
+add-content c = search needs
+
+sub-put-content : tie.Need-sub-put-content
+sub-put-content c =
+    let start = c .before .before .before .before .before .before .before .before .before .before .before .before .before .before .before .before in
+    omega (arith, within (start .args .kind) (lent (now (start .args .header)) (now (start .args .name)) (now (start .args .text)) (now (start .args .trajectory)) (now (start .args .samples)) (now (start .args .attributes)) (now (start .args .pixels)) (now (start .args .waveform))) (start .args .position) (now (start .args .out)) (start .pre) (omega arith) .1)
+
+part-put-content-start : tie.Need-part-put-content-start
+part-put-content-start c =
+    let start = c .before .before .before .before .before .before .before .before .before .before .before .before .before .before .before .before in
+    omega (arith, within (start .args .kind) (lent (now (start .args .header)) (now (start .args .name)) (now (start .args .text)) (now (start .args .trajectory)) (now (start .args .samples)) (now (start .args .attributes)) (now (start .args .pixels)) (now (start .args .waveform))) (start .args .position) (now (start .args .out)) (start .pre) (omega arith) .1)
+
+part-put-content-end : tie.Need-part-put-content-end
+part-put-content-end c = search needs
+
+put-content-requires : tie.Need-put-content-requires
+put-content-requires c κs =
+    let start = c .before .before .before .before .before .before .before .before .before .before .before .before .before .before .before .before .before in
+    let w = within (start .args .kind) (lent (now (start .args .header)) (now (start .args .name)) (now (start .args .text)) (now (start .args .trajectory)) (now (start .args .samples)) (now (start .args .attributes)) (now (start .args .pixels)) (now (start .args .waveform))) (start .args .position) (now (start .args .out)) (start .pre) (omega arith) in
+    (w .0, omega (arith, length-lent (start .args .position + 2) (returned (start .args .position) (now (start .args .out)) (c .before .before .before .put-u16 .last .0)), w .1))
+
+add-t14 : tie.Need-add-t14
+add-t14 c =
+    let start = c .before .before .before .before .before .before .before .before .before .before .before .before .before .before .before .before .before .before .before .before in
+    omega (arith, start .good, c .before .before .before .before .before .before .before .before .before .if2 .left, c .before .before .before .before .before .before .before .before .before .before .if1 .left)
 
 same-length : tie.Need-same-length
 same-length c = search needs
 
 returns-3 : tie.Need-returns-3
 returns-3 c =
-    let start = c .before .before .before .before .before .before .before .before .before .before .before .before .before .before .before in
-    room (start .args .kind) (lent (now (start .args .header)) (now (start .args .name)) (now (start .args .text)) (now (start .args .trajectory)) (now (start .args .samples)) (now (start .args .attributes)) (now (start .args .pixels)) (now (start .args .waveform))) (start .args .position) (now (start .args .out)) (start .pre) (omega arith) (c .before .before .put-message .last .1 .1 .1 .1 .1 .1 .1 .1 .1 .0) (c .before .before .put-message .ensures)
+    let start = c .before .before .before .before .before .before .before .before .before .before .before .before .before .before .before .before .before .before .before .before in
+    room (start .args .kind) (lent (now (start .args .header)) (now (start .args .name)) (now (start .args .text)) (now (start .args .trajectory)) (now (start .args .samples)) (now (start .args .attributes)) (now (start .args .pixels)) (now (start .args .waveform))) (start .args .position) (now (start .args .out)) (start .pre) (omega (arith, c .before .before .before .before .before .before .before .before .before .if2 .left, c .before .before .before .before .before .before .before .before .before .before .if1 .left)) (c .before .before .before .before .before .before .before .id .result) (c .before .before .before .before .before .before .put-u16 .last .0) (c .before .before .put-content .last .1 .1 .1 .1 .1 .1 .1 .1 .1 .0) (c .before .before .before .before .before .before .before .id .ensures) (c .before .before .before .before .before .before .put-u16 .ensures) (c .before .before .put-content .ensures)
 
 pub store-spec : {M : Type 1} → statement M
 store-spec =
@@ -53,10 +82,16 @@ store-spec =
     returns
     sub-if2
     returns-2
-    sub-put-message
-    part-put-message-start
-    part-put-message-end
-    put-message-requires
-    add-t15
+    sub-put-u16
+    part-put-u16-start
+    part-put-u16-end
+    id-requires
+    put-u16-requires
+    add-content
+    sub-put-content
+    part-put-content-start
+    part-put-content-end
+    put-content-requires
+    add-t14
     same-length
     returns-3)

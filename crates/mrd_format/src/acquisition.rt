@@ -95,11 +95,9 @@ pub fn trajectory_size(h: &[u8]) -> usize
     requires { ⌜ length (now h) ≡ 340 ⌝ }
     ensures { λ r. ⌜ (r ≡ trajectorySize (now (h .entry))) × (r < 2 ^ 40) ⌝ }
 {
-    (product(
-        read_u16(h, NUMBER_OF_SAMPLES),
-        read_u16(h, TRAJECTORY_DIMENSIONS),
-    )
-        * 4) as usize
+    let samples = read_u16(h, NUMBER_OF_SAMPLES);
+    let dimensions = read_u16(h, TRAJECTORY_DIMENSIONS);
+    (product(samples, dimensions) * 4) as usize
 }
 
 // The header's own numbers.

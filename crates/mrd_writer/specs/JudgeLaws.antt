@@ -76,6 +76,11 @@ module _ (k : Kind) (f : List ℕ) where
 pub done-not-refused : {z x : ℕ} → done z ≡ refused x → ⊥
 done-not-refused e = let z : _≡_ {A = ℕ} 0 1 = cc in omega arith
 
+-- where a number is answered, no check refused
+pub unless-done : (f z : ℕ) {y : ℕ} → unless f z ≡ done y → (f ≡ 0) × (z ≡ y)
+unless-done zero z e = (refl, cc)
+unless-done (suc f) z e = absurd (done-not-refused (sym e))
+
 -- a message of kind k by its fixed part f, whose checks and size are those of the lent header, name and lengths
 module _ (k : Kind) (h name : List ℕ) (n : Lengths) (f : List ℕ)
     (own : ownChecks k h name n ≡ message.ownChecks k f) (size : sizeOf k h n ≡ message.sizeOf k f) where

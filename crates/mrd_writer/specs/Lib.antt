@@ -7,3 +7,6 @@ pub mod Write
 pub mod PutLaws
 pub mod Sound
 pub mod WriteLaws
+pub mod Written
+pub mod LentRecord
+pub mod ReadBack

@@ -1,8 +1,8 @@
 -- What is lent passes every check but 14: what that says of its parts, and of the message that they make.
 -- Assumes nothing.
-use Prim.Native.Nat.{ℕ, zero, suc, _+_, _≤_}
+use Prim.Native.Nat.{ℕ, _+_, _≤_}
 use native.Mathlib.Omega.{arith}
-use mathlib.Core.Path.{_≡_, refl, sym, ap, ap₂, _∙_}
+use mathlib.Core.Path.{_≡_, refl, ap, ap₂, _∙_}
 use mathlib.Core.Bool.{Bool, true, false, _||_, _&&_, true≢false, false≢true}
 use mathlib.Core.List.{List}
 use lib.ListN.{length, length-append, length-replicate}
@@ -20,9 +20,9 @@ use Rattle.mrd_format.specs.Acquisition as acquisition
 use Rattle.mrd_format.specs.Waveform as waveform
 use Rattle.mrd_writer.specs.declared.lengths.Lengths.{Lengths}
 use Rattle.mrd_writer.specs.Lent.{Lent, lengthsOf, headerSize, fixedOf, bodyOf, contentOf}
-use Rattle.mrd_writer.specs.Refusals.{holdsZero, ownChecks, bodySize, sizeOf, dueLengths, sameLengths, sizeChecks, headedChecks, lentChecks, done, unless, judged}
+use Rattle.mrd_writer.specs.Refusals.{holdsZero, ownChecks, bodySize, sizeOf, dueLengths, sameLengths, sizeChecks, headedChecks, lentChecks, done, judged}
 use Rattle.mrd_writer.specs.Write.{judgedLent}
-use Rattle.mrd_writer.specs.JudgeLaws.{done-not-refused}
+use Rattle.mrd_writer.specs.JudgeLaws.{unless-done}
 use Rattle.mrd_writer.specs.PutLaws.{Ready}
 
 -- what is lent passes checks 3 to 10 and 18
@@ -97,11 +97,7 @@ passed-sound k l e =
 pub judged-done : (k : Kind) (l : Lent) {z : ℕ} → judgedLent k l ≡ done z →
     (first (lentChecks k (l .header) (l .name) (lengthsOf l)) ≡ 0) × (sizeOf k (l .header) (lengthsOf l) ≡ z)
 unfolding judged
-judged-done k l {z} e = by-first (first (lentChecks k (l .header) (l .name) (lengthsOf l))) e
-  where
-    by-first : (f : ℕ) → unless f (sizeOf k (l .header) (lengthsOf l)) ≡ done z → (f ≡ 0) × (sizeOf k (l .header) (lengthsOf l) ≡ z)
-    by-first zero e = (refl, cc)
-    by-first (suc f) e = absurd (done-not-refused (sym e))
+judged-done k l e = unless-done (first (lentChecks k (l .header) (l .name) (lengthsOf l))) (sizeOf k (l .header) (lengthsOf l)) e
 
 -- a sound name is short enough for its zero, and holds none itself
 pub sound-name : (l : Lent) → Sound ConfigurationName l → (length (l .name) ≤ 1023) × (holdsZero (l .name) ≡ false)
@@ -143,7 +139,7 @@ unfolding contentOf sizeOf
 content-length k l s = rw (length-append, fixed-length k l s, body-length k l s) (omega arith)
 
 -- a text is within the limit
-text-small : (k : Kind) (l : Lent) → Sound k l → length (l .text) ≤ limit
+pub text-small : (k : Kind) (l : Lent) → Sound k l → length (l .text) ≤ limit
 unfolding sizeOf bodySize dueLengths
 text-small ConfigurationName l s = let none : length (l .text) ≡ 0 = ap (λ (n : Lengths). n .text) (s .lengths) in omega arith
 text-small ConfigurationText l s = omega (arith, s .small)

@@ -1,46 +1,35 @@
 -- `mrd_numbers::read_u16` meets its contract: the two bytes, each below 256, are the halves of the number.
 -- Assumes nothing.
-use borrow.Author.Needs.{needs}
-use native.Mathlib.Omega.{arith}
-use mathlib.Core.Path.{_≡_, sym, _∙_}
 use Prim.Native.Nat.{_+_}
+use native.Mathlib.Omega.{arith}
+use borrow.Author.Needs.{needs}
 use Rattle.mrd_numbers.specs.Laws.{num-halves, num-one}
 use Rattle.mrd_numbers.proofs.read_u16.Statement.{statement}
 use Rattle.mrd_numbers.proofs.read_u16.Tie as tie
-use Rattle.mrd_numbers.proofs.read_u16.Reads as reads
-use Rattle.mrd_numbers.proofs.read_u16.Lts as lts
 
--- src/lib.rt:15:6
 shared-slice-read-result : tie.Need-shared-slice-read-result
 shared-slice-read-result c = search needs
 
--- src/lib.rt:15:6
 cast-result : tie.Need-cast-result
 cast-result c = omega (arith, c .shared-slice-known .given (c .before .args .at))
 
--- src/lib.rt:15:25
 add-result : tie.Need-add-result
 add-result c = search needs
 
--- src/lib.rt:15:23
 shared-slice-read-result-2 : tie.Need-shared-slice-read-result-2
 shared-slice-read-result-2 c = search needs
 
--- src/lib.rt:15:23
 cast-result-2 : tie.Need-cast-result-2
 cast-result-2 c = omega (arith, c .shared-slice-known2 .given (c .before .before .args .at + 1))
 
--- src/lib.rt:15:22
 mul-result : tie.Need-mul-result
 mul-result c = omega (arith, c .shared-slice-known2 .given (c .before .before .args .at + 1))
 
--- src/lib.rt:15:5
 add-result-2 : tie.Need-add-result-2
 add-result-2 c =
     omega
     (arith, c .shared-slice-known2 .given (c .before .before .args .at), c .shared-slice-known2 .given (c .before .before .args .at + 1))
 
--- src/lib.rt:11:1
 returns : tie.Need-returns
 returns c = simp (num-halves 1 1, num-one)
 

@@ -5,8 +5,8 @@ ghost use Prim.Native.Nat.{_<_, _^_};
 ghost use lib.ListN.{length};
 ghost use Rattle.mrd_format.specs.Checks.{first};
 ghost use Rattle.mrd_format.specs.Elements.{elements};
-ghost use Rattle.mrd_format.specs.Acquisition.{layout, checks, maskDiffers, onesOf, bodySize, numbers};
-ghost use Rattle.mrd_format.specs.Acquisition.{«channel-mask»};
+ghost use Rattle.mrd_format.specs.Acquisition.{layout, get, checks, maskDiffers, onesOf, trajectorySize, channelSize, bodySize, numbers};
+ghost use Rattle.mrd_format.specs.Acquisition.{«channel-mask», «active-channels»};
 ghost use Rattle.mrd_format.specs.Shapes.{acquisitionNumbers};
 use crate::refusal;
 use crate::shape::AcquisitionShape;
@@ -79,15 +79,37 @@ fn mask_ones(h: &[u8]) -> u32
     ones
 }
 
+// The bytes of the trajectory.
+pub fn trajectory_size(h: &[u8]) -> usize
+    requires { ⌜ length (now h) ≡ 340 ⌝ }
+    ensures { λ r. ⌜ (r ≡ trajectorySize (now (h .entry))) × (r < 2 ^ 34) ⌝ }
+{
+    let samples = read_u16(h, NUMBER_OF_SAMPLES);
+    (product(samples, read_u16(h, TRAJECTORY_DIMENSIONS)) * 4) as usize
+}
+
+// The bytes of one channel's samples.
+pub fn channel_size(h: &[u8]) -> usize
+    requires { ⌜ length (now h) ≡ 340 ⌝ }
+    ensures { λ r. ⌜ (r ≡ channelSize (now (h .entry))) × (r < 2 ^ 19) ⌝ }
+{
+    (read_u16(h, NUMBER_OF_SAMPLES) as usize) * 8
+}
+
+// How many channels have samples.
+pub fn active_channels(h: &[u8]) -> usize
+    requires { ⌜ length (now h) ≡ 340 ⌝ }
+    ensures { λ r. ⌜ (r ≡ get «active-channels» (now (h .entry))) × (r < 2 ^ 16) ⌝ }
+{
+    read_u16(h, ACTIVE_CHANNELS) as usize
+}
+
 // The bytes after the header: the trajectory and every channel's samples.
 pub(crate) fn body_size(h: &[u8]) -> usize
     requires { ⌜ length (now h) ≡ 340 ⌝ }
     ensures { λ r. ⌜ (r ≡ bodySize (now (h .entry))) × (r < 2 ^ 40) ⌝ }
 {
-    let samples = read_u16(h, NUMBER_OF_SAMPLES);
-    let trajectory = product(samples, read_u16(h, TRAJECTORY_DIMENSIONS)) * 4;
-    let channels = product(read_u16(h, ACTIVE_CHANNELS), samples) * 8;
-    (trajectory + channels) as usize
+    trajectory_size(h) + active_channels(h) * channel_size(h)
 }
 
 // The header's own numbers.

@@ -4,7 +4,7 @@ ghost use mathlib.Core.Path.{_≡_};
 ghost use Prim.Native.Nat.{_<_, _≤_, _^_};
 ghost use lib.ListN.{length};
 ghost use Rattle.mrd_format.specs.Checks.{first};
-ghost use Rattle.mrd_format.specs.Image.{checks, elementSize, pixelCount, bodySize, numbers};
+ghost use Rattle.mrd_format.specs.Image.{checks, attributeLength, elementSize, pixelCount, bodySize, numbers};
 ghost use Rattle.mrd_format.specs.Sizes.{capped};
 ghost use Rattle.mrd_format.specs.Shapes.{imageNumbers};
 use crate::refusal;
@@ -49,10 +49,18 @@ pub(crate) fn fault(h: &[u8]) -> u8
     if 8 < data_type {
         return refusal::DATA_TYPE;
     }
-    if (read_u32(h, ATTRIBUTE_STRING_LEN) as u64) != read_u64(h, ATTRIBUTE_LENGTH) {
+    if (read_u32(h, ATTRIBUTE_STRING_LEN) as u64) != attribute_length(h) {
         return refusal::ATTRIBUTE_LENGTH;
     }
     0
+}
+
+// The bytes of the attributes: the 8-byte length.
+pub fn attribute_length(h: &[u8]) -> u64
+    requires { ⌜ length (now h) ≡ 206 ⌝ }
+    ensures { λ r. ⌜ r ≡ attributeLength (now (h .entry)) ⌝ }
+{
+    read_u64(h, ATTRIBUTE_LENGTH)
 }
 
 // The bytes of one element of this data type, 0 where there is no such type.
@@ -79,7 +87,7 @@ pub(crate) fn body_size(h: &[u8]) -> usize
     requires { ⌜ length (now h) ≡ 206 ⌝ }
     ensures { λ r. ⌜ (capped r ≡ capped (bodySize (now (h .entry)))) × (r < 2 ^ 40) ⌝ }
 {
-    let attributes = cap(read_u64(h, ATTRIBUTE_LENGTH));
+    let attributes = cap(attribute_length(h));
     let pixels = cap(pixel_count(h)) * element_size(read_u16(h, DATA_TYPE));
     (attributes + pixels) as usize
 }
@@ -95,6 +103,6 @@ pub(crate) fn shape(h: &[u8]) -> ImageShape
         matrix_size_z: read_u16(h, MATRIX_SIZE_Z),
         channels: read_u16(h, CHANNELS),
         data_type: read_u16(h, DATA_TYPE),
-        attribute_length: read_u64(h, ATTRIBUTE_LENGTH),
+        attribute_length: attribute_length(h),
     }
 }

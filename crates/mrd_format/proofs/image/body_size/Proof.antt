@@ -7,8 +7,8 @@ use Rattle.mrd_format.specs.SizeLaws.{capped-twice, product, capped-prod
 use Rattle.mrd_format.proofs.image.body_size.Statement.{statement}
 use Rattle.mrd_format.proofs.image.body_size.Tie as tie
 
-read-u64-requires : tie.Need-read-u64-requires
-read-u64-requires c κs = search needs
+attribute-length-requires : tie.Need-attribute-length-requires
+attribute-length-requires c κs = search needs
 
 cap-requires : tie.Need-cap-requires
 cap-requires c κs = search needs
@@ -39,11 +39,11 @@ add-result c =
 returns : tie.Need-returns
 unfolding bodySize pixelsSize
 returns c =
-    let read-u64 = c .before .before .before .before .before .read-u64 in
+    let attribute-length = c .before .before .before .before .before .attribute-length in
     let cap = c .before .before .before .before .cap in
     let cap2 = c .before .before .cap2 in (
       capped-sum _ _ _ _
-          (simp (cap .ensures, read-u64 .ensures, capped-twice))
+          (simp (cap .ensures, attribute-length .ensures, capped-twice))
           (simp (cap2 .ensures, c .before .before .before .pixel-count .ensures, c .element-size .ensures .0, c .before .read-u16 .ensures, capped-product)),
       omega (arith, product {a = cap2 .result} {b = c .element-size .result} {x = 268435457} {y = 16} (omega (arith, cap2 .ensures)) (c .element-size .ensures .1), cap .ensures),
     )
@@ -52,7 +52,7 @@ pub body-size-spec : {M : Type 1} → statement M
 body-size-spec =
     tie.close
     (tie.spec
-    read-u64-requires
+    attribute-length-requires
     cap-requires
     pixel-count-requires
     cap-requires-2

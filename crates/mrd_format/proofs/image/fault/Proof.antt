@@ -43,8 +43,8 @@ read-u32-requires c κs = search needs
 cast-if4 : tie.Need-cast-if4
 cast-if4 c = search needs
 
-read-u64-requires : tie.Need-read-u64-requires
-read-u64-requires c κs = search needs
+attribute-length-requires : tie.Need-attribute-length-requires
+attribute-length-requires c κs = search needs
 
 returns-4 : tie.Need-returns-4
 unfolding checks
@@ -60,7 +60,7 @@ returns-4 c =
       ne-eqb _ _ (if2 .left),
       le-ltb _ _ (c .before .before .before .if3 .left),
       ← c .before .before .read-u32 .ensures,
-      ← c .before .read-u64 .ensures,
+      ← c .before .attribute-length .ensures,
       ne-eqb _ _ (c .if4 .taken),
     )
 
@@ -78,7 +78,7 @@ returns-5 c =
       ne-eqb _ _ (if2 .left),
       le-ltb _ _ (c .before .before .before .if3 .left),
       ← c .before .before .read-u32 .ensures,
-      ← c .before .read-u64 .ensures,
+      ← c .before .attribute-length .ensures,
       eq-eqb _ _ (c .if4 .left),
     )
 
@@ -93,6 +93,6 @@ fault-spec =
     returns-3
     read-u32-requires
     cast-if4
-    read-u64-requires
+    attribute-length-requires
     returns-4
     returns-5)

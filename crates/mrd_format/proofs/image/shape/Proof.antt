@@ -20,8 +20,8 @@ read-u16-requires-4 c κs = search needs
 read-u16-requires-5 : tie.Need-read-u16-requires-5
 read-u16-requires-5 c κs = search needs
 
-read-u64-requires : tie.Need-read-u64-requires
-read-u64-requires c κs = search needs
+attribute-length-requires : tie.Need-attribute-length-requires
+attribute-length-requires c κs = search needs
 
 returns : tie.Need-returns
 unfolding numbers
@@ -34,7 +34,7 @@ returns c =
       c .before .before .before .read-u163 .ensures,
       c .before .before .read-u164 .ensures,
       c .before .read-u165 .ensures,
-      c .read-u64 .ensures,
+      c .attribute-length .ensures,
     )
 
 pub shape-spec : {M : Type 1} → statement M
@@ -46,5 +46,5 @@ shape-spec =
     read-u16-requires-3
     read-u16-requires-4
     read-u16-requires-5
-    read-u64-requires
+    attribute-length-requires
     returns)

@@ -11,11 +11,11 @@ name-length-requires c κs = search needs
 
 returns : tie.Need-returns
 unfolding ownChecks
-returns c = simp (← c .before .name-length .ensures, le-leb _ _ (c .if1 .taken))
+returns c = simp (← c .before .name-length .ensures .0, le-leb _ _ (c .if1 .taken))
 
 returns-2 : tie.Need-returns-2
 unfolding ownChecks
-returns-2 c = simp (← c .before .name-length .ensures, lt-leb _ _ (c .if1 .left))
+returns-2 c = simp (← c .before .name-length .ensures .0, lt-leb _ _ (c .if1 .left))
 
 pub name-fault-spec : {M : Type 1} → statement M
 name-fault-spec = tie.close (tie.spec name-length-requires returns returns-2)

@@ -54,7 +54,7 @@ shape-requires-3 c κs = c .before .before .before .pre ∙ ap fixedSize (c .enu
 
 returns : tie.Need-returns
 unfolding numbersOf
-returns c = let k = c .before .enum-told .given .1 in (sym k, simp (k, c .name-length .ensures))
+returns c = let k = c .before .enum-told .given .1 in (sym k, simp (k, c .name-length .ensures .0))
 
 returns-2 : tie.Need-returns-2
 unfolding numbersOf

@@ -6,6 +6,7 @@ pub mod Acquisition
 pub mod Image
 pub mod Waveform
 pub mod Message
+pub mod KindLaws
 pub mod CheckLaws
 pub mod MessageLaws
 pub mod MaskLaws

@@ -5,7 +5,7 @@ ghost use Prim.Native.Nat.{_<_, _^_};
 ghost use lib.ListN.{length};
 ghost use Rattle.mrd_format.specs.Checks.{first};
 ghost use Rattle.mrd_format.specs.Elements.{elements};
-ghost use Rattle.mrd_format.specs.Acquisition.{layout, get, checks, maskDiffers, onesOf, trajectorySize, channelSize, bodySize, numbers};
+ghost use Rattle.mrd_format.specs.Acquisition.{layout, get, checks, channelsDiffer, discardsExceed, maskDiffers, onesOf, trajectorySize, channelSize, bodySize, numbers};
 ghost use Rattle.mrd_format.specs.Acquisition.{«channel-mask», «active-channels»};
 ghost use Rattle.mrd_format.specs.Shapes.{acquisitionNumbers};
 use crate::refusal;
@@ -40,17 +40,33 @@ pub(crate) fn fault(h: &[u8]) -> u8
     if read_u16(h, VERSION) != 1 {
         return refusal::VERSION;
     }
-    if read_u16(h, AVAILABLE_CHANNELS) < read_u16(h, ACTIVE_CHANNELS) {
+    if channels_differ(h) {
         return refusal::CHANNELS;
     }
-    if mask_differs(h) {
-        return refusal::CHANNELS;
-    }
-    let discarded = (read_u16(h, DISCARD_PRE) as u32) + (read_u16(h, DISCARD_POST) as u32);
-    if (read_u16(h, NUMBER_OF_SAMPLES) as u32) < discarded {
+    if discards_exceed(h) {
         return refusal::DISCARD;
     }
     0
+}
+
+// Whether more channels are active than available, or the mask does not agree.
+fn channels_differ(h: &[u8]) -> bool
+    requires { ⌜ length (now h) ≡ 340 ⌝ }
+    ensures { λ r. ⌜ r ≡ channelsDiffer (now (h .entry)) ⌝ }
+{
+    if read_u16(h, AVAILABLE_CHANNELS) < read_u16(h, ACTIVE_CHANNELS) {
+        return true;
+    }
+    mask_differs(h)
+}
+
+// Whether more samples are discarded than there are.
+fn discards_exceed(h: &[u8]) -> bool
+    requires { ⌜ length (now h) ≡ 340 ⌝ }
+    ensures { λ r. ⌜ r ≡ discardsExceed (now (h .entry)) ⌝ }
+{
+    let discarded = (read_u16(h, DISCARD_PRE) as u32) + (read_u16(h, DISCARD_POST) as u32);
+    (read_u16(h, NUMBER_OF_SAMPLES) as u32) < discarded
 }
 
 // Whether the channel mask isn't all zero and its count of ones differs from the active channels.

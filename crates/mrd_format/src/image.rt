@@ -4,7 +4,7 @@ ghost use mathlib.Core.Path.{_≡_};
 ghost use Prim.Native.Nat.{_<_, _≤_, _^_};
 ghost use lib.ListN.{length};
 ghost use Rattle.mrd_format.specs.Checks.{first};
-ghost use Rattle.mrd_format.specs.Image.{checks, attributeLength, elementSize, pixelCount, bodySize, numbers};
+ghost use Rattle.mrd_format.specs.Image.{checks, typeUnknown, lengthsDiffer, attributeLength, elementSize, pixelCount, bodySize, numbers};
 ghost use Rattle.mrd_format.specs.Sizes.{capped};
 ghost use Rattle.mrd_format.specs.Shapes.{imageNumbers};
 use crate::refusal;
@@ -42,17 +42,33 @@ pub(crate) fn fault(h: &[u8]) -> u8
     if read_u16(h, VERSION) != 1 {
         return refusal::VERSION;
     }
-    let data_type = read_u16(h, DATA_TYPE);
-    if data_type == 0 {
+    if type_unknown(h) {
         return refusal::DATA_TYPE;
     }
-    if 8 < data_type {
-        return refusal::DATA_TYPE;
-    }
-    if (read_u32(h, ATTRIBUTE_STRING_LEN) as u64) != attribute_length(h) {
+    if lengths_differ(h) {
         return refusal::ATTRIBUTE_LENGTH;
     }
     0
+}
+
+// Whether the data type is not one of 1 to 8.
+fn type_unknown(h: &[u8]) -> bool
+    requires { ⌜ length (now h) ≡ 206 ⌝ }
+    ensures { λ r. ⌜ r ≡ typeUnknown (now (h .entry)) ⌝ }
+{
+    let data_type = read_u16(h, DATA_TYPE);
+    if data_type == 0 {
+        return true;
+    }
+    8 < data_type
+}
+
+// Whether the header's attribute length differs from the 8-byte one.
+fn lengths_differ(h: &[u8]) -> bool
+    requires { ⌜ length (now h) ≡ 206 ⌝ }
+    ensures { λ r. ⌜ r ≡ lengthsDiffer (now (h .entry)) ⌝ }
+{
+    (read_u32(h, ATTRIBUTE_STRING_LEN) as u64) != attribute_length(h)
 }
 
 // The bytes of the attributes: the 8-byte length.

@@ -161,7 +161,11 @@ impl Table {
     pub fn whole(&self, header: &[u8], name: &str, i: usize) -> u64 {
         let entry = self.entry(name).expect("an entry of this header");
         assert!(i < entry.count);
-        match read_element(header, entry.offset + i * entry.element.size(), entry.element) {
+        match read_element(
+            header,
+            entry.offset + i * entry.element.size(),
+            entry.element,
+        ) {
             Field::Whole(number) => number,
             other => panic!("{name} is {other:?}, not a whole number"),
         }
@@ -218,10 +222,7 @@ mod tests {
             read_element(&signalling_nan, 0, Type::F32),
             Field::Float(0x7F80_0001)
         );
-        assert_eq!(
-            read_element(&[0xFF; 4], 0, Type::I32),
-            Field::Signed(-1)
-        );
+        assert_eq!(read_element(&[0xFF; 4], 0, Type::I32), Field::Signed(-1));
         assert_eq!(
             read_element(&[0, 0, 0, 0x80], 0, Type::I32),
             Field::Signed(i32::MIN)

@@ -110,7 +110,10 @@ pub fn own_columns(stream: &[u8]) -> Result<(Vec<u64>, Vec<u16>, Vec<u32>), Refu
 
 fn columns_of(stream: &[u8], records: &[Record]) -> (Vec<u64>, Vec<u16>, Vec<u32>) {
     let starts = records.iter().map(|record| record.start).collect();
-    let ids = records.iter().map(|record| record.detail.kind().id()).collect();
+    let ids = records
+        .iter()
+        .map(|record| record.detail.kind().id())
+        .collect();
     let counters = records
         .iter()
         .map(|record| scan_counter(stream, record))

@@ -113,7 +113,9 @@ mod tests {
 
     #[test]
     fn eight_of_all_ids_are_known() {
-        let known: Vec<u16> = (0..=u16::MAX).filter(|&id| Kind::of_id(id).is_some()).collect();
+        let known: Vec<u16> = (0..=u16::MAX)
+            .filter(|&id| Kind::of_id(id).is_some())
+            .collect();
         assert_eq!(known, [1, 2, 3, 4, 5, 1008, 1022, 1026]);
     }
 }

@@ -17,8 +17,12 @@ pub fn listing(input: &[u8]) -> String {
             lines.push_str("record id start bytes\n");
             for record in &records {
                 let id = record.detail.kind().id();
-                writeln!(lines, "{} {} {} {}", record.number, id, record.start, record.size)
-                    .expect("a string takes every line");
+                writeln!(
+                    lines,
+                    "{} {} {} {}",
+                    record.number, id, record.start, record.size
+                )
+                .expect("a string takes every line");
             }
             writeln!(lines, "ok {} records {} bytes", records.len(), input.len())
                 .expect("a string takes every line");

@@ -40,7 +40,11 @@ pub fn field(stream: &[u8], lent: Lent, number: u64, offset: u64) -> Result<Fiel
         .table()
         .and_then(|table| table.element_at(offset));
     match element {
-        Some(element) => Ok(read_element(header_of(stream, &record), offset as usize, element)),
+        Some(element) => Ok(read_element(
+            header_of(stream, &record),
+            offset as usize,
+            element,
+        )),
         None => Err(Refused::Other(20)),
     }
 }
@@ -61,7 +65,9 @@ pub fn find(stream: &[u8], lent: Lent, from: u64, counters: &[u16]) -> Result<u6
 
 /// The seventeen counters of an acquisition header.
 pub fn counters_of(header: &[u8]) -> Vec<u16> {
-    let table = Kind::Acquisition.table().expect("acquisitions have a header");
+    let table = Kind::Acquisition
+        .table()
+        .expect("acquisitions have a header");
     (0..17)
         .map(|i| table.whole(header, "counters", i) as u16)
         .collect()

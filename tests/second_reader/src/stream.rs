@@ -123,7 +123,10 @@ pub struct Content {
 /// The record list of an accepted stream, without any use of the normal form.
 pub fn contents(stream: &[u8]) -> Result<Vec<Content>, Refusal> {
     let records = records(stream)?;
-    Ok(records.iter().map(|record| content(stream, record)).collect())
+    Ok(records
+        .iter()
+        .map(|record| content(stream, record))
+        .collect())
 }
 
 fn content(stream: &[u8], record: &Record) -> Content {

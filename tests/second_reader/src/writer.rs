@@ -108,7 +108,12 @@ fn message_bytes(detail: &Detail, header: &[u8], parts: &Parts) -> Vec<u8> {
         numbers::put(&mut message, 2, 4, parts.text.len() as u64);
     }
     if kind == Kind::Image {
-        numbers::put(&mut message, 2 + header.len(), 8, parts.attributes.len() as u64);
+        numbers::put(
+            &mut message,
+            2 + header.len(),
+            8,
+            parts.attributes.len() as u64,
+        );
     }
     for name in PartName::ALL {
         if let Some((start, length)) = detail.part(name) {

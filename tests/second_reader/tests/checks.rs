@@ -36,7 +36,11 @@ fn check_4_takes_version_1_only() {
         let mut acquisition_bytes = acquisition(&acquisition_header(1, 1, 1));
         let mut image_bytes = image(&image_header([1; 3], 1, 1, 0), &[], &[0; 2]);
         let mut waveform_bytes = waveform_message(&waveform_header(1, 1), &[0; 4]);
-        for bytes in [&mut acquisition_bytes, &mut image_bytes, &mut waveform_bytes] {
+        for bytes in [
+            &mut acquisition_bytes,
+            &mut image_bytes,
+            &mut waveform_bytes,
+        ] {
             put16(bytes, 2, version);
             let expected = if version == 1 { 0 } else { 4 };
             assert_eq!(number(&whole(&[bytes])), expected);
@@ -125,9 +129,8 @@ fn check_9_compares_all_eight_bytes() {
 
 #[test]
 fn check_10_at_the_limit_of_each_kind_with_a_body() {
-    let first_after = |header: Vec<u8>, id: u16, rest: &[u8]| {
-        number(&headed(&[&message(id, &[&header, rest])]))
-    };
+    let first_after =
+        |header: Vec<u8>, id: u16, rest: &[u8]| number(&headed(&[&message(id, &[&header, rest])]));
     let mut header = acquisition_header(0, 0, 0);
     put16(&mut header, 34, 65_535);
     put16(&mut header, 176, 1_024);
@@ -145,9 +148,15 @@ fn check_10_at_the_limit_of_each_kind_with_a_body() {
     let (header, length) = lengths(limit + 1);
     assert_eq!(first_after(header, 1022, &length.to_le_bytes()), 10);
     let header = image_header([1; 3], 1, 1, limit - 2);
-    assert_eq!(first_after(header, 1022, &u64::from(limit - 2).to_le_bytes()), 11);
+    assert_eq!(
+        first_after(header, 1022, &u64::from(limit - 2).to_le_bytes()),
+        11
+    );
     let header = image_header([1; 3], 1, 1, limit - 1);
-    assert_eq!(first_after(header, 1022, &u64::from(limit - 1).to_le_bytes()), 10);
+    assert_eq!(
+        first_after(header, 1022, &u64::from(limit - 1).to_le_bytes()),
+        10
+    );
 }
 
 #[test]
@@ -155,7 +164,13 @@ fn products_that_pass_32_or_64_bits_are_10() {
     // Samples of 2^32 bytes.
     let header = acquisition_header(32_768, 16_384, 0);
     assert_eq!(number(&whole(&[&message(1008, &[&header])])), 10);
-    assert_eq!(number(&whole(&[&message(1026, &[&waveform_header(32_768, 32_768)])])), 10);
+    assert_eq!(
+        number(&whole(&[&message(
+            1026,
+            &[&waveform_header(32_768, 32_768)]
+        )])),
+        10
+    );
     // Pixels of 2^64 bytes, then of 2^32.
     let header = image_header([32_768; 3], 32_768, 8, 0);
     assert_eq!(number(&whole(&[&image(&header, &[], &[])])), 10);

@@ -37,7 +37,11 @@ fn mixed() -> Vec<u8> {
 }
 
 fn starts() -> Vec<u64> {
-    records(&mixed()).unwrap().iter().map(|record| record.start).collect()
+    records(&mixed())
+        .unwrap()
+        .iter()
+        .map(|record| record.start)
+        .collect()
 }
 
 fn at(view: Result<Part, Refused>) -> (u32, u64, u64) {
@@ -52,7 +56,19 @@ fn places_and_kinds() {
         .iter()
         .map(|record| (record.number, record.start, record.size))
         .collect();
-    let sizes = [10, 1_026, 15, 342 + 24 + 48, 208 + 4 + 48, 34 + 24, 342, 208, 34, 6, 2];
+    let sizes = [
+        10,
+        1_026,
+        15,
+        342 + 24 + 48,
+        208 + 4 + 48,
+        34 + 24,
+        342,
+        208,
+        34,
+        6,
+        2,
+    ];
     let mut start = 0;
     for (i, size) in sizes.into_iter().enumerate() {
         assert_eq!(places[i], (i as u64, start, size));
@@ -76,8 +92,14 @@ fn places_and_kinds() {
     };
     assert_eq!(details[5], waveform);
     assert_eq!(details[10], Detail::Close);
-    assert_eq!(kind_and_place(&stream, Lent::NONE, 11), Err(Refused::Other(16)));
-    assert_eq!(kind_and_place(&stream, Lent::NONE, u64::MAX), Err(Refused::Other(16)));
+    assert_eq!(
+        kind_and_place(&stream, Lent::NONE, 11),
+        Err(Refused::Other(16))
+    );
+    assert_eq!(
+        kind_and_place(&stream, Lent::NONE, u64::MAX),
+        Err(Refused::Other(16))
+    );
 }
 
 #[test]
@@ -86,8 +108,14 @@ fn views_lie_where_the_paper_puts_them() {
     let none = Lent::NONE;
     let starts = starts();
     assert_eq!(at(text(&stream, none, 0)), (0, 6, 4));
-    assert_eq!(bytes_of(&stream, text(&stream, none, 2).unwrap()), b"<header/>");
-    assert_eq!(bytes_of(&stream, name(&stream, none, 1).unwrap()), b"default.xml");
+    assert_eq!(
+        bytes_of(&stream, text(&stream, none, 2).unwrap()),
+        b"<header/>"
+    );
+    assert_eq!(
+        bytes_of(&stream, name(&stream, none, 1).unwrap()),
+        b"default.xml"
+    );
     assert_eq!(at(name(&stream, none, 1)), (0, 12, 11));
     assert_eq!(at(trajectory(&stream, none, 3)), (0, starts[3] + 342, 24));
     assert_eq!(at(channel(&stream, none, 3, 0)), (0, starts[3] + 366, 24));
@@ -210,7 +238,12 @@ fn find_takes_all_seventeen_and_starts_at_the_record_asked_for() {
         put16(&mut header, 274, last);
         acquisition(&header)
     };
-    let stream = whole(&[&counted(1, 2), &text_message(5, b""), &counted(1, 3), &counted(1, 2)]);
+    let stream = whole(&[
+        &counted(1, 2),
+        &text_message(5, b""),
+        &counted(1, 3),
+        &counted(1, 2),
+    ]);
     let asked = |step, last| {
         let mut counters = [0; 17];
         counters[0] = step;

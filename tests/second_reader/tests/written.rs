@@ -15,7 +15,10 @@ fn written(id: u16, header: &[u8], parts: &Parts) -> Result<Vec<u8>, u32> {
             Ok(output[3..end as usize].to_vec())
         }
         Err(number) => {
-            assert!(output.iter().all(|&byte| byte == 0xAA), "{number} wrote a byte");
+            assert!(
+                output.iter().all(|&byte| byte == 0xAA),
+                "{number} wrote a byte"
+            );
             Err(number)
         }
     }
@@ -25,11 +28,17 @@ fn written(id: u16, header: &[u8], parts: &Parts) -> Result<Vec<u8>, u32> {
 fn one_message_of_each_kind() {
     let none = Parts::default();
     assert_eq!(written(4, &[], &none), Ok(close()));
-    let parts = Parts { name: b"name", ..none };
+    let parts = Parts {
+        name: b"name",
+        ..none
+    };
     assert_eq!(written(1, &[], &parts), Ok(name_message(b"name", 0)));
     for id in [2, 3, 5] {
         assert_eq!(written(id, &[], &none), Ok(text_message(id, b"")));
-        let parts = Parts { text: b"some text", ..none };
+        let parts = Parts {
+            text: b"some text",
+            ..none
+        };
         assert_eq!(written(id, &[], &parts), Ok(text_message(id, b"some text")));
     }
     let header = acquisition_header(3, 2, 1);
@@ -76,7 +85,16 @@ fn refusals_2_and_3() {
 
 #[test]
 fn refusal_5() {
-    let named = |name: &[u8]| written(1, &[], &Parts { name, ..Parts::default() });
+    let named = |name: &[u8]| {
+        written(
+            1,
+            &[],
+            &Parts {
+                name,
+                ..Parts::default()
+            },
+        )
+    };
     assert_eq!(named(&[b'n'; 1_023]), Ok(name_message(&[b'n'; 1_023], 0)));
     assert_eq!(named(&[b'n'; 1_024]), Err(5));
     assert_eq!(named(b"na\0me"), Err(5));
@@ -95,10 +113,22 @@ fn refusals_6_to_9() {
     assert_eq!(written(1008, &header, &none), Err(7));
     put16(&mut header, 168, 0);
     assert!(written(1008, &header, &none).is_ok());
-    let attributes = Parts { attributes: b"ab", ..none };
-    assert_eq!(written(1022, &image_header([0; 3], 0, 9, 1), &attributes), Err(8));
-    assert_eq!(written(1022, &image_header([0; 3], 0, 8, 1), &attributes), Err(9));
-    assert_eq!(written(1022, &image_header([65_535; 3], 9, 8, 3), &attributes), Err(9));
+    let attributes = Parts {
+        attributes: b"ab",
+        ..none
+    };
+    assert_eq!(
+        written(1022, &image_header([0; 3], 0, 9, 1), &attributes),
+        Err(8)
+    );
+    assert_eq!(
+        written(1022, &image_header([0; 3], 0, 8, 1), &attributes),
+        Err(9)
+    );
+    assert_eq!(
+        written(1022, &image_header([65_535; 3], 9, 8, 3), &attributes),
+        Err(9)
+    );
     assert!(written(1022, &image_header([0; 3], 0, 8, 2), &attributes).is_ok());
 }
 
@@ -106,26 +136,61 @@ fn refusals_6_to_9() {
 fn refusal_10_comes_before_18_and_14() {
     let none = Parts::default();
     let mut nothing = [];
-    assert_eq!(write(1008, &acquisition_header(65_535, 65_535, 0), &none, &mut nothing, 9), Err(10));
-    assert_eq!(write(1026, &waveform_header(65_535, 65_535), &none, &mut nothing, 9), Err(10));
+    assert_eq!(
+        write(
+            1008,
+            &acquisition_header(65_535, 65_535, 0),
+            &none,
+            &mut nothing,
+            9
+        ),
+        Err(10)
+    );
+    assert_eq!(
+        write(
+            1026,
+            &waveform_header(65_535, 65_535),
+            &none,
+            &mut nothing,
+            9
+        ),
+        Err(10)
+    );
     let header = image_header([32_768; 3], 32_768, 8, 0);
     assert_eq!(write(1022, &header, &none, &mut nothing, 9), Err(10));
     let long = vec![0; 268_435_451];
     for id in [2, 3, 5] {
-        let parts = Parts { text: &long, pixels: &[1], ..none };
+        let parts = Parts {
+            text: &long,
+            pixels: &[1],
+            ..none
+        };
         assert_eq!(write(id, &[], &parts, &mut nothing, 0), Err(10));
         // At the limit the wrong part shows, then the missing output.
-        let parts = Parts { text: &long[1..], pixels: &[1], ..none };
+        let parts = Parts {
+            text: &long[1..],
+            pixels: &[1],
+            ..none
+        };
         assert_eq!(write(id, &[], &parts, &mut nothing, 0), Err(18));
-        let parts = Parts { text: &long[1..], ..none };
+        let parts = Parts {
+            text: &long[1..],
+            ..none
+        };
         assert_eq!(write(id, &[], &parts, &mut nothing, 0), Err(14));
     }
     let most = 268_435_456 - 208;
     let header = image_header([0; 3], 0, 1, most + 1);
-    let parts = Parts { attributes: &long[..most as usize + 1], ..none };
+    let parts = Parts {
+        attributes: &long[..most as usize + 1],
+        ..none
+    };
     assert_eq!(write(1022, &header, &parts, &mut nothing, 0), Err(10));
     let header = image_header([0; 3], 0, 1, most);
-    let parts = Parts { attributes: &long[..most as usize], ..none };
+    let parts = Parts {
+        attributes: &long[..most as usize],
+        ..none
+    };
     assert_eq!(write(1022, &header, &parts, &mut nothing, 0), Err(14));
 }
 
@@ -168,15 +233,26 @@ fn refusal_18_for_each_part_of_each_kind() {
     }
     // Parts whose sum is right and whose own lengths are not.
     let header = acquisition_header(1, 1, 1);
-    let parts = Parts { trajectory: &[0; 8], samples: &[0; 4], ..Parts::default() };
+    let parts = Parts {
+        trajectory: &[0; 8],
+        samples: &[0; 4],
+        ..Parts::default()
+    };
     assert_eq!(written(1008, &header, &parts), Err(18));
-    let parts = Parts { trajectory: &[0; 4], samples: &[0; 8], ..Parts::default() };
+    let parts = Parts {
+        trajectory: &[0; 4],
+        samples: &[0; 8],
+        ..Parts::default()
+    };
     assert!(written(1008, &header, &parts).is_ok());
 }
 
 #[test]
 fn refusal_14_by_output_and_position() {
-    let parts = Parts { text: b"abc", ..Parts::default() };
+    let parts = Parts {
+        text: b"abc",
+        ..Parts::default()
+    };
     let at = |length: usize, position: u64| {
         let mut output = vec![0; length];
         write(5, &[], &parts, &mut output, position)
@@ -213,8 +289,15 @@ fn normal_form_refuses_the_stream_then_the_output() {
     let mut output = vec![7; stream.len() - 1];
     assert_eq!(normal_form(&stream, &mut output), Err(Refused::Other(14)));
     assert!(output.iter().all(|&byte| byte == 7));
-    let refusal = Refusal { number: 13, record: 1, byte: 9 };
-    assert_eq!(normal_form(&stream[..9], &mut []), Err(Refused::Stream(refusal)));
+    let refusal = Refusal {
+        number: 13,
+        record: 1,
+        byte: 9,
+    };
+    assert_eq!(
+        normal_form(&stream[..9], &mut []),
+        Err(Refused::Stream(refusal))
+    );
 }
 
 #[test]
@@ -254,7 +337,10 @@ fn columns_hold_start_id_and_counter() {
     let mut starts = [9; 6];
     let mut ids = [9; 7];
     let mut counters = [9; 5];
-    assert_eq!(fill_columns(&stream, &mut starts, &mut ids, &mut counters), Ok(5));
+    assert_eq!(
+        fill_columns(&stream, &mut starts, &mut ids, &mut counters),
+        Ok(5)
+    );
     assert_eq!(starts, [0, 6, 348, 556, 590, 9]);
     assert_eq!(ids, [3, 1008, 1022, 1026, 4, 9, 9]);
     assert_eq!(counters, [0, 0x0102_0304, 0, 0xFFFF_FFFF, 0]);
@@ -286,7 +372,10 @@ fn index_file_refuses_the_stream_then_the_output() {
     let mut output = vec![3; size - 1];
     assert_eq!(write_index(&stream, &mut output), Err(Refused::Other(14)));
     assert!(output.iter().all(|&byte| byte == 3));
-    assert_eq!(write_index(&stream[..6], &mut output).unwrap_err().number(), 13);
+    assert_eq!(
+        write_index(&stream[..6], &mut output).unwrap_err().number(),
+        13
+    );
 }
 
 #[test]
@@ -313,7 +402,11 @@ fn lent_columns_may_be_longer_but_not_shorter_or_different() {
         second_reader::agrees(&stream, Lent::columns(starts, ids, counters)).unwrap()
     };
     assert!(agrees(&starts, &ids, &counters));
-    assert!(agrees(&[&starts[..], &[1, 2]].concat(), &[&ids[..], &[7]].concat(), &counters));
+    assert!(agrees(
+        &[&starts[..], &[1, 2]].concat(),
+        &[&ids[..], &[7]].concat(),
+        &counters
+    ));
     assert!(!agrees(&starts[..4], &ids, &counters));
     assert!(!agrees(&starts, &ids[..4], &counters));
     assert!(!agrees(&starts, &ids, &counters[..4]));
@@ -331,7 +424,15 @@ fn lent_columns_may_be_longer_but_not_shorter_or_different() {
     // Both forms lent at once must both agree.
     let file = index_bytes(&stream).unwrap();
     let columns = Lent::columns(&starts, &ids, &counters).columns;
-    let both = |file| second_reader::agrees(&stream, Lent { file: Some(file), columns });
+    let both = |file| {
+        second_reader::agrees(
+            &stream,
+            Lent {
+                file: Some(file),
+                columns,
+            },
+        )
+    };
     assert_eq!(both(&file), Ok(true));
     assert_eq!(both(&file[1..]), Ok(false));
 }

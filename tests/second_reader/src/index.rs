@@ -13,6 +13,9 @@ pub struct Columns<'a> {
     pub counters: &'a [u32],
 }
 
+/// The three columns of a stream's own index: start, id and counter.
+pub type OwnColumns = (Vec<u64>, Vec<u16>, Vec<u32>);
+
 /// The index lent with a question. `None` is no index, which is not the same as an empty one.
 /// With both forms lent, both must agree.
 #[derive(Clone, Copy, Debug, Default)]
@@ -104,11 +107,11 @@ pub fn write_index(stream: &[u8], output: &mut [u8]) -> Result<u64, Refused> {
 }
 
 /// The three columns of an accepted stream.
-pub fn own_columns(stream: &[u8]) -> Result<(Vec<u64>, Vec<u16>, Vec<u32>), Refusal> {
+pub fn own_columns(stream: &[u8]) -> Result<OwnColumns, Refusal> {
     Ok(columns_of(stream, &records(stream)?))
 }
 
-fn columns_of(stream: &[u8], records: &[Record]) -> (Vec<u64>, Vec<u16>, Vec<u32>) {
+fn columns_of(stream: &[u8], records: &[Record]) -> OwnColumns {
     let starts = records.iter().map(|record| record.start).collect();
     let ids = records
         .iter()

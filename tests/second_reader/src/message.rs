@@ -147,7 +147,7 @@ impl Detail {
 pub fn element_size(data_type: u16) -> Option<u128> {
     match data_type {
         1 | 2 => Some(2),
-        3 | 4 | 5 => Some(4),
+        3..=5 => Some(4),
         6 | 7 => Some(8),
         8 => Some(16),
         _ => None,

@@ -33,7 +33,7 @@ pub fn refused_with(rng: &mut Rng, number: u32) -> Vec<u8> {
     let mut stream = joined(&opening(rng, headed));
     let faulty = match number {
         1 => {
-            let byte = rng.next() as u8;
+            let byte = rng.number() as u8;
             return [stream, vec![byte]].concat();
         }
         2 => unknown_id(rng).to_le_bytes().to_vec(),
@@ -69,7 +69,7 @@ pub fn unknown_id(rng: &mut Rng) -> u16 {
         let id = match rng.below(3) {
             0 => rng.pick(&[0, 6, 7, 1007, 1009, 1021, 1023, 1025, 1027, 65_535]),
             1 => rng.pick(&Kind::ALL).id().swap_bytes(),
-            _ => rng.next() as u16,
+            _ => rng.number() as u16,
         };
         if Kind::of_id(id).is_none() {
             return id;
@@ -168,7 +168,7 @@ fn wrong_data_type(rng: &mut Rng) -> Vec<u8> {
     let data_type = rng.pick(&[0, 9, 10, 16, 255, 256, 257, 264, 65_535]);
     message.set("data_type", 0, data_type);
     if rng.one_in(2) {
-        let length = rng.next();
+        let length = rng.number();
         message.set("attribute_string_len", 0, length);
     }
     message.bytes()
@@ -197,8 +197,8 @@ fn different_attribute_lengths(rng: &mut Rng) -> Vec<u8> {
 
 fn set_image_sizes(message: &mut Message, sizes: [u64; 4], data_type: u64) {
     message.set("data_type", 0, data_type);
-    for i in 0..3 {
-        message.set("matrix_size", i, sizes[i]);
+    for (i, &size) in sizes[..3].iter().enumerate() {
+        message.set("matrix_size", i, size);
     }
     message.set("channels", 0, sizes[3]);
 }
@@ -485,7 +485,7 @@ fn damage_bytes(rng: &mut Rng, damage: usize, bytes: &mut Vec<u8>) {
         9 => {
             bytes.remove(any);
         }
-        10 => bytes.insert(any, rng.next() as u8),
+        10 => bytes.insert(any, rng.number() as u8),
         _ => {
             let length = rng.size(400) as usize;
             *bytes = rng.bytes(length);
@@ -509,7 +509,7 @@ fn boundary(rng: &mut Rng, width: usize, now: u64) -> u64 {
         4 => top / 2 + 1,
         5 => now.wrapping_add(1) & top,
         6 => now.wrapping_sub(1) & top,
-        _ => rng.next() & top,
+        _ => rng.number() & top,
     }
 }
 

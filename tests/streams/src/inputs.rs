@@ -256,7 +256,7 @@ pub fn lent_columns(rng: &mut Rng, stream: &[u8]) -> Vec<LentColumns> {
     long.what = "longer";
     let more = rng.size(20) as usize;
     long.starts.extend((0..more).map(|i| i as u64));
-    long.ids.push(rng.next() as u16);
+    long.ids.push(rng.number() as u16);
     let mut empty = own.clone();
     empty.what = "empty";
     empty.right = false;
@@ -326,12 +326,12 @@ pub fn counters(rng: &mut Rng, stream: &[u8]) -> Vec<u16> {
 pub fn counter_pair(rng: &mut Rng) -> (u32, u32) {
     let earlier = match rng.below(3) {
         0 => rng.pick(&[0, 1, 1 << 31, u32::MAX - 1, u32::MAX]),
-        _ => rng.next() as u32,
+        _ => rng.number() as u32,
     };
     let step = match rng.below(3) {
         0 => rng.pick(&[0, 1, 2, 1 << 31, (1 << 31) - 1, (1 << 31) + 1, u32::MAX]),
         1 => rng.below(10) as u32,
-        _ => rng.next() as u32,
+        _ => rng.number() as u32,
     };
     (earlier, earlier.wrapping_add(step))
 }

@@ -263,8 +263,8 @@ pub fn image(rng: &mut Rng, most: u64) -> Message {
             room /= (*size).max(1);
         }
     }
-    for i in 0..3 {
-        message.set("matrix_size", i, sizes[i]);
+    for (i, &size) in sizes[..3].iter().enumerate() {
+        message.set("matrix_size", i, size);
     }
     message.set("channels", 0, sizes[3]);
     let attributes = rng.size(most.min(600));

@@ -235,7 +235,7 @@ fn questions_are_answered_and_refused() {
             }
         }
         let n = flag(&mut rng);
-        let flags = rng.next();
+        let flags = rng.number();
         assert_eq!(flag_is_set(flag_set(flags, n), n), (1..=64).contains(&n));
         assert!(!flag_is_set(flag_cleared(flags, n), n));
         let (earlier, later) = counter_pair(&mut rng);

@@ -13,5 +13,7 @@ pub mod Sizes
 pub mod SizeLaws
 pub mod Shapes
 pub mod Content
+pub mod NormalLaws
+pub mod KindLaws
 pub mod Flags
 pub mod Counters

@@ -1,0 +1,5 @@
+pub mod Headers
+pub mod Written
+pub mod Messages
+pub mod Normal
+pub mod Demands

@@ -3,10 +3,9 @@
 use Prim.Native.Nat.{ℕ, zero, suc, _+_, _-_, _*_, _≤_, _<_}
 use native.Mathlib.Nat.{zero-mul, le-of-eq}
 use native.Mathlib.Omega.{arith}
-use mathlib.Core.Path.{_≡_, refl, sym, ap, ap₂, _∙_}
+use mathlib.Core.Path.{_≡_, sym, ap, ap₂, _∙_}
 use mathlib.Core.Bool.{true}
 use mathlib.Core.List.{List, [], _∷_, _++_, map, append-nil, append-assoc}
-use borrow.Author.Tests.{leb-false}
 use lib.ListN.{length, take, drop, replicate, length-drop, take-append-drop, drop-of-length-le}
 use lib.Seq.{length-take-le, take-all, take-take, take-add, drop-drop}
 use Rattle.mrd_numbers.specs.Little.{toBytes, num, Bytes}
@@ -16,12 +15,11 @@ use Rattle.mrd_format.specs.declared.kind.Kind.the-variants.{ConfigurationName,
 use Rattle.mrd_format.specs.Kinds.{idOf}
 use Rattle.mrd_format.specs.KindLaws.{identified-id}
 use Rattle.mrd_format.specs.Elements.{Run, values}
-use Rattle.mrd_format.specs.CheckLaws.{first-passed}
 use Rattle.mrd_format.specs.Checks.{first}
 use Rattle.mrd_format.specs.Message.{idAt, fixedPart, nameLength, textLength, ownChecks, bodySize, sizeOf, WellFormed}
 use Rattle.mrd_format.specs.MessageLaws.{well-least}
 use Rattle.mrd_format.specs.Content.{Record, extentsFrom, partOf, extents, fieldsOf, recordOf, normalOf}
-use Rattle.mrd_format.specs.NormalLaws.{nameBytes, filled, name-normal}
+use Rattle.mrd_format.specs.NormalLaws.{nameBytes, filled, name-short, name-normal}
 use Rattle.mrd_format.specs.Acquisition as acquisition
 use Rattle.mrd_format.specs.Image as image
 use Rattle.mrd_format.specs.Waveform as waveform
@@ -144,10 +142,9 @@ id-then {m} e = rw e (take-append-drop 2 m)
 -- the id, then what a record writes after it, is the message's normal form
 content-written : (k : Kind) (m : List ℕ) → Bytes m → first (ownChecks k (fixedPart k m)) ≡ 0 → sizeOf k (fixedPart k m) ≡ length m →
     take 2 m ++ contentOf k (fieldsOf k (fixedPart k m)) (map (partOf m) (extents k (fixedPart k m))) ≡ normalOf k m
-unfolding normalOf fixedPart fieldsOf extents ownChecks sizeOf bodySize
+unfolding normalOf fixedPart fieldsOf extents sizeOf bodySize
 content-written ConfigurationName m b sound whole =
-    let passed = first-passed (ownChecks ConfigurationName (nameBytes m)) refl sound in
-    let short = leb-false 1024 (nameLength (nameBytes m)) (passed .0) in
+    let short = name-short m sound in
     ap (λ (x : List ℕ). take 2 m ++ x) (name-content m (sym whole) short) ∙ sym (name-normal m (sym whole) short)
 content-written ConfigurationText m b sound whole = id-then (text-content m b whole)
 content-written HeaderText m b sound whole = id-then (text-content m b whole)

@@ -68,6 +68,12 @@ unchanged k m e = record { long = rw e; id = rw e; checks = rw e; size = rw e; s
 abbrev pub nameBytes : List ℕ → List ℕ
 nameBytes m = fixedPart ConfigurationName m
 
+-- check 5 passed: a zero is among them
+pub name-short : (m : List ℕ) → first (ownChecks ConfigurationName (nameBytes m)) ≡ 0 → nameLength (nameBytes m) < 1024
+unfolding ownChecks
+name-short m sound =
+    leb-false 1024 (nameLength (nameBytes m)) (first-passed (ownChecks ConfigurationName (nameBytes m)) refl sound .0)
+
 -- a whole configuration name, a zero among its bytes
 module _ (m : List ℕ) (whole : length m ≡ 1026) (short : nameLength (nameBytes m) < 1024) where
   name-long : length (nameBytes m) ≡ 1024
@@ -131,10 +137,8 @@ module _ (m : List ℕ) (whole : length m ≡ 1026) (short : nameLength (nameByt
 
 -- this holds of the normal form of every message of kind k that passes its own checks and has its size
 normalised : (k : Kind) (m : List ℕ) → first (ownChecks k (fixedPart k m)) ≡ 0 → sizeOf k (fixedPart k m) ≡ length m → Normalised k m
-unfolding normalOf ownChecks sizeOf bodySize
-normalised ConfigurationName m sound whole =
-    let passed = first-passed (ownChecks ConfigurationName (nameBytes m)) refl sound in
-    name-normalised m (sym whole) (leb-false 1024 (nameLength (nameBytes m)) (passed .0))
+unfolding normalOf sizeOf bodySize
+normalised ConfigurationName m sound whole = name-normalised m (sym whole) (name-short m sound)
 normalised ConfigurationText m sound whole = unchanged ConfigurationText m refl
 normalised HeaderText m sound whole = unchanged HeaderText m refl
 normalised Close m sound whole = unchanged Close m refl

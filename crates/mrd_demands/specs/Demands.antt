@@ -21,7 +21,7 @@ use Rattle.mrd_demands.specs.Written.{bytesOf}
 use Rattle.mrd_demands.specs.Messages.{recordsIn}
 use Rattle.mrd_demands.specs.Normal.{accepted-again, normal-long, normal-records, normal-own, normal-written, records-cut}
 
--- ACCEPTED EXACTLY
+-- Demand 2: accepted exactly
 
 -- a stream is accepted, with the count n, exactly when it has a cut into n well-formed messages, at most 1,000,000, in order, the last a close
 pub accepted-exactly : (s : List ℕ) (n : ℕ) → (answer s ≡ accepted n) ↔ ((a : Acceptable s) × (length (a .cut .pieces) ≡ n))
@@ -44,7 +44,7 @@ places-are-the-cut = places-cut
 pub records-are-the-cut : (s : List ℕ) (n : ℕ) → answer s ≡ accepted n → (c : Cut s) → records s ≡ recordsIn (c .pieces) (c .well)
 records-are-the-cut s n e c = records-cut s e c
 
--- ONE MEANING, ONE SET OF BYTES
+-- Demand 3: one meaning, one set of bytes
 
 -- two accepted streams of bytes have the same normal form exactly when they have the same records
 pub normal-iff-records : (s t : List ℕ) (m n : ℕ) → Bytes s → Bytes t → answer s ≡ accepted m → answer t ≡ accepted n →

@@ -3,3 +3,4 @@ pub mod Written
 pub mod Messages
 pub mod Normal
 pub mod Demands
+pub mod Examples

@@ -13,7 +13,7 @@ use Rattle.mrd_numbers.specs.ByteLaws.{bytes-take, bytes-drop, write-num}
 use Rattle.mrd_format.specs.declared.kind.Kind.{Kind}
 use Rattle.mrd_format.specs.declared.kind.Kind.the-variants.{ConfigurationName, ConfigurationText, HeaderText, Close, Text, Acquisition, Image, Waveform}
 use Rattle.mrd_format.specs.Kinds.{idOf}
-use Rattle.mrd_format.specs.KindLaws.{identified-id}
+use Rattle.mrd_format.specs.IdLaws.{known-id}
 use Rattle.mrd_format.specs.Elements.{Run, values}
 use Rattle.mrd_format.specs.Checks.{first}
 use Rattle.mrd_format.specs.Message.{idAt, fixedPart, nameLength, textLength, ownChecks, bodySize, sizeOf, WellFormed}
@@ -159,6 +159,6 @@ pub record-writes : (m : List ℕ) → Bytes m → (w : WellFormed m) → bytesO
 unfolding recordOf
 record-writes m b w =
     let two : 0 + 2 ≤ length m = omega (arith, well-least m w) in
-    let id : toBytes 2 (idOf (w .kind)) ≡ take 2 m = ap (toBytes 2) (sym (identified-id (idAt m) (w .known))) ∙ write-num 2 m 0 b two in
+    let id : toBytes 2 (idOf (w .kind)) ≡ take 2 m = ap (toBytes 2) (sym (known-id (idAt m) (w .known))) ∙ write-num 2 m 0 b two in
     let r = recordOf (w .kind) m in
     ap (λ (x : List ℕ). x ++ contentOf (r .kind) (r .fields) (r .parts)) id ∙ content-written (w .kind) m b (w .sound) (w .whole)

@@ -14,6 +14,6 @@ pub mod SizeLaws
 pub mod Shapes
 pub mod Content
 pub mod NormalLaws
-pub mod KindLaws
+pub mod IdLaws
 pub mod Flags
 pub mod Counters

@@ -23,6 +23,6 @@ lookup-id (j ∷ ks) id {k} e = here (eqb id (idOf j)) refl e (lookup-id ks id)
     here false t e later = later e
 
 -- an id that the table gives a kind is that kind's
-pub identified-id : (id : ℕ) {k : Kind} → identified id ≡ Known k → id ≡ idOf k
+pub known-id : (id : ℕ) {k : Kind} → identified id ≡ Known k → id ≡ idOf k
 unfolding identified
-identified-id id e = lookup-id kinds id e
+known-id id e = lookup-id kinds id e

@@ -14,5 +14,7 @@ pub mod Sizes
 pub mod SizeLaws
 pub mod Shapes
 pub mod Content
+pub mod NormalLaws
+pub mod IdLaws
 pub mod Flags
 pub mod Counters

@@ -1,2 +1,4 @@
 pub mod Little
 pub mod Laws
+pub mod WriteLaws
+pub mod ByteLaws

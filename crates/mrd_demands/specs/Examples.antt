@@ -18,6 +18,8 @@ abbrev pub named : ℕ → List ℕ
 named filler = 1 ∷ 0 ∷ 97 ∷ 0 ∷ filler ∷ replicate 1021 0 ++ (4 ∷ 0 ∷ [])
 
 pub filler-is-no-meaning :
-    (answer (named 7) ≡ accepted 2) × (answer (named 0) ≡ accepted 2) × (records (named 7) ≡ records (named 0)) × (normal (named 7) ≡ named 0)
+    (answer (named 7) ≡ accepted 2) ×
+    (answer (named 0) ≡ accepted 2) × (records (named 7) ≡ records (named 0)) ×
+    (normal (named 7) ≡ named 0)
 unfolding answer trace walk judge judgeAs checksAs earlyChecks lateChecks ended identified num fixedPart nameLength indexOf indexAfter ownChecks bodySize sizeOf records recordOf fieldsOf extents normal normalOf
 filler-is-no-meaning = (refl, refl, refl, refl)

@@ -53,7 +53,11 @@ elements-written zero w at h ws vs b fits = rw zero-mul
 elements-written (suc n) w at h ws vs b fits =
     let size : suc n * w ≡ n * w + w = suc-mul n w in
     let later = elements-written n w (at + w) h ws vs b (omega arith) in
-    rw (take-parts n w at h, write-num w h at b (omega arith), later) (sym (append-assoc (take w (drop at h)) (take (n * w) (drop (at + w) h)) (written ws vs)))
+    rw (
+      take-parts n w at h,
+      write-num w h at b (omega arith),
+      later,
+    ) (sym (append-assoc (take w (drop at h)) (take (n * w) (drop (at + w) h)) (written ws vs)))
 
 -- the two tests of a packed table
 packed-parts : (at end : ℕ) (r : Run) (rs : List Run) → packed at end (r ∷ rs) ≡ true →

@@ -59,7 +59,9 @@ normals-kinds [] w = refl
 normals-kinds (m ∷ ms) w = ap (λ (ks : List Kind). w .0 .kind ∷ ks) (normals-kinds ms (w .1))
 
 -- what is found in each message's normal form as in the message is found in all of them
-normals-each : {A : Type 0} (f : Kind → List ℕ → A) → ((m : List ℕ) (w : WellFormed m) → f (w .kind) (normalOf (w .kind) m) ≡ f (w .kind) m) →
+normals-each : {A : Type 0}
+    (f : Kind → List ℕ → A) →
+    ((m : List ℕ) (w : WellFormed m) → f (w .kind) (normalOf (w .kind) m) ≡ f (w .kind) m) →
     (ms : List (List ℕ)) (w : Every WellFormed ms) → eachIn f (normalsIn ms w) (normals-well ms w) ≡ eachIn f ms w
 normals-each f e [] w = refl
 normals-each f e (m ∷ ms) w = rw (e m (w .0), normals-each f e ms (w .1))

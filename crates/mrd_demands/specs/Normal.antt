@@ -57,7 +57,13 @@ module _ (s : List ℕ) {n : ℕ} (e : answer s ≡ accepted n) where
 
   -- the normal forms of its messages are a cut of the normal form
   abbrev normalised : Cut (normal s)
-  normalised = record { pieces = normalsIn (its .pieces) (its .well); well = normals-well (its .pieces) (its .well); whole = sym (normal-cut s e its) }
+  normalised = record {
+    pieces = normalsIn
+        (its .pieces) (its .well);
+    well = normals-well (its .pieces) (its .well);
+    whole = sym
+        (normal-cut s e its);
+  }
 
   -- the normal form is accepted, with the same count
   pub accepted-again : answer (normal s) ≡ accepted n

@@ -94,7 +94,9 @@ module _ (m : List ℕ) (b : Bytes m) where
       (then-body m b 4 z whole (toBytes 4 z) (write-num 4 h 0 (fixed-bytes m b 4 z whole) four ∙ take-take 4 4 (drop 2 m) (omega arith)))
 
   acquisition-content : sizeOf Acquisition (fixedPart Acquisition m) ≡ length m →
-      contentOf Acquisition (fieldsOf Acquisition (fixedPart Acquisition m)) (map (partOf m) (extents Acquisition (fixedPart Acquisition m))) ≡
+      contentOf Acquisition
+      (fieldsOf Acquisition (fixedPart Acquisition m))
+      (map (partOf m) (extents Acquisition (fixedPart Acquisition m))) ≡
       drop 2 m
   unfolding sizeOf bodySize fixedPart fieldsOf extents acquisition.bodySize
   acquisition-content whole =

@@ -18,7 +18,9 @@ lookup-id : (ks : List Kind) (id : ℕ) {k : Kind} → lookup ks id ≡ Known k 
 lookup-id [] id e = absurd (known-not-unknown e)
 lookup-id (j ∷ ks) id {k} e = here (eqb id (idOf j)) refl e (lookup-id ks id)
   where
-    here : (b : Bool) → eqb id (idOf j) ≡ b → pick b (Known j) (lookup ks id) ≡ Known k → (lookup ks id ≡ Known k → id ≡ idOf k) → id ≡ idOf k
+    here :
+        (b : Bool) → eqb id (idOf j) ≡ b → pick b (Known j) (lookup ks id) ≡ Known k →
+        (lookup ks id ≡ Known k → id ≡ idOf k) → id ≡ idOf k
     here true t e later = let same : j ≡ k = cc in eqb-true id (idOf j) t ∙ ap idOf same
     here false t e later = later e
 

@@ -125,7 +125,9 @@ pub(crate) fn body_size(h: &[u8]) -> usize
     requires { ⌜ length (now h) ≡ 340 ⌝ }
     ensures { λ r. ⌜ (r ≡ bodySize (now (h .entry))) × (r < 2 ^ 40) ⌝ }
 {
-    trajectory_size(h) + active_channels(h) * channel_size(h)
+    let samples = read_u16(h, NUMBER_OF_SAMPLES);
+    let channels = product(read_u16(h, ACTIVE_CHANNELS), samples) * 8;
+    trajectory_size(h) + channels as usize
 }
 
 // The header's own numbers.

@@ -30,7 +30,12 @@ zeroed-none o = record { within = omega arith; long = refl; holds = fill-none o 
 pub zeroed-more : {o out : List ℕ} {i : ℕ} → Zeroed o i out → i < length out → Zeroed o (i + 1) (set out i 0)
 zeroed-more {o} {out} {i} z h =
     let room : i < length o = omega (arith, z .long) in
-    record { within = omega arith; long = length-set out i 0 ∙ z .long; holds = ap (λ (l : List ℕ). set l i 0) (z .holds) ∙ fill-more i 0 o room }
+    record {
+      within = omega arith;
+      long = length-set out i 0 ∙ z .long;
+      holds = ap
+          (λ (l : List ℕ). set l i 0) (z .holds) ∙ fill-more i 0 o room;
+    }
 
 pub zeroed-all : {o out : List ℕ} {i : ℕ} → Zeroed o i out → length out ≤ i → out ≡ replicate (length o) 0
 zeroed-all {o} {out} {i} z h =
@@ -82,7 +87,8 @@ pub record Turn (s : List ℕ) (c : Cursor) (out : List ℕ) (r : Record) (d : C
   pub fits : f ≤ d .start
   pub room : d .start ≤ length out
 
-pub turn : {s o out : List ℕ} {c d : Cursor} (r : Record) {f : ℕ} → Clearing s o c out → step c s ≡ handed (toldRecord r) d → f ≡ fillerOf (r .shape) →
+pub turn : {s o out : List ℕ} {c d : Cursor}
+    (r : Record) {f : ℕ} → Clearing s o c out → step c s ≡ handed (toldRecord r) d → f ≡ fillerOf (r .shape) →
     Turn s c out r d f
 turn {s} {o} {out} {c} {d} r {f} h e q =
     let p = step-handed c s e in
@@ -110,7 +116,9 @@ module _ (a m b : List ℕ) (f : ℕ) (within : f ≤ length m) where
   made-zero e q = rw (q, before-filler, after-filler) (simp append-assoc)
 
 -- the f bytes before e lent on, made zero, and back in their place
-module _ (e f : ℕ) (xs ys : List ℕ) (fits : f ≤ e) (room : e ≤ length xs) (zeros : ys ≡ replicate (length (midOf (e - f) (e - (e - f)) xs)) 0) where
+module _
+    (e f : ℕ) (xs ys : List ℕ) (fits : f ≤ e) (room : e ≤ length xs)
+    (zeros : ys ≡ replicate (length (midOf (e - f) (e - (e - f)) xs)) 0) where
   back : putMid (e - f) (e - (e - f)) xs ys ≡ take (e - f) xs ++ (replicate f 0 ++ drop e xs)
   back =
       let some : length (midOf (e - f) (e - (e - f)) xs) ≡ f = mid-len (e - f) e xs room ∙ omega arith in

@@ -67,7 +67,8 @@ filled-as (Image s) m told sound whole = unfilled Kind.Image m refl
 filled-as (Waveform s) m told sound whole = unfilled Kind.Waveform m refl
 
 -- the filler that a message's record tells
-pub told-filler : {c d : Cursor} {s : List ℕ} (r : Record) (p : Passes c s (toldRecord r) d) → Filled (p .kind) (p .bytes) (fillerOf (r .shape))
+pub told-filler : {c d : Cursor} {s : List ℕ}
+    (r : Record) (p : Passes c s (toldRecord r) d) → Filled (p .kind) (p .bytes) (fillerOf (r .shape))
 told-filler {c} r p =
     let m = p .bytes in
     let l : toldRecord r ≡ located c (p .kind) m = p .place in

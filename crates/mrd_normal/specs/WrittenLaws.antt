@@ -41,10 +41,19 @@ module _ (s o : List ℕ) {n : ℕ} (e : answer s ≡ accepted n) where
     pub copied : {c : List ℕ} → c ≡ take (length s) s ++ drop (length s) o → Copied s c
     copied {c} q =
         let whole : c ≡ s ++ drop (length s) o = q ∙ rw take-length in
-        record { count = n; passed = e; room = rw (whole, length-append s) (omega arith); front = rw whole (take-append-seam s (drop (length s) o)) }
+        record {
+          count = n;
+          passed = e;
+          room = rw (
+            whole,
+            length-append s,
+          ) (omega arith);
+          front = rw whole (take-append-seam s (drop (length s) o));
+        }
 
     -- and then cleared
-    pub all-written : {k : ℕ} {c out : List ℕ} → k ≡ length s → c ≡ take (length s) s ++ drop (length s) o → out ≡ normal s ++ drop (length s) c →
+    pub all-written : {k : ℕ} {c out : List ℕ} → k ≡ length s → c ≡ take
+        (length s) s ++ drop (length s) o → out ≡ normal s ++ drop (length s) c →
         Answered s o (written k) out
     all-written {k} {c} {out} size q p =
         let whole : c ≡ s ++ drop (length s) o = q ∙ rw take-length in

@@ -29,4 +29,5 @@ unfolding num
 write-num w s i b fits =
     let room : w ≤ length (drop i s) = simp length-drop (omega arith) in
     let part = take w (drop i s) in
-    ap (λ (n : ℕ). toBytes n (fromBytes part)) (sym (length-take-le w (drop i s) room)) ∙ to-from part (bytes-take w (drop i s) (bytes-drop i s b))
+    ap (λ (n : ℕ). toBytes n (fromBytes part))
+    (sym (length-take-le w (drop i s) room)) ∙ to-from part (bytes-take w (drop i s) (bytes-drop i s b))

@@ -31,21 +31,21 @@ abbrev pub offsetOf : Reach → ℕ
 offsetOf (lies e) = e .offset
 offsetOf lacks = 0
 
-abbrev pub where′ : Bool → Extent → Reach
-where′ true e = lies e
-where′ false e = lacks
+abbrev pub liesIf : Bool → Extent → Reach
+liesIf true e = lies e
+liesIf false e = lacks
 
 -- the part of a message of kind k with the fixed part h. A text is that of ids 2, 3 and 5; 'channel c starts c x samples x 8 bytes into the data'
 unfoldable pub extentOf : Part → Kind → List ℕ → Reach
-extentOf Name k h = where′ (eqb (idOf k) 1) (extent 2 (nameLength h))
-extentOf Text k h = where′ (eqb (idOf k) 2 || eqb (idOf k) 3 || eqb (idOf k) 5) (extent 6 (textLength h))
-extentOf Attributes k h = where′ (eqb (idOf k) 1022) (extent 208 (image.attributeLength h))
-extentOf Trajectory k h = where′ (eqb (idOf k) 1008) (extent 342 (acquisition.trajectorySize h))
+extentOf Name k h = liesIf (eqb (idOf k) 1) (extent 2 (nameLength h))
+extentOf Text k h = liesIf (eqb (idOf k) 2 || eqb (idOf k) 3 || eqb (idOf k) 5) (extent 6 (textLength h))
+extentOf Attributes k h = liesIf (eqb (idOf k) 1022) (extent 208 (image.attributeLength h))
+extentOf Trajectory k h = liesIf (eqb (idOf k) 1008) (extent 342 (acquisition.trajectorySize h))
 extentOf (Channel c) k h =
-    where′ (eqb (idOf k) 1008 && ltb c (acquisition.get acquisition.active-channels h))
+    liesIf (eqb (idOf k) 1008 && ltb c (acquisition.get acquisition.active-channels h))
     (extent (342 + acquisition.trajectorySize h + c * acquisition.channelSize h) (acquisition.channelSize h))
-extentOf Pixels k h = where′ (eqb (idOf k) 1022) (extent (208 + image.attributeLength h) (image.pixelsSize h))
-extentOf Waveform k h = where′ (eqb (idOf k) 1026) (extent 34 (waveform.bodySize h))
+extentOf Pixels k h = liesIf (eqb (idOf k) 1022) (extent (208 + image.attributeLength h) (image.pixelsSize h))
+extentOf Waveform k h = liesIf (eqb (idOf k) 1026) (extent 34 (waveform.bodySize h))
 
 abbrev pub toldSought : Sought → Reach
 toldSought (Lies e) = lies (extent (e .offset) (e .size))

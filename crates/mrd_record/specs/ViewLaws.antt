@@ -26,14 +26,14 @@ use Rattle.mrd_cut.specs.Places.{partAt}
 use Rattle.mrd_cut.specs.Inside.{Inside, place-inside}
 use Rattle.mrd_record.specs.declared.parts.Part.{Part}
 use Rattle.mrd_record.specs.declared.parts.Part.the-variants.{Name, Text, Attributes, Trajectory, Channel, Pixels, Waveform}
-use Rattle.mrd_record.specs.Parts.{Reach, lies, lacks, offsetOf, where′, extentOf, Sized}
+use Rattle.mrd_record.specs.Parts.{Reach, lies, lacks, offsetOf, liesIf, extentOf, Sized}
 use Rattle.mrd_record.specs.PartLaws.{sized-as, image-rest, waveform-rest}
 use Rattle.mrd_record.specs.Views.{Shown, at, faulty, refusal, shownAt, viewBy, viewOf}
 
 -- a part that lies somewhere was found by its test
-where-lies : (b : Bool) (x : Extent) {e : Extent} → where′ b x ≡ lies e → (b ≡ true) × (x ≡ e)
-where-lies true x q = (refl, cc)
-where-lies false x q = absurd (let z : _≡_ {A = ℕ} 0 1 = cc in omega arith)
+lies-if : (b : Bool) (x : Extent) {e : Extent} → liesIf b x ≡ lies e → (b ≡ true) × (x ≡ e)
+lies-if true x q = (refl, cc)
+lies-if false x q = absurd (let z : _≡_ {A = ℕ} 0 1 = cc in omega arith)
 
 either : (a b : Bool) → (a || b) ≡ true → (a ≡ true) ⊎ (b ≡ true)
 either true b e = inl refl
@@ -63,18 +63,19 @@ module _ (k : Kind) (h : List ℕ) (z : ℕ) (x : Sized k h z) where
   unfolding sizeOf bodySize acquisition.bodySize
   channel-within c e l =
       let y = sized-as Kind.Acquisition e x in
-      let room : suc c * acquisition.channelSize h ≤ acquisition.get acquisition.active-channels h * acquisition.channelSize h = mul-le-mul-right (acquisition.channelSize h) l in
+      let room : suc c * acquisition.channelSize h ≤ acquisition.get acquisition.active-channels h * acquisition.channelSize h = mul-le-mul-right
+      (acquisition.channelSize h) l in
       omega (arith, y .size, suc-mul c (acquisition.channelSize h))
 
   -- each part lies in its message
   pub part-within : (p : Part) {e : Extent} → extentOf p k h ≡ lies e → e .offset + e .size ≤ z
   unfolding extentOf nameLength sizeOf bodySize acquisition.bodySize
   part-within Name q =
-      let w = where-lies (eqb (idOf k) 1) (extent 2 (nameLength h)) q in
+      let w = lies-if (eqb (idOf k) 1) (extent 2 (nameLength h)) q in
       let y = sized-as Kind.ConfigurationName (eqb-true (idOf k) 1 (w .0)) x in
       rw (← w .1) (omega (arith, y .size, y .long, index-within 0 h))
   part-within Text q =
-      let w = where-lies (eqb (idOf k) 2 || eqb (idOf k) 3 || eqb (idOf k) 5) (extent 6 (textLength h)) q in
+      let w = lies-if (eqb (idOf k) 2 || eqb (idOf k) 3 || eqb (idOf k) 5) (extent 6 (textLength h)) q in
       rw (← w .1)
       (⊎-elim
       (λ a. ⊎-elim
@@ -84,22 +85,22 @@ module _ (k : Kind) (h : List ℕ) (z : ℕ) (x : Sized k h z) where
       (λ d. text-within Kind.Text (eqb-true (idOf k) 5 d) refl refl)
       (either (eqb (idOf k) 2 || eqb (idOf k) 3) (eqb (idOf k) 5) (w .0)))
   part-within Attributes q =
-      let w = where-lies (eqb (idOf k) 1022) (extent 208 (image.attributeLength h)) q in
+      let w = lies-if (eqb (idOf k) 1022) (extent 208 (image.attributeLength h)) q in
       rw (← w .1) (omega (arith, image-rest (sized-as Kind.Image (eqb-true (idOf k) 1022 (w .0)) x)))
   part-within Trajectory q =
-      let w = where-lies (eqb (idOf k) 1008) (extent 342 (acquisition.trajectorySize h)) q in
+      let w = lies-if (eqb (idOf k) 1008) (extent 342 (acquisition.trajectorySize h)) q in
       rw (← w .1) (omega (arith, sized-as Kind.Acquisition (eqb-true (idOf k) 1008 (w .0)) x .size))
   part-within (Channel c) q =
       let active = acquisition.get acquisition.active-channels h in
       let samples = acquisition.channelSize h in
-      let w = where-lies (eqb (idOf k) 1008 && ltb c active) (extent (342 + acquisition.trajectorySize h + c * samples) samples) q in
+      let w = lies-if (eqb (idOf k) 1008 && ltb c active) (extent (342 + acquisition.trajectorySize h + c * samples) samples) q in
       let d = both (eqb (idOf k) 1008) (ltb c active) (w .0) in
       rw (← w .1) (channel-within c (eqb-true (idOf k) 1008 (d .0)) (ltb-true c active (d .1)))
   part-within Pixels q =
-      let w = where-lies (eqb (idOf k) 1022) (extent (208 + image.attributeLength h) (image.pixelsSize h)) q in
+      let w = lies-if (eqb (idOf k) 1022) (extent (208 + image.attributeLength h) (image.pixelsSize h)) q in
       rw (← w .1) (omega (arith, image-rest (sized-as Kind.Image (eqb-true (idOf k) 1022 (w .0)) x)))
   part-within Waveform q =
-      let w = where-lies (eqb (idOf k) 1026) (extent 34 (waveform.bodySize h)) q in
+      let w = lies-if (eqb (idOf k) 1026) (extent 34 (waveform.bodySize h)) q in
       rw (← w .1) (omega (arith, waveform-rest (sized-as Kind.Waveform (eqb-true (idOf k) 1026 (w .0)) x)))
 
 -- the fixed part of a record that lies in s
@@ -146,7 +147,9 @@ pub view-fits : (s : List ℕ) (n : ℕ) (p : Part) {i z : ℕ} → viewOf s n p
 unfolding viewOf
 view-fits s n p {i} {z} e = by-place (place s n) refl e
   where
-    reached : (l : Located) → Inside s l → (r : Reach) → extentOf p (l .kind) (fixedPart (l .kind) (partAt s l)) ≡ r → shownAt r (l .start) ≡ at i z →
+    reached :
+        (l : Located) → Inside s l → (r : Reach) → extentOf p (l .kind)
+        (fixedPart (l .kind) (partAt s l)) ≡ r → shownAt r (l .start) ≡ at i z →
         i + z ≤ length s
     reached l x (lies d) q e =
         let start : l .start + d .offset ≡ i = cc in

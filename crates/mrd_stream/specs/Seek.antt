@@ -55,7 +55,8 @@ seek-ahead : (d i : ℕ) (r : Trace) → Numbered i r → seek (i + d) (number 1
 seek-ahead d i (done v) u = concluded-nth v [] d
 seek-ahead zero i (message c k m r) u =
     let here : c .number ≡ i + 0 = omega (arith, u .0) in
-    rw (eq-eqb (c .number) (i + 0) here) (seek-past (i + 0) (suc i) (found (located c k m)) r (u .1) (omega arith) ∙ concluded-nth (verdict r) (located c k m ∷ places r) 0)
+    rw (eq-eqb (c .number) (i + 0) here)
+    (seek-past (i + 0) (suc i) (found (located c k m)) r (u .1) (omega arith) ∙ concluded-nth (verdict r) (located c k m ∷ places r) 0)
 seek-ahead (suc d) i (message c k m r) u =
     let next : i + suc d ≡ suc i + d = omega arith in
     rw (ne-eqb (c .number) (i + suc d) (λ e. omega (arith, u .0)), next) (seek-ahead d (suc i) r (u .1) ∙

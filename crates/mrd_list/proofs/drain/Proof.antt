@@ -1,14 +1,11 @@
 -- `mrd_list::drain` is safe and ends: the measure is the number of turns left.
 -- Assumes nothing.
-use mathlib.Core.Path.{_≡_}
-use lib.ListN.{length}
 use Prim.Native.Nat.{_-_, _^_}
+use mathlib.Core.Path.{_≡_}
 use borrow.Author.Needs.{needs}
+use lib.ListN.{length}
 use Rattle.mrd_list.proofs.drain.Statement.{statement}
 use Rattle.mrd_list.proofs.drain.Tie as tie
-use Rattle.mrd_list.proofs.drain.Reads as reads
-use Rattle.mrd_list.proofs.drain.Lts as lts
-use Rattle.io.proofs.read_full.Reads as read-full-reads
 
 abbrev Inv-loop : tie.InvT-loop
 Inv-loop chunk₀ turns₀ chunk turns = length chunk ≡ 4096
@@ -16,35 +13,27 @@ Inv-loop chunk₀ turns₀ chunk turns = length chunk ≡ 4096
 abbrev μ-loop : tie.MeasureT-loop
 μ-loop chunk₀ turns₀ chunk turns = 2 ^ 60 - turns
 
--- src/main.rt:29:5
 loop-holds : tie.Need-loop-holds Inv-loop μ-loop
 loop-holds c = search needs
 
--- src/main.rt:30:40
 slice-aggregate-read-full : tie.Need-slice-aggregate-read-full Inv-loop μ-loop
 slice-aggregate-read-full c = search needs
 
--- src/main.rt:30:12
 read-full-requires : tie.Need-read-full-requires Inv-loop μ-loop
 read-full-requires c κs = search needs
 
--- src/main.rt:31:13
 returns : tie.Need-returns Inv-loop μ-loop
 returns c = search needs
 
--- src/main.rt:33:9
 add-turns : tie.Need-add-turns Inv-loop μ-loop
 add-turns c = search needs
 
--- src/main.rt:29:5
 loop-less : tie.Need-loop-less Inv-loop μ-loop
 loop-less c = search needs
 
--- src/main.rt:29:5
 loop-again : tie.Need-loop-again Inv-loop μ-loop
 loop-again c = search needs
 
--- src/main.rt:26:1
 returns-2 : tie.Need-returns-2 Inv-loop μ-loop
 returns-2 c = search needs
 

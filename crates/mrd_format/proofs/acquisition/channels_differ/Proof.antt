@@ -18,7 +18,12 @@ mask-differs-requires : tie.Need-mask-differs-requires
 mask-differs-requires c κs = search needs
 
 returns-2 : tie.Need-returns-2
-returns-2 c = simp (← c .before .before .before .read-u16 .ensures, ← c .before .before .read-u162 .ensures, le-ltb _ _ (c .before .if1 .left), c .mask-differs .ensures)
+returns-2 c = simp (
+  ← c .before .before .before .read-u16 .ensures,
+  ← c .before .before .read-u162 .ensures,
+  le-ltb _ _ (c .before .if1 .left),
+  c .mask-differs .ensures,
+)
 
 pub channels-differ-spec : {M : Type 1} → statement M
 channels-differ-spec =

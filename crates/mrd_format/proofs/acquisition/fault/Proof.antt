@@ -18,7 +18,12 @@ channels-differ-requires c κs = search needs
 
 returns-2 : tie.Need-returns-2
 unfolding checks
-returns-2 c = simp (← c .before .before .before .read-u16 .ensures, eq-eqb _ _ (c .before .before .if1 .left), ← c .before .channels-differ .ensures, c .if2 .taken)
+returns-2 c = simp (
+  ← c .before .before .before .read-u16 .ensures,
+  eq-eqb _ _ (c .before .before .if1 .left),
+  ← c .before .channels-differ .ensures,
+  c .if2 .taken,
+)
 
 discards-exceed-requires : tie.Need-discards-exceed-requires
 discards-exceed-requires c κs = search needs
@@ -28,14 +33,28 @@ unfolding checks
 returns-3 c =
     let read-u16 = c .before .before .before .before .before .read-u16 in
     let if1 = c .before .before .before .before .if1 in
-    simp (← read-u16 .ensures, eq-eqb _ _ (if1 .left), ← c .before .before .before .channels-differ .ensures, c .before .before .if2 .left, ← c .before .discards-exceed .ensures, c .if3 .taken)
+    simp (
+      ← read-u16 .ensures,
+      eq-eqb _ _ (if1 .left),
+      ← c .before .before .before .channels-differ .ensures,
+      c .before .before .if2 .left,
+      ← c .before .discards-exceed .ensures,
+      c .if3 .taken,
+    )
 
 returns-4 : tie.Need-returns-4
 unfolding checks
 returns-4 c =
     let read-u16 = c .before .before .before .before .before .read-u16 in
     let if1 = c .before .before .before .before .if1 in
-    simp (← read-u16 .ensures, eq-eqb _ _ (if1 .left), ← c .before .before .before .channels-differ .ensures, c .before .before .if2 .left, ← c .before .discards-exceed .ensures, c .if3 .left)
+    simp (
+      ← read-u16 .ensures,
+      eq-eqb _ _ (if1 .left),
+      ← c .before .before .before .channels-differ .ensures,
+      c .before .before .if2 .left,
+      ← c .before .discards-exceed .ensures,
+      c .if3 .left,
+    )
 
 pub fault-spec : {M : Type 1} → statement M
 fault-spec =

@@ -28,13 +28,22 @@ element-size-requires c κs = search needs
 mul-pixels : tie.Need-mul-pixels
 mul-pixels c =
     let cap2 = c .before .before .cap2 in
-    omega (arith, product {a = cap2 .result} {b = c .element-size .result} {x = 268435457} {y = 16} (omega (arith, cap2 .ensures)) (c .element-size .ensures .1))
+    omega (
+      arith,
+      product {a = cap2 .result} {b = c .element-size .result} {x = 268435457} {y = 16} (omega
+          (arith, cap2 .ensures)) (c .element-size .ensures .1),
+    )
 
 add-result : tie.Need-add-result
 add-result c =
     let cap = c .before .before .before .before .cap in
     let cap2 = c .before .before .cap2 in
-    omega (arith, product {a = cap2 .result} {b = c .element-size .result} {x = 268435457} {y = 16} (omega (arith, cap2 .ensures)) (c .element-size .ensures .1), cap .ensures)
+    omega (
+      arith,
+      product {a = cap2 .result} {b = c .element-size .result} {x = 268435457} {y = 16} (omega
+          (arith, cap2 .ensures)) (c .element-size .ensures .1),
+      cap .ensures,
+    )
 
 returns : tie.Need-returns
 unfolding bodySize pixelsSize
@@ -44,8 +53,19 @@ returns c =
     let cap2 = c .before .before .cap2 in (
       capped-sum _ _ _ _
           (simp (cap .ensures, attribute-length .ensures, capped-twice))
-          (simp (cap2 .ensures, c .before .before .before .pixel-count .ensures, c .element-size .ensures .0, c .before .read-u16 .ensures, capped-product)),
-      omega (arith, product {a = cap2 .result} {b = c .element-size .result} {x = 268435457} {y = 16} (omega (arith, cap2 .ensures)) (c .element-size .ensures .1), cap .ensures),
+          (simp (
+            cap2 .ensures,
+            c .before .before .before .pixel-count .ensures,
+            c .element-size .ensures .0,
+            c .before .read-u16 .ensures,
+            capped-product,
+          )),
+      omega (
+        arith,
+        product {a = cap2 .result} {b = c .element-size .result} {x = 268435457} {y = 16} (omega
+            (arith, cap2 .ensures)) (c .element-size .ensures .1),
+        cap .ensures,
+      ),
     )
 
 pub body-size-spec : {M : Type 1} → statement M

@@ -27,7 +27,11 @@ product-requires-2 : tie.Need-product-requires-2
 product-requires-2 c κs = search needs
 
 mul-result : tie.Need-mul-result
-mul-result c = omega (arith, product {a = c .before .before .before .product .result} {b = c .product2 .result} {x = 4294967295} {y = 4294967295} (search needs) (search needs))
+mul-result c = omega (
+  arith,
+  product {a = c .before .before .before .product .result} {b = c .product2 .result} {x = 4294967295} {y = 4294967295}
+      (search needs) (search needs),
+)
 
 returns : tie.Need-returns
 unfolding pixelCount

@@ -15,7 +15,11 @@ find-requires c κs = search needs
 
 returns : tie.Need-returns
 unfolding nameLength slice
-returns c = (c .find .ensures .0 ∙ zero-add _ ∙ ap (indexOf 0) (take-all 1024 (now (c .before .before .args .h)) (le-of-eq (c .before .before .pre))), c .find .ensures .1)
+returns c = (
+  c .find .ensures .0 ∙ zero-add _ ∙ ap
+      (indexOf 0) (take-all 1024 (now (c .before .before .args .h)) (le-of-eq (c .before .before .pre))),
+  c .find .ensures .1,
+)
 
 pub name-length-spec : {M : Type 1} → statement M
 name-length-spec = tie.close (tie.spec find-requires returns)

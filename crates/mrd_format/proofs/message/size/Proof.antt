@@ -26,7 +26,9 @@ cap-requires c κs = search needs
 
 returns : tie.Need-returns
 unfolding sizeOf
-returns c = c .cap .ensures ∙ capped-sum _ _ _ _ (ap (λ (f : ℕ). capped (2 + f)) (c .before .before .fixed-size .ensures)) (c .before .body-size .ensures .0)
+returns c = c .cap .ensures ∙ capped-sum _ _ _ _
+    (ap (λ (f : ℕ). capped (2 + f)) (c .before .before .fixed-size .ensures))
+    (c .before .body-size .ensures .0)
 
 pub size-spec : {M : Type 1} → statement M
 size-spec =

@@ -38,10 +38,13 @@ filler-requires c κs = search needs
 turn-at : (c : tie.After-filler Inv-loop μ-loop) →
     let loop = c .before .before .before .before .before .loop in
     let step = c .before .before .step .given .0 in
-    Turn (now (c .before .before .before .before .before .before .before .before .before .args .s)) (loop .c) (loop .out) (step .0) (step .1 .0) (c .filler .result)
+    Turn (now (c .before .before .before .before .before .before .before .before .before .args .s))
+    (loop .c) (loop .out) (step .0) (step .1 .0) (c .filler .result)
 turn-at c =
     let step = c .before .before .step .given in
-    turn (step .0 .0) (c .before .before .before .before .before .loop .inv) (sym (c .before .before .before .before .next .ensures) ∙ ap toldStep (step .1)) (c .filler .ensures)
+    turn (step .0 .0)
+    (c .before .before .before .before .before .loop .inv)
+    (sym (c .before .before .before .before .next .ensures) ∙ ap toldStep (step .1)) (c .filler .ensures)
 
 sub-start : tie.Need-sub-start Inv-loop μ-loop
 sub-start c = turn-at c .fits
@@ -59,10 +62,14 @@ clear-requires : tie.Need-clear-requires Inv-loop μ-loop
 clear-requires c κs = search needs
 
 loop-less : tie.Need-loop-less Inv-loop μ-loop
-loop-less c = on-less (now (c .before .before .before .before .before .before .before .before .before .before .before .before .before .args .s)) (turn-at (c .before .before .before .before) .passes)
+loop-less c = on-less
+    (now (c .before .before .before .before .before .before .before .before .before .before .before .before .before .args .s))
+    (turn-at (c .before .before .before .before) .passes)
 
 loop-again : tie.Need-loop-again Inv-loop μ-loop
-loop-again c = next (c .before .before .before .before .before .before .before .before .before .loop .inv) (turn-at (c .before .before .before .before)) (c .before .before .clear .ensures)
+loop-again c = next
+    (c .before .before .before .before .before .before .before .before .before .loop .inv)
+    (turn-at (c .before .before .before .before)) (c .before .before .clear .ensures)
 
 enum-told : tie.Need-enum-told Inv-loop μ-loop
 enum-told c = search needs

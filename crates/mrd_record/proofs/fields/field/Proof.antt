@@ -36,7 +36,13 @@ field-requires c κs =
     let a = c .before .before .before .before .before .before .before .args in
     let place = c .before .before .before .before .before .place in
     let placed = c .before .before .before .placed in
-    rw (c .before .kind .ensures, c .fixed-part .ensures) (fixed-sized (now (a .s)) (toldRecord (placed .given .0 .0)) (place-inside (now (a .s)) (a .n) (sym (place .ensures) ∙ ap toldPlaced (placed .given .1))) .long)
+    rw (
+      c .before .kind .ensures,
+      c .fixed-part .ensures,
+    )
+    (fixed-sized
+    (now (a .s)) (toldRecord (placed .given .0 .0))
+    (place-inside (now (a .s)) (a .n) (sym (place .ensures) ∙ ap toldPlaced (placed .given .1))) .long)
 
 enum-known-placed-2 : tie.Need-enum-known-placed-2
 enum-known-placed-2 c = search needs
@@ -54,16 +60,27 @@ returns c =
     let here = placed .given .0 .0 in
     let k = c .before .before .kind .ensures in
     let h = c .before .fixed-part .ensures in
-    let says : told (c .field .result) ≡ header.fieldOf (kindOf (here .shape)) (fixedPart (kindOf (here .shape)) (partAt (now (a .s)) (toldRecord here))) (a .offset) = cc (c .field .ensures .says) in
+    let says : told
+    (c .field .result) ≡ header.fieldOf (kindOf (here .shape))
+    (fixedPart (kindOf (here .shape)) (partAt (now (a .s)) (toldRecord here))) (a .offset) = cc
+    (c .field .ensures .says) in
     record { says = rw (sym (place .ensures) ∙ ap toldPlaced (placed .given .1)) (ap answered says); apart = c .field .ensures .apart }
 
 returns-2 : tie.Need-returns-2
 unfolding fieldOf
-returns-2 c = record { says = rw (sym (c .before .before .before .place .ensures) ∙ ap toldPlaced (c .before .placed2 .given .1)); apart = tt }
+returns-2 c = record {
+  says = rw
+      (sym (c .before .before .before .place .ensures) ∙ ap toldPlaced (c .before .placed2 .given .1));
+  apart = tt;
+}
 
 returns-3 : tie.Need-returns-3
 unfolding fieldOf
-returns-3 c = record { says = rw (sym (c .before .before .before .place .ensures) ∙ ap toldPlaced (c .before .placed3 .given .1)); apart = tt }
+returns-3 c = record {
+  says = rw
+      (sym (c .before .before .before .place .ensures) ∙ ap toldPlaced (c .before .placed3 .given .1));
+  apart = tt;
+}
 
 pub field-spec : {M : Type 1} → statement M
 field-spec =

@@ -27,12 +27,33 @@ add-lies c = search needs
 mul-lies : tie.Need-mul-lies
 mul-lies c =
     let a′ = c .before .before .before .before .before .args in
-    omega (arith, product {a = a′ .c} {b = c .before .channel-size .result} {x = 65535} {y = 524287} (omega (arith, c .before .before .if1 .left, c .before .before .before .active-channels .ensures .1)) (omega (arith, c .before .channel-size .ensures .1)))
+    omega (
+      arith,
+      product {a = a′ .c} {b = c .before .channel-size .result} {x = 65535} {y = 524287} (omega (
+        arith,
+        c .before .before .if1 .left,
+        c .before .before .before .active-channels .ensures .1,
+      )) (omega (
+        arith,
+        c .before .channel-size .ensures .1,
+      )),
+    )
 
 add-lies-2 : tie.Need-add-lies-2
 add-lies-2 c =
     let a′ = c .before .before .before .before .before .args in
-    omega (arith, product {a = a′ .c} {b = c .before .channel-size .result} {x = 65535} {y = 524287} (omega (arith, c .before .before .if1 .left, c .before .before .before .active-channels .ensures .1)) (omega (arith, c .before .channel-size .ensures .1)), c .trajectory-size .ensures .1)
+    omega (
+      arith,
+      product {a = a′ .c} {b = c .before .channel-size .result} {x = 65535} {y = 524287} (omega (
+        arith,
+        c .before .before .if1 .left,
+        c .before .before .before .active-channels .ensures .1,
+      )) (omega (
+        arith,
+        c .before .channel-size .ensures .1,
+      )),
+      c .trajectory-size .ensures .1,
+    )
 
 lies-requires : tie.Need-lies-requires
 lies-requires c κs = search needs

@@ -21,7 +21,9 @@ lies-requires c κs = search needs
 
 returns : tie.Need-returns
 unfolding extentOf
-returns c = rw (eq-eqb _ _ (sym (c .before .before .before .id .ensures) ∙ c .before .before .match .keys1)) (c .lies .ensures ∙ ap (reached 208) (c .before .attribute-length .ensures))
+returns c = rw
+    (eq-eqb _ _ (sym (c .before .before .before .id .ensures) ∙ c .before .before .match .keys1))
+    (c .lies .ensures ∙ ap (reached 208) (c .before .attribute-length .ensures))
 
 returns-2 : tie.Need-returns-2
 unfolding extentOf

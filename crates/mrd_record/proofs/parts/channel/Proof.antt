@@ -15,12 +15,14 @@ id-requires : tie.Need-id-requires
 id-requires c κs = search needs
 
 acquisition-channel-requires : tie.Need-acquisition-channel-requires
-acquisition-channel-requires c κs = sized-as Kind.Acquisition (sym (c .before .id .ensures) ∙ c .match .keys1) (c .before .before .before .pre) .long
+acquisition-channel-requires c κs = sized-as Kind.Acquisition
+    (sym (c .before .id .ensures) ∙ c .match .keys1) (c .before .before .before .pre) .long
 
 returns : tie.Need-returns
 returns c =
     let a = c .before .before .before .before .args in
-    rw (kind-of-id (a .kind) Kind.Acquisition (sym (c .before .before .id .ensures) ∙ c .before .match .keys1)) (c .acquisition-channel .ensures)
+    rw (kind-of-id (a .kind) Kind.Acquisition (sym (c .before .before .id .ensures) ∙ c .before .match .keys1))
+    (c .acquisition-channel .ensures)
 
 returns-2 : tie.Need-returns-2
 unfolding extentOf

@@ -14,14 +14,17 @@ id-requires : tie.Need-id-requires
 id-requires c κs = search needs
 
 name-length-requires : tie.Need-name-length-requires
-name-length-requires c κs = sized-as Kind.ConfigurationName (sym (c .before .id .ensures) ∙ c .match .keys1) (c .before .before .before .pre) .long
+name-length-requires c κs = sized-as Kind.ConfigurationName
+    (sym (c .before .id .ensures) ∙ c .match .keys1) (c .before .before .before .pre) .long
 
 lies-requires : tie.Need-lies-requires
 lies-requires c κs = search needs
 
 returns : tie.Need-returns
 unfolding extentOf
-returns c = rw (eq-eqb _ _ (sym (c .before .before .before .id .ensures) ∙ c .before .before .match .keys1)) (c .lies .ensures ∙ ap (reached 2) (c .before .name-length .ensures .0))
+returns c = rw
+    (eq-eqb _ _ (sym (c .before .before .before .id .ensures) ∙ c .before .before .match .keys1))
+    (c .lies .ensures ∙ ap (reached 2) (c .before .name-length .ensures .0))
 
 returns-2 : tie.Need-returns-2
 unfolding extentOf

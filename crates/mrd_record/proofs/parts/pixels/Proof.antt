@@ -21,12 +21,21 @@ add-offset : tie.Need-add-offset
 add-offset c =
     let pre = c .before .before .before .before .pre in
     let id = c .before .before .id in
-    omega (arith, image-rest (sized-as Kind.Image (sym (id .ensures) ∙ c .before .match .keys1) (pre)), (sized-as Kind.Image (sym (id .ensures) ∙ c .before .match .keys1) (pre)) .small, c .attribute-length .ensures)
+    omega (
+      arith,
+      image-rest (sized-as Kind.Image (sym (id .ensures) ∙ c .before .match .keys1) (pre)),
+      (sized-as Kind.Image (sym (id .ensures) ∙ c .before .match .keys1) (pre)) .small,
+      c .attribute-length .ensures,
+    )
 
 sub-lies : tie.Need-sub-lies
 sub-lies c =
     let pre = c .before .before .before .before .pre in
-    omega (arith, image-rest (sized-as Kind.Image (sym (c .before .before .id .ensures) ∙ c .before .match .keys1) (pre)), c .attribute-length .ensures)
+    omega (
+      arith,
+      image-rest (sized-as Kind.Image (sym (c .before .before .id .ensures) ∙ c .before .match .keys1) (pre)),
+      c .attribute-length .ensures,
+    )
 
 lies-requires : tie.Need-lies-requires
 lies-requires c κs = search needs
@@ -37,7 +46,10 @@ returns c =
     let pre = c .before .before .before .before .before .pre in
     let id = c .before .before .before .id in
     let match = c .before .before .match in
-    rw (eq-eqb _ _ (sym (id .ensures) ∙ match .keys1)) (c .lies .ensures ∙ image-pixels (sized-as Kind.Image (sym (id .ensures) ∙ match .keys1) (pre)) _ (c .before .attribute-length .ensures))
+    rw (eq-eqb _ _ (sym (id .ensures) ∙ match .keys1))
+    (c .lies .ensures ∙ image-pixels
+    (sized-as Kind.Image (sym (id .ensures) ∙ match .keys1) (pre)) _
+    (c .before .attribute-length .ensures))
 
 returns-2 : tie.Need-returns-2
 unfolding extentOf

@@ -15,13 +15,15 @@ id-requires : tie.Need-id-requires
 id-requires c κs = search needs
 
 text-length-requires : tie.Need-text-length-requires
-text-length-requires c κs = sized-as Kind.ConfigurationText (sym (c .before .id .ensures) ∙ c .match .keys1) (c .before .before .before .pre) .long
+text-length-requires c κs = sized-as Kind.ConfigurationText
+    (sym (c .before .id .ensures) ∙ c .match .keys1) (c .before .before .before .pre) .long
 
 lies-requires : tie.Need-lies-requires
 lies-requires c κs = search needs
 
 text-length-requires-2 : tie.Need-text-length-requires-2
-text-length-requires-2 c κs = sized-as Kind.HeaderText (sym (c .before .id .ensures) ∙ c .match .keys2) (c .before .before .before .pre) .long
+text-length-requires-2 c κs = sized-as Kind.HeaderText
+    (sym (c .before .id .ensures) ∙ c .match .keys2) (c .before .before .before .pre) .long
 
 lies-requires-2 : tie.Need-lies-requires-2
 lies-requires-2 c κs = search needs
@@ -36,19 +38,22 @@ returns : tie.Need-returns
 unfolding extentOf
 returns c =
     let a = c .before .before .before .before .before .args in
-    rw (kind-of-id (a .kind) Kind.ConfigurationText (sym (c .before .before .before .id .ensures) ∙ c .before .before .match .keys1)) (c .lies .ensures ∙ ap (reached 6) (c .before .text-length .ensures .0))
+    rw (kind-of-id (a .kind) Kind.ConfigurationText (sym (c .before .before .before .id .ensures) ∙ c .before .before .match .keys1))
+    (c .lies .ensures ∙ ap (reached 6) (c .before .text-length .ensures .0))
 
 returns-2 : tie.Need-returns-2
 unfolding extentOf
 returns-2 c =
     let a = c .before .before .before .before .before .args in
-    rw (kind-of-id (a .kind) Kind.HeaderText (sym (c .before .before .before .id .ensures) ∙ c .before .before .match .keys2)) (c .lies2 .ensures ∙ ap (reached 6) (c .before .text-length2 .ensures .0))
+    rw (kind-of-id (a .kind) Kind.HeaderText (sym (c .before .before .before .id .ensures) ∙ c .before .before .match .keys2))
+    (c .lies2 .ensures ∙ ap (reached 6) (c .before .text-length2 .ensures .0))
 
 returns-3 : tie.Need-returns-3
 unfolding extentOf
 returns-3 c =
     let a = c .before .before .before .before .before .args in
-    rw (kind-of-id (a .kind) Kind.Text (sym (c .before .before .before .id .ensures) ∙ c .before .before .match .keys3)) (c .lies3 .ensures ∙ ap (reached 6) (c .before .text-length3 .ensures .0))
+    rw (kind-of-id (a .kind) Kind.Text (sym (c .before .before .before .id .ensures) ∙ c .before .before .match .keys3))
+    (c .lies3 .ensures ∙ ap (reached 6) (c .before .text-length3 .ensures .0))
 
 returns-4 : tie.Need-returns-4
 unfolding extentOf

@@ -15,7 +15,10 @@ id-requires : tie.Need-id-requires
 id-requires c κs = search needs
 
 sub-lies : tie.Need-sub-lies
-sub-lies c = omega (arith, waveform-rest (sized-as Kind.Waveform (sym (c .before .id .ensures) ∙ c .match .keys1) (c .before .before .before .pre)))
+sub-lies c = omega (
+  arith,
+  waveform-rest (sized-as Kind.Waveform (sym (c .before .id .ensures) ∙ c .match .keys1) (c .before .before .before .pre)),
+)
 
 lies-requires : tie.Need-lies-requires
 lies-requires c κs = search needs
@@ -25,7 +28,8 @@ unfolding extentOf
 returns c =
     let pre = c .before .before .before .before .pre in
     let id = c .before .before .id in
-    rw (eq-eqb _ _ (sym (id .ensures) ∙ c .before .match .keys1)) (c .lies .ensures ∙ waveform-data (sized-as Kind.Waveform (sym (id .ensures) ∙ c .before .match .keys1) (pre)))
+    rw (eq-eqb _ _ (sym (id .ensures) ∙ c .before .match .keys1))
+    (c .lies .ensures ∙ waveform-data (sized-as Kind.Waveform (sym (id .ensures) ∙ c .before .match .keys1) (pre)))
 
 returns-2 : tie.Need-returns-2
 unfolding extentOf

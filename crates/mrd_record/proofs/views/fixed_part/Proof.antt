@@ -47,7 +47,8 @@ returns c =
     let pre = c .before .before .before .before .before .before .pre in
     let a = a′ in
     let from = a .here .place .start + 2 in
-    let size : from + c .before .fixed-size .result - from ≡ fixedSize (kindOf (a .here .shape)) = omega (arith, c .before .fixed-size .ensures ∙ ap fixedSize (c .before .before .kind .ensures)) in
+    let size : from + c .before .fixed-size .result - from ≡ fixedSize (kindOf (a .here .shape)) = omega
+    (arith, c .before .fixed-size .ensures ∙ ap fixedSize (c .before .before .kind .ensures)) in
     ap (λ (k : ℕ). take k (drop from (now (a .s)))) size ∙ fixed-place (now (a′ .s)) (toldRecord (a′ .here)) (pre)
 
 pub fixed-part-spec : {M : Type 1} → statement M

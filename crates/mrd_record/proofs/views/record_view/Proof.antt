@@ -35,7 +35,10 @@ shifted-requires c κs =
     let a = a′ in
     let k = c .before .before .kind .ensures in
     let h = c .before .fixed-part .ensures in
-    let e : toldSought (c .locate .result) ≡ extentOf (a .part) (kindOf (a .here .shape)) (fixedPart (kindOf (a .here .shape)) (partAt (now (a .s)) (toldRecord (a .here)))) = cc (c .locate .ensures) in
+    let e : toldSought
+    (c .locate .result) ≡ extentOf (a .part) (kindOf (a .here .shape))
+    (fixedPart (kindOf (a .here .shape)) (partAt (now (a .s)) (toldRecord (a .here)))) = cc
+    (c .locate .ensures) in
     rw e (omega (arith, offset-fits (now (a′ .s)) (toldRecord (a′ .here)) (pre) (a .part), good))
 
 returns : tie.Need-returns
@@ -44,7 +47,10 @@ returns c =
     let a = a′ in
     let k = c .before .before .before .kind .ensures in
     let h = c .before .before .fixed-part .ensures in
-    let e : toldSought (c .before .locate .result) ≡ extentOf (a .part) (kindOf (a .here .shape)) (fixedPart (kindOf (a .here .shape)) (partAt (now (a .s)) (toldRecord (a .here)))) = cc (c .before .locate .ensures) in
+    let e : toldSought
+    (c .before .locate .result) ≡ extentOf (a .part) (kindOf (a .here .shape))
+    (fixedPart (kindOf (a .here .shape)) (partAt (now (a .s)) (toldRecord (a .here)))) = cc
+    (c .before .locate .ensures) in
     c .shifted .ensures ∙ ap (λ (r : Reach). shownAt r (a .here .place .start)) e
 
 pub record-view-spec : {M : Type 1} → statement M

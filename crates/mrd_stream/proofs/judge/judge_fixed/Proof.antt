@@ -20,7 +20,10 @@ returns : tie.Need-returns
 returns c =
     let a = c .before .before .before .before .before .args in
     let pre = c .before .before .before .before .before .pre in
-    rw (laws.judge-own (a .kind) (a .c) (now (a .t)) (now (a .h)) (pre .0) _ (sym (c .before .before .fault .ensures)) (c .before .if1 .taken)) (c .refused .ensures)
+    rw (laws.judge-own
+    (a .kind) (a .c) (now (a .t)) (now (a .h)) (pre .0) _ (sym (c .before .before .fault .ensures))
+    (c .before .if1 .taken))
+    (c .refused .ensures)
 
 size-requires : tie.Need-size-requires
 size-requires c κs =
@@ -36,7 +39,11 @@ returns-2 c =
     let a = c .before .before .before .before .before .before .before .args in
     let pre = c .before .before .before .before .before .before .before .pre in
     let fault = c .before .before .before .before .fault in
-    rw (laws.judge-limit (a .kind) (a .c) (now (a .t)) (now (a .h)) (pre .0) (sym (fault .ensures) ∙ c .before .before .before .if1 .left) _ (c .before .before .size .ensures) (c .before .if2 .taken)) (c .refused2 .ensures)
+    rw (laws.judge-limit
+    (a .kind) (a .c) (now (a .t)) (now (a .h)) (pre .0)
+    (sym (fault .ensures) ∙ c .before .before .before .if1 .left) _ (c .before .before .size .ensures)
+    (c .before .if2 .taken))
+    (c .refused2 .ensures)
 
 refused-requires-3 : tie.Need-refused-requires-3
 refused-requires-3 c κs = search needs
@@ -47,7 +54,10 @@ returns-3 c =
     let pre = c .before .before .before .before .before .before .before .before .pre in
     let fault = c .before .before .before .before .before .fault in
     let if1 = c .before .before .before .before .if1 in
-    rw (laws.judge-cut (a .kind) (a .c) (now (a .t)) (now (a .h)) (pre .0) (sym (fault .ensures) ∙ if1 .left) _ (c .before .before .before .size .ensures) (c .before .before .if2 .left) (c .before .if3 .taken)) (c .refused3 .ensures)
+    rw (laws.judge-cut
+    (a .kind) (a .c) (now (a .t)) (now (a .h)) (pre .0) (sym (fault .ensures) ∙ if1 .left) _
+    (c .before .before .before .size .ensures) (c .before .before .if2 .left) (c .before .if3 .taken))
+    (c .refused3 .ensures)
 
 handed-requires : tie.Need-handed-requires
 handed-requires c κs =
@@ -61,7 +71,10 @@ returns-4 c =
     let pre = c .before .before .before .before .before .before .before .before .pre in
     let fault = c .before .before .before .before .before .fault in
     let if1 = c .before .before .before .before .if1 in
-    c .handed .ensures ∙ sym (laws.step-whole (a .kind) (a .c) (now (a .t)) (now (a .h)) (pre .0) (sym (fault .ensures) ∙ if1 .left) _ (c .before .before .before .size .ensures) (c .before .before .if2 .left) (c .before .if3 .left))
+    c .handed .ensures ∙ sym
+    (laws.step-whole
+    (a .kind) (a .c) (now (a .t)) (now (a .h)) (pre .0) (sym (fault .ensures) ∙ if1 .left) _
+    (c .before .before .before .size .ensures) (c .before .before .if2 .left) (c .before .if3 .left))
 
 pub judge-fixed-spec : {M : Type 1} → statement M
 judge-fixed-spec =

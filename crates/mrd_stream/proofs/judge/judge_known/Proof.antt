@@ -19,7 +19,10 @@ returns : tie.Need-returns
 returns c =
     let a = c .before .before .before .before .args in
     let pre = c .before .before .before .before .pre in
-    rw (laws.judge-order (a .kind) (a .c) (now (a .t)) (pre .0) (sym (c .before .before .allows .ensures) ∙ not-true _ (c .before .if1 .taken))) (c .refused .ensures)
+    rw (laws.judge-order
+    (a .kind) (a .c) (now (a .t)) (pre .0)
+    (sym (c .before .before .allows .ensures) ∙ not-true _ (c .before .if1 .taken)))
+    (c .refused .ensures)
 
 fixed-size-requires : tie.Need-fixed-size-requires
 fixed-size-requires c κs = search needs
@@ -35,7 +38,10 @@ returns-2 c =
     let a = c .before .before .before .before .before .before .args in
     let pre = c .before .before .before .before .before .before .pre in
     let allows = c .before .before .before .before .allows in
-    rw (laws.judge-fixed (a .kind) (a .c) (now (a .t)) (pre .0) (sym (allows .ensures) ∙ not-false _ (c .before .before .before .if1 .left)) (omega (arith, c .before .before .fixed-size .ensures, pre .0 .two))) (c .refused2 .ensures)
+    rw (laws.judge-fixed
+    (a .kind) (a .c) (now (a .t)) (pre .0)
+    (sym (allows .ensures) ∙ not-false _ (c .before .before .before .if1 .left)) (omega
+    (arith, c .before .before .fixed-size .ensures, pre .0 .two))) (c .refused2 .ensures)
 
 fixed-part-requires : tie.Need-fixed-part-requires
 fixed-part-requires c κs = omega (arith, c .before .fixed-size .ensures, c .before .before .before .before .before .pre .0 .two)

@@ -34,13 +34,18 @@ loop-less : tie.Need-loop-less Inv-loop μ-loop
 loop-less c =
     let a = c .before .before .before .before .before .before .before .args in
     let loop = c .before .before .before .before .loop in
-    on-less (now (a .s)) (step-handed (loop .c) (now (a .s)) (sym (c .before .before .before .next .ensures) ∙ ap toldStep (c .before .step .given .1)))
+    on-less
+    (now (a .s))
+    (step-handed (loop .c) (now (a .s)) (sym (c .before .before .before .next .ensures) ∙ ap toldStep (c .before .step .given .1)))
 
 loop-again : tie.Need-loop-again Inv-loop μ-loop
 loop-again c =
     let a = c .before .before .before .before .before .before .before .args in
     let loop = c .before .before .before .before .loop in
-    on-next verdict (now (a .s)) verdict (loop .inv) (step-handed (loop .c) (now (a .s)) (sym (c .before .before .before .next .ensures) ∙ ap toldStep (c .before .step .given .1))) (λ r. refl)
+    on-next verdict
+    (now (a .s)) verdict (loop .inv)
+    (step-handed (loop .c) (now (a .s)) (sym (c .before .before .before .next .ensures) ∙ ap toldStep (c .before .step .given .1)))
+    (λ r. refl)
 
 enum-known-step-2 : tie.Need-enum-known-step-2 Inv-loop μ-loop
 enum-known-step-2 c = search needs

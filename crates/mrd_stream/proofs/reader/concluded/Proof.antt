@@ -17,7 +17,8 @@ returns : tie.Need-returns
 returns c = search needs
 
 returns-2 : tie.Need-returns-2
-returns-2 c = let a = c .before .before .before .args in sym (ap (λ v. concluded (toldPlaced (a .found)) (toldChecked v)) (c .before .answer .given .1))
+returns-2 c = let a = c .before .before .before .args in sym
+    (ap (λ v. concluded (toldPlaced (a .found)) (toldChecked v)) (c .before .answer .given .1))
 
 pub concluded-spec : {M : Type 1} → statement M
 concluded-spec = tie.close (tie.spec enum-told enum-known-answer returns returns-2)

@@ -52,7 +52,10 @@ loop-again c =
     let p = step-handed (loop .c) (now (a .s)) (sym (next .ensures) ∙ ap toldStep (step .given .1)) in
     let before = toldPlaced (loop .found) in
     rw (c .kept .ensures)
-    (on-next (seek (a .n) before) (now (a .s)) (seek (a .n) (keptBy (toldRecord (step .given .0 .0)) (a .n) before)) (loop .inv) p (seek-next (a .n) before (loop .c) (p .kind) (p .bytes) (p .place)))
+    (on-next
+    (seek (a .n) before) (now (a .s))
+    (seek (a .n) (keptBy (toldRecord (step .given .0 .0)) (a .n) before)) (loop .inv) p
+    (seek-next (a .n) before (loop .c) (p .kind) (p .bytes) (p .place)))
 
 enum-known-step-2 : tie.Need-enum-known-step-2 Inv-loop μ-loop
 enum-known-step-2 c = search needs
@@ -65,7 +68,9 @@ returns c =
     let a = c .before .before .before .before .before .before .before .before .args in
     let loop = c .before .before .before .before .before .loop in
     let next = c .before .before .before .before .next in
-    c .concluded .ensures ∙ on-end (seek (a .n) (toldPlaced (loop .found))) (now (a .s)) (loop .inv) (sym (next .ensures) ∙ ap toldStep (c .before .before .step2 .given .1))
+    c .concluded .ensures ∙ on-end
+    (seek (a .n) (toldPlaced (loop .found))) (now (a .s)) (loop .inv)
+    (sym (next .ensures) ∙ ap toldStep (c .before .before .step2 .given .1))
 
 pub place-spec : {M : Type 1} → statement M
 place-spec =

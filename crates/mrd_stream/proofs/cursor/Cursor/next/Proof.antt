@@ -37,7 +37,9 @@ returns-2 c =
     let a′ = c .before .before .before .before .args in
     let a = a′ in
     let t = drop (a .self .start) (now (a .s)) in
-    c .judge .ensures ∙ ap (stepAt (a .self)) (take-all (length (now (a .s)) - a .self .start) t (le-of-eq (length-drop (a .self .start) (now (a .s)))))
+    c .judge .ensures ∙ ap
+    (stepAt (a .self))
+    (take-all (length (now (a .s)) - a .self .start) t (le-of-eq (length-drop (a .self .start) (now (a .s)))))
 
 pub next-spec : {M : Type 1} → statement M
 next-spec =

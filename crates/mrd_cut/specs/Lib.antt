@@ -4,4 +4,5 @@ pub mod Walked
 pub mod Accepted
 pub mod Refused
 pub mod Places
+pub mod Inside
 pub mod Steps

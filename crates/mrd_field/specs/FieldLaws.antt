@@ -57,7 +57,9 @@ pub record Found (k : Kind) (h : List ℕ) (at : ℕ) (e : ElementType) : Type 0
   pub inside : at + width e ≤ length h
   pub value : fieldOf k h at ≡ valueOf e (num (width e) h at)
 
-pub found-by-letter : (k : Kind) (h : List ℕ) (at : ℕ) (e : ElementType) → length h ≡ fixedSize k → letterOf (startOf k at) ≡ letterOf (starts e) → Found k h at e
+pub found-by-letter :
+    (k : Kind) (h : List ℕ) (at : ℕ) (e : ElementType) → length h ≡ fixedSize k → letterOf
+    (startOf k at) ≡ letterOf (starts e) → Found k h at e
 unfolding fieldOf
 found-by-letter k h at e whole letter =
     let start : startOf k at ≡ starts e = start-by-letter (startOf k at) (starts e) letter in
@@ -70,6 +72,8 @@ absent-by-letter k h at means = ap (λ (s : Start). answered s h at) (sym (meant
 
 -- 'physiology stamps 22, three u32': each is an element of its own, and inside them none starts. An image's 8-byte length at 198 is no header
 -- element
-pub elements-of-their-own : map (startOf Kind.Acquisition) (22 ∷ 24 ∷ 26 ∷ 30 ∷ []) ++ map (startOf Kind.Image) (194 ∷ 198 ∷ []) ≡ starts u32 ∷ none ∷ starts u32 ∷ starts u32 ∷ starts u32 ∷ none ∷ []
+pub elements-of-their-own : map
+    (startOf Kind.Acquisition) (22 ∷ 24 ∷ 26 ∷ 30 ∷ []) ++ map (startOf Kind.Image)
+    (194 ∷ 198 ∷ []) ≡ starts u32 ∷ none ∷ starts u32 ∷ starts u32 ∷ starts u32 ∷ none ∷ []
 unfolding typeAt
 elements-of-their-own = refl

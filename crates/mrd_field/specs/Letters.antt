@@ -88,7 +88,9 @@ getD-default (x ∷ l) zero d e h = refl
 getD-default (x ∷ l) (suc i) d e h = getD-default l i d e (omega arith)
 
 -- the letter at each place of a drawn table, and the dot past it
-drawn-from : (n i : ℕ) (t : List Run) (at : ℕ) → ((j : ℕ) → i + n ≤ j → typeAt t j ≡ none) → getD (drawnFrom n i t) at 46 ≡ letterOf (typeAt t (i + at))
+drawn-from :
+    (n i : ℕ) (t : List Run) (at : ℕ) → ((j : ℕ) → i + n ≤ j → typeAt t j ≡ none) → getD
+    (drawnFrom n i t) at 46 ≡ letterOf (typeAt t (i + at))
 drawn-from zero i t at past = rw (past (i + at) (omega arith))
 drawn-from (suc n) i t zero past = rw add-zero
 drawn-from (suc n) i t (suc at) past =

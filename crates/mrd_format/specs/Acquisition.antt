@@ -73,13 +73,17 @@ unfoldable pub maskDiffers : List ℕ → Bool
 maskDiffers h =
     not (allZero (elements (layout channel-mask) h)) && not (eqb (onesOf (elements (layout channel-mask) h)) (get active-channels h))
 
+-- 'active channels above available, or' such a mask
+abbrev pub channelsDiffer : List ℕ → Bool
+channelsDiffer h = ltb (get available-channels h) (get active-channels h) || maskDiffers h
+
+-- 'discard pre plus discard post above number of samples'
+abbrev pub discardsExceed : List ℕ → Bool
+discardsExceed h = ltb (get number-of-samples h) (get discard-pre h + get discard-post h)
+
 -- checks 4, 6 and 7
 unfoldable pub checks : List ℕ → List Check
-checks h =
-    (4 when not (eqb (get version h) 1)) ∷
-    (6 when ltb (get available-channels h) (get active-channels h) || maskDiffers h) ∷
-    (7 when ltb (get number-of-samples h) (get discard-pre h + get discard-post h)) ∷
-    []
+checks h = (4 when not (eqb (get version h) 1)) ∷ (6 when channelsDiffer h) ∷ (7 when discardsExceed h) ∷ []
 
 -- 'samples x dimensions x 4'
 unfoldable pub trajectorySize : List ℕ → ℕ

@@ -1,7 +1,7 @@
 -- The image header (1022) with the 8-byte attribute length after it, the checks that it must pass, and the sizes it gives.
 -- Assumes nothing.
 use Prim.Native.Nat.{ℕ, _+_, _*_}
-use mathlib.Core.Bool.{not, _||_}
+use mathlib.Core.Bool.{Bool, not, _||_}
 use mathlib.Core.List.{List, [], _∷_, map}
 use lib.Dec.{eqb, ltb}
 use lib.ListN.{getD}
@@ -71,13 +71,17 @@ attributeLength h = num 8 h 198
 unfoldable pub elementSize : ℕ → ℕ
 elementSize t = getD (0 ∷ 2 ∷ 2 ∷ 4 ∷ 4 ∷ 4 ∷ 8 ∷ 8 ∷ 16 ∷ []) t 0
 
+-- 'image data type not 1 to 8'
+abbrev pub typeUnknown : List ℕ → Bool
+typeUnknown h = eqb (get data-type h) 0 || ltb 8 (get data-type h)
+
+-- 'the two attribute lengths differ'
+abbrev pub lengthsDiffer : List ℕ → Bool
+lengthsDiffer h = not (eqb (get attribute-string-len h) (attributeLength h))
+
 -- checks 4, 8 and 9
 unfoldable pub checks : List ℕ → List Check
-checks h =
-    (4 when not (eqb (get version h) 1)) ∷
-    (8 when eqb (get data-type h) 0 || ltb 8 (get data-type h)) ∷
-    (9 when not (eqb (get attribute-string-len h) (attributeLength h))) ∷
-    []
+checks h = (4 when not (eqb (get version h) 1)) ∷ (8 when typeUnknown h) ∷ (9 when lengthsDiffer h) ∷ []
 
 -- 'the three matrix sizes times channels'
 unfoldable pub pixelCount : List ℕ → ℕ

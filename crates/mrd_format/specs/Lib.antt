@@ -6,6 +6,7 @@ pub mod Acquisition
 pub mod Image
 pub mod Waveform
 pub mod Message
+pub mod KindLaws
 pub mod CheckLaws
 pub mod MessageLaws
 pub mod MaskLaws
@@ -13,5 +14,7 @@ pub mod Sizes
 pub mod SizeLaws
 pub mod Shapes
 pub mod Content
+pub mod NormalLaws
+pub mod IdLaws
 pub mod Flags
 pub mod Counters

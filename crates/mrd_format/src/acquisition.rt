@@ -5,8 +5,8 @@ ghost use Prim.Native.Nat.{_<_, _^_};
 ghost use lib.ListN.{length};
 ghost use Rattle.mrd_format.specs.Checks.{first};
 ghost use Rattle.mrd_format.specs.Elements.{elements};
-ghost use Rattle.mrd_format.specs.Acquisition.{layout, checks, maskDiffers, onesOf, trajectorySize, bodySize, numbers};
-ghost use Rattle.mrd_format.specs.Acquisition.{«channel-mask»};
+ghost use Rattle.mrd_format.specs.Acquisition.{layout, get, checks, channelsDiffer, discardsExceed, maskDiffers, onesOf, trajectorySize, channelSize, bodySize, numbers};
+ghost use Rattle.mrd_format.specs.Acquisition.{«channel-mask», «active-channels»};
 ghost use Rattle.mrd_format.specs.Shapes.{acquisitionNumbers};
 use crate::refusal;
 use crate::shape::AcquisitionShape;
@@ -40,17 +40,33 @@ pub(crate) fn fault(h: &[u8]) -> u8
     if read_u16(h, VERSION) != 1 {
         return refusal::VERSION;
     }
-    if read_u16(h, AVAILABLE_CHANNELS) < read_u16(h, ACTIVE_CHANNELS) {
+    if channels_differ(h) {
         return refusal::CHANNELS;
     }
-    if mask_differs(h) {
-        return refusal::CHANNELS;
-    }
-    let discarded = (read_u16(h, DISCARD_PRE) as u32) + (read_u16(h, DISCARD_POST) as u32);
-    if (read_u16(h, NUMBER_OF_SAMPLES) as u32) < discarded {
+    if discards_exceed(h) {
         return refusal::DISCARD;
     }
     0
+}
+
+// Whether more channels are active than available, or the mask does not agree.
+fn channels_differ(h: &[u8]) -> bool
+    requires { ⌜ length (now h) ≡ 340 ⌝ }
+    ensures { λ r. ⌜ r ≡ channelsDiffer (now (h .entry)) ⌝ }
+{
+    if read_u16(h, AVAILABLE_CHANNELS) < read_u16(h, ACTIVE_CHANNELS) {
+        return true;
+    }
+    mask_differs(h)
+}
+
+// Whether more samples are discarded than there are.
+fn discards_exceed(h: &[u8]) -> bool
+    requires { ⌜ length (now h) ≡ 340 ⌝ }
+    ensures { λ r. ⌜ r ≡ discardsExceed (now (h .entry)) ⌝ }
+{
+    let discarded = (read_u16(h, DISCARD_PRE) as u32) + (read_u16(h, DISCARD_POST) as u32);
+    (read_u16(h, NUMBER_OF_SAMPLES) as u32) < discarded
 }
 
 // Whether the channel mask isn't all zero and its count of ones differs from the active channels.
@@ -79,25 +95,39 @@ fn mask_ones(h: &[u8]) -> u32
     ones
 }
 
+// The bytes of the trajectory.
+pub fn trajectory_size(h: &[u8]) -> usize
+    requires { ⌜ length (now h) ≡ 340 ⌝ }
+    ensures { λ r. ⌜ (r ≡ trajectorySize (now (h .entry))) × (r < 2 ^ 34) ⌝ }
+{
+    let samples = read_u16(h, NUMBER_OF_SAMPLES);
+    (product(samples, read_u16(h, TRAJECTORY_DIMENSIONS)) * 4) as usize
+}
+
+// The bytes of one channel's samples.
+pub fn channel_size(h: &[u8]) -> usize
+    requires { ⌜ length (now h) ≡ 340 ⌝ }
+    ensures { λ r. ⌜ (r ≡ channelSize (now (h .entry))) × (r < 2 ^ 19) ⌝ }
+{
+    (read_u16(h, NUMBER_OF_SAMPLES) as usize) * 8
+}
+
+// How many channels have samples.
+pub fn active_channels(h: &[u8]) -> usize
+    requires { ⌜ length (now h) ≡ 340 ⌝ }
+    ensures { λ r. ⌜ (r ≡ get «active-channels» (now (h .entry))) × (r < 2 ^ 16) ⌝ }
+{
+    read_u16(h, ACTIVE_CHANNELS) as usize
+}
+
 // The bytes after the header: the trajectory and every channel's samples.
 pub(crate) fn body_size(h: &[u8]) -> usize
     requires { ⌜ length (now h) ≡ 340 ⌝ }
     ensures { λ r. ⌜ (r ≡ bodySize (now (h .entry))) × (r < 2 ^ 40) ⌝ }
 {
     let samples = read_u16(h, NUMBER_OF_SAMPLES);
-    let trajectory = product(samples, read_u16(h, TRAJECTORY_DIMENSIONS)) * 4;
     let channels = product(read_u16(h, ACTIVE_CHANNELS), samples) * 8;
-    (trajectory + channels) as usize
-}
-
-// The trajectory's bytes, the first of those after the header.
-pub fn trajectory_size(h: &[u8]) -> usize
-    requires { ⌜ length (now h) ≡ 340 ⌝ }
-    ensures { λ r. ⌜ (r ≡ trajectorySize (now (h .entry))) × (r < 2 ^ 40) ⌝ }
-{
-    let samples = read_u16(h, NUMBER_OF_SAMPLES);
-    let dimensions = read_u16(h, TRAJECTORY_DIMENSIONS);
-    (product(samples, dimensions) * 4) as usize
+    trajectory_size(h) + channels as usize
 }
 
 // The header's own numbers.

@@ -4,7 +4,7 @@ ghost use mathlib.Core.Path.{_≡_};
 ghost use Prim.Native.Nat.{_<_, _≤_, _^_};
 ghost use lib.ListN.{length};
 ghost use Rattle.mrd_format.specs.Checks.{first};
-ghost use Rattle.mrd_format.specs.Image.{checks, elementSize, pixelCount, bodySize, numbers};
+ghost use Rattle.mrd_format.specs.Image.{checks, typeUnknown, lengthsDiffer, attributeLength, elementSize, pixelCount, bodySize, numbers};
 ghost use Rattle.mrd_format.specs.Sizes.{capped};
 ghost use Rattle.mrd_format.specs.Shapes.{imageNumbers};
 use crate::refusal;
@@ -42,17 +42,41 @@ pub(crate) fn fault(h: &[u8]) -> u8
     if read_u16(h, VERSION) != 1 {
         return refusal::VERSION;
     }
-    let data_type = read_u16(h, DATA_TYPE);
-    if data_type == 0 {
+    if type_unknown(h) {
         return refusal::DATA_TYPE;
     }
-    if 8 < data_type {
-        return refusal::DATA_TYPE;
-    }
-    if (read_u32(h, ATTRIBUTE_STRING_LEN) as u64) != read_u64(h, ATTRIBUTE_LENGTH) {
+    if lengths_differ(h) {
         return refusal::ATTRIBUTE_LENGTH;
     }
     0
+}
+
+// Whether the data type is not one of 1 to 8.
+fn type_unknown(h: &[u8]) -> bool
+    requires { ⌜ length (now h) ≡ 206 ⌝ }
+    ensures { λ r. ⌜ r ≡ typeUnknown (now (h .entry)) ⌝ }
+{
+    let data_type = read_u16(h, DATA_TYPE);
+    if data_type == 0 {
+        return true;
+    }
+    8 < data_type
+}
+
+// Whether the header's attribute length differs from the 8-byte one.
+fn lengths_differ(h: &[u8]) -> bool
+    requires { ⌜ length (now h) ≡ 206 ⌝ }
+    ensures { λ r. ⌜ r ≡ lengthsDiffer (now (h .entry)) ⌝ }
+{
+    (read_u32(h, ATTRIBUTE_STRING_LEN) as u64) != attribute_length(h)
+}
+
+// The bytes of the attributes: the 8-byte length.
+pub fn attribute_length(h: &[u8]) -> u64
+    requires { ⌜ length (now h) ≡ 206 ⌝ }
+    ensures { λ r. ⌜ r ≡ attributeLength (now (h .entry)) ⌝ }
+{
+    read_u64(h, ATTRIBUTE_LENGTH)
 }
 
 // The bytes of one element of this data type, 0 where there is no such type.
@@ -79,7 +103,7 @@ pub(crate) fn body_size(h: &[u8]) -> usize
     requires { ⌜ length (now h) ≡ 206 ⌝ }
     ensures { λ r. ⌜ (capped r ≡ capped (bodySize (now (h .entry)))) × (r < 2 ^ 40) ⌝ }
 {
-    let attributes = cap(read_u64(h, ATTRIBUTE_LENGTH));
+    let attributes = cap(attribute_length(h));
     let pixels = cap(pixel_count(h)) * element_size(read_u16(h, DATA_TYPE));
     (attributes + pixels) as usize
 }
@@ -95,6 +119,6 @@ pub(crate) fn shape(h: &[u8]) -> ImageShape
         matrix_size_z: read_u16(h, MATRIX_SIZE_Z),
         channels: read_u16(h, CHANNELS),
         data_type: read_u16(h, DATA_TYPE),
-        attribute_length: read_u64(h, ATTRIBUTE_LENGTH),
+        attribute_length: attribute_length(h),
     }
 }

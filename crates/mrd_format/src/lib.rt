@@ -3,8 +3,8 @@
 //
 // The functions on a fixed part ask that it has its kind's length; the callers, all proved, lend it so.
 // Assumes nothing.
-mod acquisition;
-mod image;
+pub mod acquisition;
+pub mod image;
 mod kind;
 pub mod message;
 pub mod refusal;
@@ -12,7 +12,6 @@ mod shape;
 pub mod size;
 mod waveform;
 
-pub use acquisition::trajectory_size;
 pub use kind::Identified;
 pub use kind::Kind;
 pub use shape::AcquisitionShape;

@@ -1,7 +1,7 @@
 // One message, by its kind and the bytes of its fixed part: the checks of its own bytes, its size, and
 // its kind with that kind's own numbers.
 ghost use mathlib.Core.Path.{_≡_};
-ghost use Prim.Native.Nat.{_<_, _^_};
+ghost use Prim.Native.Nat.{_<_, _≤_, _^_};
 ghost use lib.ListN.{length};
 ghost use Rattle.mrd_format.specs.Kinds.{fixedSize};
 ghost use Rattle.mrd_format.specs.Checks.{first};
@@ -46,16 +46,16 @@ fn name_fault(h: &[u8]) -> u8
     0
 }
 
-// How many bytes stand before the first zero.
-fn name_length(h: &[u8]) -> usize
+// How many bytes of a name's fixed part stand before the first zero.
+pub fn name_length(h: &[u8]) -> usize
     requires { ⌜ length (now h) ≡ 1024 ⌝ }
-    ensures { λ r. ⌜ r ≡ nameLength (now (h .entry)) ⌝ }
+    ensures { λ r. ⌜ (r ≡ nameLength (now (h .entry))) × (r ≤ 1024) ⌝ }
 {
     bytes::scan::find(h, 0, Kind::NAME_FIXED, 0)
 }
 
-// A text's length.
-fn text_length(h: &[u8]) -> usize
+// A text's length, by its fixed part.
+pub fn text_length(h: &[u8]) -> usize
     requires { ⌜ length (now h) ≡ 4 ⌝ }
     ensures { λ r. ⌜ (r ≡ textLength (now (h .entry))) × (r < 2 ^ 32) ⌝ }
 {

@@ -1,4 +1,7 @@
 // A message's kind with that kind's own numbers.
+ghost use mathlib.Core.Path.{_≡_};
+ghost use Rattle.mrd_format.specs.Shapes.{kindOf};
+use crate::kind::Kind;
 
 // The length of a name or of a text, in bytes.
 pub struct TextShape {
@@ -35,4 +38,22 @@ pub enum Shape {
     Acquisition(AcquisitionShape),
     Image(ImageShape),
     Waveform(WaveformShape),
+}
+
+impl Shape {
+    // The kind alone.
+    pub fn kind(self) -> Kind
+        ensures { λ r. ⌜ r ≡ kindOf self ⌝ }
+    {
+        match self {
+            Shape::ConfigurationName(_) => Kind::ConfigurationName,
+            Shape::ConfigurationText(_) => Kind::ConfigurationText,
+            Shape::HeaderText(_) => Kind::HeaderText,
+            Shape::Close => Kind::Close,
+            Shape::Text(_) => Kind::Text,
+            Shape::Acquisition(_) => Kind::Acquisition,
+            Shape::Image(_) => Kind::Image,
+            Shape::Waveform(_) => Kind::Waveform,
+        }
+    }
 }

@@ -51,7 +51,9 @@ from-halves (suc m) n (x ∷ s) =
 -- a number is its low part and, above that, its high part
 pub num-halves : (m n : ℕ) (s : List ℕ) (i : ℕ) → num (m + n) s i ≡ num m s i + num n s (i + m) * 256 ^ m
 unfolding num
-num-halves m n s i = from-halves m n (drop i s) ∙ ap (λ (t : List ℕ). fromBytes (take m (drop i s)) + fromBytes (take n t) * 256 ^ m) (drop-drop m i s)
+num-halves m n s i = from-halves m n
+    (drop i s) ∙ ap (λ (t : List ℕ). fromBytes (take m (drop i s)) + fromBytes (take n t) * 256 ^ m)
+    (drop-drop m i s)
 
 -- one byte
 pub num-one : (s : List ℕ) (i : ℕ) → num 1 s i ≡ getD s i 0

@@ -3,17 +3,24 @@
 // Each read asks that its bytes lie in the slice, and each write that they fit at the front of the
 // part it is lent; the callers, all proved, have tested the whole fixed part before. Assumes nothing.
 ghost use mathlib.Core.Path.{_≡_};
-ghost use Prim.Native.Nat.{_+_, _≤_};
+ghost use Prim.Native.Nat.{_+_, _≤_, _<_};
 ghost use mathlib.Core.List.{_++_};
 ghost use lib.ListN.{length, drop, replicate};
 ghost use Rattle.mrd_numbers.specs.Little.{num, toBytes};
+
+// A byte as a wider number.
+fn wide(byte: u8) -> u16
+    ensures { λ r. ⌜ (r ≡ byte) × (r < 256) ⌝ }
+{
+    byte as u16
+}
 
 // The number of the two bytes from `at` on.
 pub fn read_u16(s: &[u8], at: usize) -> u16
     requires { ⌜ at + 2 ≤ length (now s) ⌝ }
     ensures { λ r. ⌜ r ≡ num 2 (now (s .entry)) at ⌝ }
 {
-    (s[at] as u16) + (s[at + 1] as u16) * 256
+    wide(s[at]) + wide(s[at + 1]) * 256
 }
 
 // The number of the four bytes from `at` on: two halves.

@@ -47,7 +47,9 @@ module _ (q b k r : ℕ) (two : b < 2) (small : r < 2 ^ k) where
   unfolding bit
   bit-below j i e =
       let kept : parts q b k r % 2 ^ (1 + j) ≡ r % 2 ^ (1 + j) =
-      sym (mod-mod-pow (parts q b k r) i (1 + j)) ∙ ap (λ (n : ℕ). parts q b k r % 2 ^ n % 2 ^ (1 + j)) (sym e) ∙ ap (λ (n : ℕ). n % 2 ^ (1 + j)) (low (q * 2 + b) k small) in
+      sym (mod-mod-pow (parts q b k r) i (1 + j)) ∙ ap
+      (λ (n : ℕ). parts q b k r % 2 ^ n % 2 ^ (1 + j)) (sym e) ∙ ap (λ (n : ℕ). n % 2 ^ (1 + j))
+      (low (q * 2 + b) k small) in
       sym (field (parts q b k r) 1 j) ∙ ap (λ (n : ℕ). n / 2 ^ j) kept
 
 -- the other bits do not see bit k

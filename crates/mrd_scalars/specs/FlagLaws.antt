@@ -27,7 +27,9 @@ made-then-read true n b x h = ap (λ (d : ℕ). eqb d 1) (bit-of-with (n - 1) b 
 made-then-read false n b x h = refl
 
 -- the others stay
-made-keeps-others : (f g : Bool) (m n b x : ℕ) → (T f → T g → m - 1 ≡ n - 1 → ⊥) → b < 2 → (f && eqb (bit (m - 1) (changed g n b x)) 1) ≡ (f && eqb (bit (m - 1) x) 1)
+made-keeps-others :
+    (f g : Bool) (m n b x : ℕ) → (T f → T g → m - 1 ≡ n - 1 → ⊥) → b < 2 →
+    (f && eqb (bit (m - 1) (changed g n b x)) 1) ≡ (f && eqb (bit (m - 1) x) 1)
 made-keeps-others true true m n b x apart h = ap (λ (d : ℕ). eqb d 1) (other-bits-stay (m - 1) (n - 1) b x (apart tt tt) h)
 made-keeps-others true false m n b x apart h = refl
 made-keeps-others false g m n b x apart h = refl

@@ -36,7 +36,9 @@ signed-wide d low high =
     }
 
 -- what wraps back to the later counter is the difference around the wrap
-pub step-wraps : (earlier later d : ℕ) → earlier < 2 ^ 32 → d < 2 ^ 32 → (d + earlier) % 2 ^ 32 ≡ later → signed d ≡ counterStep earlier later
+pub step-wraps :
+    (earlier later d : ℕ) → earlier < 2 ^ 32 → d < 2 ^ 32 →
+    (d + earlier) % 2 ^ 32 ≡ later → signed d ≡ counterStep earlier later
 unfolding counterStep
 step-wraps earlier later d he hd wraps =
     let difference : d ≡ (later + (2 ^ 32 - earlier)) % 2 ^ 32 = omega arith in

@@ -25,7 +25,7 @@ use Rattle.mrd_stream.specs.Places.{located, Stepped, handed, stepBy, st
 
 -- the checks before the id passed
 pub record Early (c : Cursor) (t : List ℕ) : Type 0 where
-  pub open′ : isClosed (c .phase) ≡ false
+  pub unclosed : isClosed (c .phase) ≡ false
   pub few : c .number < messageLimit
   pub two : 2 ≤ length t
 
@@ -33,7 +33,7 @@ early : (c : Cursor) (t : List ℕ) (cs : List Check) → Early c t → first (e
 unfolding earlyChecks
 early c t cs e =
     let other : length t ≡ 1 → ⊥ = λ (q : length t ≡ 1). omega (arith, e .two) in
-    simp (e .open′, lt-leb _ _ (e .few), ne-eqb _ _ other)
+    simp (e .unclosed, lt-leb _ _ (e .few), ne-eqb _ _ other)
 
 -- the step where bytes are left
 pub step-front : (c : Cursor) (t : List ℕ) → 0 < length t → stepAt c t ≡ stepBy (judgeAs (identified (idAt t)) c t) c t

@@ -3,7 +3,7 @@
 use Prim.Native.Nat.{ℕ, zero, suc, pred, _+_, _<_}
 use native.Mathlib.Numerals.{add-one}
 use native.Mathlib.Omega.{arith}
-use mathlib.Core.Path.{_≡_, refl, sym, _∙_, subst}
+use mathlib.Core.Path.{_≡_, refl, sym, ap, _∙_, subst}
 use mathlib.Core.Bool.{Bool, true, false}
 use mathlib.Core.List.{List, [], _∷_}
 use borrow.Author.Tests.{eq-eqb, ne-eqb}
@@ -18,24 +18,23 @@ abbrev pub concluded : Answer → Verdict → Answer
 concluded a (accepted n) = a
 concluded a (refused f r b) = stream f r b
 
-abbrev pub heldBy : Bool → Answer → Answer → Answer
-heldBy true new old = new
-heldBy false new old = old
+abbrev pub pick : Bool → Answer → Answer → Answer
+pick true a b = a
+pick false a b = b
 
--- the place of record n in what is left of a trace, where `held` was found so far
+-- the place l where it is record n's, else what was found before
+abbrev pub keptBy : Located → ℕ → Answer → Answer
+keptBy l n before = pick (eqb (l .number) n) (found l) before
+
+-- the place of record n in what is left of a trace, where `before` was found so far
 abbrev pub seek : ℕ → Answer → Trace → Answer
-seek n held (message c k m r) = seek n (heldBy (eqb (c .number) n) (found (located c k m)) held) r
-seek n held (done v) = concluded held v
+seek n before (message c k m r) = seek n (keptBy (located c k m) n before) r
+seek n before (done v) = concluded before v
 
--- at record n its place is held
-pub seek-here : (n : ℕ) (held : Answer) (c : Cursor) (k : Kind) (m : List ℕ) (r : Trace) {l : Located} → c .number ≡ n → l ≡ located c k m →
-    seek n held (message c k m r) ≡ seek n (found l) r
-seek-here n held c k m r e q = rw (eq-eqb (c .number) n e, q)
-
--- at any other record what was held stays
-pub seek-other : (n : ℕ) (held : Answer) (c : Cursor) (k : Kind) (m : List ℕ) (r : Trace) → (c .number ≡ n → ⊥) →
-    seek n held (message c k m r) ≡ seek n held r
-seek-other n held c k m r e = rw (ne-eqb (c .number) n e)
+-- at a message, its place is kept where it is record n's
+pub seek-next : (n : ℕ) (before : Answer) (c : Cursor) (k : Kind) (m : List ℕ) {l : Located} → l ≡ located c k m → (r : Trace) →
+    seek n before (message c k m r) ≡ seek n (keptBy l n before) r
+seek-next n before c k m e r = ap (λ (l : Located). seek n (keptBy l n before) r) (sym e)
 
 -- the messages of a trace are numbered from i on
 abbrev pub Numbered : ℕ → Trace → Type 0
@@ -43,10 +42,10 @@ Numbered i (message c k m r) = (c .number ≡ i) × Numbered (suc i) r
 Numbered i (done v) = Unit {0}
 
 -- past its number, a record is not found again
-seek-past : (n i : ℕ) (held : Answer) (r : Trace) → Numbered i r → n < i → seek n held r ≡ concluded held (verdict r)
-seek-past n i held (done v) u h = refl
-seek-past n i held (message c k m r) u h =
-    rw (ne-eqb (c .number) n (λ e. omega (arith, u .0))) (seek-past n (suc i) held r (u .1) (omega arith))
+seek-past : (n i : ℕ) (before : Answer) (r : Trace) → Numbered i r → n < i → seek n before r ≡ concluded before (verdict r)
+seek-past n i before (done v) u h = refl
+seek-past n i before (message c k m r) u h =
+    rw (ne-eqb (c .number) n (λ e. omega (arith, u .0))) (seek-past n (suc i) before r (u .1) (omega arith))
 
 concluded-nth : (v : Verdict) (ls : List Located) (n : ℕ) → concluded (nth ls n) v ≡ placeBy v ls n
 concluded-nth (accepted k) ls n = refl
@@ -56,7 +55,8 @@ seek-ahead : (d i : ℕ) (r : Trace) → Numbered i r → seek (i + d) (number 1
 seek-ahead d i (done v) u = concluded-nth v [] d
 seek-ahead zero i (message c k m r) u =
     let here : c .number ≡ i + 0 = omega (arith, u .0) in
-    rw (eq-eqb (c .number) (i + 0) here) (seek-past (i + 0) (suc i) (found (located c k m)) r (u .1) (omega arith) ∙ concluded-nth (verdict r) (located c k m ∷ places r) 0)
+    rw (eq-eqb (c .number) (i + 0) here)
+    (seek-past (i + 0) (suc i) (found (located c k m)) r (u .1) (omega arith) ∙ concluded-nth (verdict r) (located c k m ∷ places r) 0)
 seek-ahead (suc d) i (message c k m r) u =
     let next : i + suc d ≡ suc i + d = omega arith in
     rw (ne-eqb (c .number) (i + suc d) (λ e. omega (arith, u .0)), next) (seek-ahead d (suc i) r (u .1) ∙

@@ -3,23 +3,23 @@
 use Prim.Native.Nat.{ℕ, _+_, _-_, _≤_, _<_}
 use native.Mathlib.Omega.{arith}
 use mathlib.Core.Path.{_≡_, refl, sym, ap, _∙_}
-use mathlib.Core.List.{List, [], _∷_}
-use lib.ListN.{length, take, drop, length-drop}
+use mathlib.Core.List.{List, [], _∷_, _++_}
+use lib.ListN.{length, take, drop, length-drop, take-append-drop}
 use lib.Seq.{drop-drop}
 use Rattle.mrd_format.specs.declared.kind.Kind.{Kind}
-use Rattle.mrd_format.specs.Message.{fixedPart}
+use Rattle.mrd_format.specs.Message.{fixedPart, WellFormed}
 use Rattle.mrd_format.specs.MessageLaws.{size-least}
 use Rattle.mrd_stream.specs.declared.cursor.Cursor.{Cursor}
 use Rattle.mrd_stream.specs.Walk.{Judged, faulty, whole, judge, after, Verdict, Trace, message, done, beginning, walk, trace}
 use Rattle.mrd_stream.specs.WalkLaws.{walk-end, walk-fault, walk-next}
-use Rattle.mrd_stream.specs.Judged.{WholeAt, judge-whole}
+use Rattle.mrd_stream.specs.Judged.{WholeAt, judge-whole, wellFormed}
 use Rattle.mrd_stream.specs.Places.{Located, located, Stepped, handed, over, stepBy, stepAt, step}
 
 -- the trace from a cursor on
 abbrev pub from : Cursor → List ℕ → Trace
 from c s = walk (drop (c .start) s) 0 c
 
--- a step from c over s that hands out l goes to d: it passes one message of the trace
+-- a step from c over s that hands out l goes to d: it passes one message of the trace, the well-formed bytes at c
 pub record Passes (c : Cursor) (s : List ℕ) (l : Located) (d : Cursor) : Type 0 where
   pub kind : Kind
   pub bytes : List ℕ
@@ -28,6 +28,9 @@ pub record Passes (c : Cursor) (s : List ℕ) (l : Located) (d : Cursor) : Type 
   pub ahead : c .start < d .start
   pub within : d .start ≤ length s
   pub counted : d .number ≡ c .number + 1
+  pub well : WellFormed bytes
+  pub known : well .kind ≡ kind
+  pub split : drop (c .start) s ≡ bytes ++ drop (d .start) s
 
 -- a step hands out a message or ends the walk, and not both
 not-both : {l : Located} {d : Cursor} {v : Verdict} → over v ≡ handed l d → ⊥
@@ -67,6 +70,9 @@ step-handed c s {l} {d} e = at (drop (c .start) s) refl e
           ahead = rw next (omega arith);
           within = rw next (omega (arith, w .fits));
           counted = rw next;
+          well = wellFormed c (b ∷ t) w;
+          known = refl;
+          split = rw (next, ← rest) (here ∙ sym (take-append-drop z (b ∷ t)));
         }
 
     at : (t : List ℕ) → drop (c .start) s ≡ t → stepAt c t ≡ handed l d → Passes c s l d

@@ -2,10 +2,11 @@
 ghost use mathlib.Core.Path.{_≡_};
 ghost use Rattle.mrd_stream.specs.Walk.{answer};
 ghost use Rattle.mrd_stream.specs.Places.{place, step};
-ghost use Rattle.mrd_stream.specs.Seek.{concluded};
-ghost use Rattle.mrd_stream.specs.Told.{toldChecked, toldPlaced, toldStep};
+ghost use Rattle.mrd_stream.specs.Seek.{concluded, keptBy};
+ghost use Rattle.mrd_stream.specs.Told.{toldChecked, toldPlaced, toldRecord, toldStep};
 use crate::answer::Checked;
 use crate::answer::Placed;
+use crate::answer::Record;
 use crate::answer::Step;
 use crate::cursor::Cursor;
 use crate::judge::judge;
@@ -57,9 +58,7 @@ pub fn place(s: &[u8], n: usize) -> Placed
         let step = c.next(s);
         match step {
             Step::Message(record, next) => {
-                if c.number == n {
-                    found = Placed::Found(record);
-                }
+                found = kept(found, record, n);
                 c = next;
             }
             Step::End(answer) => {
@@ -67,6 +66,17 @@ pub fn place(s: &[u8], n: usize) -> Placed
             }
         }
     }
+}
+
+// This record where it is record n, else what was found before.
+fn kept(before: Placed, here: Record, n: usize) -> Placed
+    ensures { λ r. ⌜ toldPlaced r ≡ keptBy (toldRecord here) n (toldPlaced before) ⌝ }
+{
+    let place = here.place;
+    if place.number == n {
+        return Placed::Found(here);
+    }
+    before
 }
 
 // What was found, unless the stream is refused.

@@ -34,7 +34,7 @@ ownChecks Text h name n = []
 ownChecks Acquisition h name n = acquisition.checks h
 ownChecks Image h name n =
     (4 when not (eqb (image.get image.version h) 1)) ∷
-    (8 when eqb (image.get image.data-type h) 0 || ltb 8 (image.get image.data-type h)) ∷
+    (8 when image.typeUnknown h) ∷
     (9 when not (eqb (image.get image.attribute-string-len h) (n .attributes))) ∷
     []
 ownChecks Waveform h name n = waveform.checks h

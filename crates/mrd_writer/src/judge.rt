@@ -11,6 +11,7 @@ ghost use Rattle.mrd_writer.specs.JudgeLaws.{sized, bodied};
 use crate::answer::Judged;
 use crate::lengths::Lengths;
 use mrd_format::Kind;
+use mrd_format::acquisition::trajectory_size;
 use mrd_format::message;
 use mrd_format::refusal;
 use mrd_format::size::LIMIT;
@@ -98,7 +99,7 @@ fn judge_acquisition(header: &[u8], lent: Lengths) -> Judged
     let checked = checked_size(Kind::Acquisition, header);
     match checked {
         Judged::Size(size) => {
-            let trajectory = mrd_format::trajectory_size(header);
+            let trajectory = trajectory_size(header);
             let mut due = Lengths::none();
             due.trajectory = trajectory;
             due.samples = size - (2 + Kind::ACQUISITION_FIXED) - trajectory;

@@ -1,58 +1,43 @@
--- `mrd_numbers::read_u16` meets its contract: the two bytes, each below 256, are the halves of the number.
+-- `mrd_numbers::read_u16` meets its contract: the two bytes are the halves of the number.
 -- Assumes nothing.
 use borrow.Author.Needs.{needs}
-use native.Mathlib.Omega.{arith}
-use mathlib.Core.Path.{_≡_, sym, _∙_}
-use Prim.Native.Nat.{_+_}
 use Rattle.mrd_numbers.specs.Laws.{num-halves, num-one}
 use Rattle.mrd_numbers.proofs.read_u16.Statement.{statement}
 use Rattle.mrd_numbers.proofs.read_u16.Tie as tie
-use Rattle.mrd_numbers.proofs.read_u16.Reads as reads
-use Rattle.mrd_numbers.proofs.read_u16.Lts as lts
 
--- src/lib.rt:15:6
-shared-slice-read-result : tie.Need-shared-slice-read-result
-shared-slice-read-result c = search needs
+shared-slice-read-wide : tie.Need-shared-slice-read-wide
+shared-slice-read-wide c = search needs
 
--- src/lib.rt:15:6
-cast-result : tie.Need-cast-result
-cast-result c = omega (arith, c .shared-slice-known .given (c .before .args .at))
+wide-requires : tie.Need-wide-requires
+wide-requires c κs = search needs
 
--- src/lib.rt:15:25
+add-wide : tie.Need-add-wide
+add-wide c = search needs
+
+shared-slice-read-wide-2 : tie.Need-shared-slice-read-wide-2
+shared-slice-read-wide-2 c = search needs
+
+wide-requires-2 : tie.Need-wide-requires-2
+wide-requires-2 c κs = search needs
+
+mul-result : tie.Need-mul-result
+mul-result c = search needs
+
 add-result : tie.Need-add-result
 add-result c = search needs
 
--- src/lib.rt:15:23
-shared-slice-read-result-2 : tie.Need-shared-slice-read-result-2
-shared-slice-read-result-2 c = search needs
-
--- src/lib.rt:15:23
-cast-result-2 : tie.Need-cast-result-2
-cast-result-2 c = omega (arith, c .shared-slice-known2 .given (c .before .before .args .at + 1))
-
--- src/lib.rt:15:22
-mul-result : tie.Need-mul-result
-mul-result c = omega (arith, c .shared-slice-known2 .given (c .before .before .args .at + 1))
-
--- src/lib.rt:15:5
-add-result-2 : tie.Need-add-result-2
-add-result-2 c =
-    omega
-    (arith, c .shared-slice-known2 .given (c .before .before .args .at), c .shared-slice-known2 .given (c .before .before .args .at + 1))
-
--- src/lib.rt:11:1
 returns : tie.Need-returns
-returns c = simp (num-halves 1 1, num-one)
+returns c = simp (c .before .before .wide .ensures .0, c .wide2 .ensures .0, num-halves 1 1, num-one)
 
 pub read-u16-spec : {M : Type 1} → statement M
 read-u16-spec =
     tie.close
     (tie.spec
-    shared-slice-read-result
-    cast-result
-    add-result
-    shared-slice-read-result-2
-    cast-result-2
+    shared-slice-read-wide
+    wide-requires
+    add-wide
+    shared-slice-read-wide-2
+    wide-requires-2
     mul-result
-    add-result-2
+    add-result
     returns)

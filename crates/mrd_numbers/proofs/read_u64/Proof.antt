@@ -4,39 +4,28 @@ use borrow.Author.Needs.{needs}
 use Rattle.mrd_numbers.specs.Laws.{num-halves}
 use Rattle.mrd_numbers.proofs.read_u64.Statement.{statement}
 use Rattle.mrd_numbers.proofs.read_u64.Tie as tie
-use Rattle.mrd_numbers.proofs.read_u64.Reads as reads
-use Rattle.mrd_numbers.proofs.read_u64.Lts as lts
-use Rattle.mrd_numbers.proofs.read_u32.Reads as read-u32-reads
 
--- src/lib.rt:31:6
 read-u32-requires : tie.Need-read-u32-requires
 read-u32-requires c κs = search needs
 
--- src/lib.rt:31:6
 cast-result : tie.Need-cast-result
 cast-result c = search needs
 
--- src/lib.rt:31:45
 add-read-u32 : tie.Need-add-read-u32
 add-read-u32 c = search needs
 
--- src/lib.rt:31:33
 read-u32-requires-2 : tie.Need-read-u32-requires-2
 read-u32-requires-2 c κs = search needs
 
--- src/lib.rt:31:33
 cast-result-2 : tie.Need-cast-result-2
 cast-result-2 c = search needs
 
--- src/lib.rt:31:32
 mul-result : tie.Need-mul-result
 mul-result c = search needs
 
--- src/lib.rt:31:5
 add-result : tie.Need-add-result
 add-result c = search needs
 
--- src/lib.rt:27:1
 returns : tie.Need-returns
 returns c = simp (c .before .read-u32 .ensures, c .read-u322 .ensures, num-halves 4 4)
 

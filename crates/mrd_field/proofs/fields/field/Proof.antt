@@ -78,7 +78,11 @@ returns-3 c = record { says = ap whole (c .read-u64 .ensures) ∙ sym (at-u64 (c
 returns-4 : tie.Need-returns-4
 returns-4 c =
     record {
-      says = ap signed (toZ-ofZ w32 (c .as-signed .result) (search needs) ∙ c .as-signed .ensures ∙ ap counters.signed (c .before .read-u322 .ensures)) ∙ sym (at-i32 (c .before .before) .value);
+      says = ap signed
+          (toZ-ofZ w32
+          (c .as-signed .result) (search needs) ∙ c .as-signed .ensures ∙ ap counters.signed
+          (c .before .read-u322 .ensures)) ∙ sym
+          (at-i32 (c .before .before) .value);
       apart = tt;
     }
 

@@ -69,15 +69,21 @@ returns-5 c = search needs
 
 returns-6 : tie.Need-returns-6
 unfolding typeAt
-returns-6 c = rw (c .before .before .enum-told6 .given .1) (c .letter-in .ensures ∙ drawn-letter 340 acquisition.table (c .before .before .before .before .args .offset) tt)
+returns-6 c = rw
+    (c .before .before .enum-told6 .given .1)
+    (c .letter-in .ensures ∙ drawn-letter 340 acquisition.table (c .before .before .before .before .args .offset) tt)
 
 returns-7 : tie.Need-returns-7
 unfolding typeAt
-returns-7 c = rw (c .before .before .enum-told7 .given .1) (c .letter-in2 .ensures ∙ drawn-letter 198 image.table (c .before .before .before .before .args .offset) tt)
+returns-7 c = rw
+    (c .before .before .enum-told7 .given .1)
+    (c .letter-in2 .ensures ∙ drawn-letter 198 image.table (c .before .before .before .before .args .offset) tt)
 
 returns-8 : tie.Need-returns-8
 unfolding typeAt
-returns-8 c = rw (c .before .before .enum-told8 .given .1) (c .letter-in3 .ensures ∙ drawn-letter 32 waveform.table (c .before .before .before .before .args .offset) tt)
+returns-8 c = rw
+    (c .before .before .enum-told8 .given .1)
+    (c .letter-in3 .ensures ∙ drawn-letter 32 waveform.table (c .before .before .before .before .args .offset) tt)
 
 pub letter-spec : {M : Type 1} → statement M
 letter-spec =

@@ -1,34 +1,25 @@
 -- `mrd_format::acquisition::mask_differs` meets its contract: a mask is all zero exactly when it has no ones.
 -- Assumes nothing.
+use borrow.Author.Needs.{needs}
+use borrow.Author.Tests.{ne-eqb, eq-eqb}
 use Rattle.mrd_format.specs.Acquisition.{maskDiffers}
 use Rattle.mrd_format.specs.MaskLaws.{all-zero}
-use borrow.Author.Tests.{ne-eqb, eq-eqb, lt-ltb, le-ltb}
-use borrow.Author.Needs.{needs}
 use Rattle.mrd_format.proofs.acquisition.mask_differs.Statement.{statement}
 use Rattle.mrd_format.proofs.acquisition.mask_differs.Tie as tie
-use Rattle.mrd_format.proofs.acquisition.mask_differs.Reads as reads
-use Rattle.mrd_format.proofs.acquisition.mask_differs.Lts as lts
-use Rattle.mrd_format.proofs.acquisition.mask_ones.Reads as mask-ones-reads
-use Rattle.mrd_numbers.proofs.read_u16.Reads as read-u16-reads
 
--- src/acquisition.rt:60:9
 mask-ones-requires : tie.Need-mask-ones-requires
 mask-ones-requires c κs = search needs
 
--- src/acquisition.rt:62:9
 returns : tie.Need-returns
 unfolding maskDiffers
 returns c = simp (all-zero, ← c .before .mask-ones .ensures, eq-eqb _ _ (c .if1 .taken))
 
--- src/acquisition.rt:64:13
 read-u16-requires : tie.Need-read-u16-requires
 read-u16-requires c κs = search needs
 
--- src/acquisition.rt:64:13
 cast-result : tie.Need-cast-result
 cast-result c = search needs
 
--- src/acquisition.rt:56:1
 returns-2 : tie.Need-returns-2
 unfolding maskDiffers
 returns-2 c = simp (all-zero, ← c .before .before .mask-ones .ensures, ne-eqb _ _ (c .before .if1 .left), ← c .read-u16 .ensures)

@@ -1,17 +1,13 @@
 -- `mrd_format::acquisition::mask_ones` meets its contract. The loop's invariant: the ones counted, with those of the words that are left, are
 -- all ones of the mask. The measure is the number of words left.
 -- Assumes nothing.
-use mathlib.Core.Path.{_≡_, sym}
-use lib.Count.{ones-le}
 use Prim.Native.Nat.{_-_}
-use Rattle.mrd_format.specs.MaskLaws.{Counted, start, step, finish}
-use borrow.Author.Needs.{needs}
 use native.Mathlib.Omega.{arith}
+use borrow.Author.Needs.{needs}
+use lib.Count.{ones-le}
+use Rattle.mrd_format.specs.MaskLaws.{Counted, start, step, finish}
 use Rattle.mrd_format.proofs.acquisition.mask_ones.Statement.{statement}
 use Rattle.mrd_format.proofs.acquisition.mask_ones.Tie as tie
-use Rattle.mrd_format.proofs.acquisition.mask_ones.Reads as reads
-use Rattle.mrd_format.proofs.acquisition.mask_ones.Lts as lts
-use Rattle.mrd_numbers.proofs.read_u64.Reads as read-u64-reads
 
 abbrev Inv-loop : tie.InvT-loop
 Inv-loop h ones₀ i₀ ones i = Counted h i ones
@@ -19,39 +15,30 @@ Inv-loop h ones₀ i₀ ones i = Counted h i ones
 abbrev μ-loop : tie.MeasureT-loop
 μ-loop h ones₀ i₀ ones i = 16 - i
 
--- src/acquisition.rt:65:5
 loop-holds : tie.Need-loop-holds Inv-loop μ-loop
 loop-holds c = start (c .before .args .h .now)
 
--- src/acquisition.rt:66:60
 mul-read-u64 : tie.Need-mul-read-u64 Inv-loop μ-loop
 mul-read-u64 c = omega arith
 
--- src/acquisition.rt:66:45
 add-read-u64 : tie.Need-add-read-u64 Inv-loop μ-loop
 add-read-u64 c = omega arith
 
--- src/acquisition.rt:66:33
 read-u64-requires : tie.Need-read-u64-requires Inv-loop μ-loop
 read-u64-requires c κs = omega arith
 
--- src/acquisition.rt:66:9
 add-ones : tie.Need-add-ones Inv-loop μ-loop
 add-ones c = omega (arith, ones-le 64 (c .read-u64 .result) (search needs))
 
--- src/acquisition.rt:67:9
 add-i : tie.Need-add-i Inv-loop μ-loop
 add-i c = omega arith
 
--- src/acquisition.rt:65:5
 loop-less : tie.Need-loop-less Inv-loop μ-loop
 loop-less c = omega arith
 
--- src/acquisition.rt:65:5
 loop-again : tie.Need-loop-again Inv-loop μ-loop
 loop-again c = let w = c .read-u64 .ensures in rw w (step (c .before .before .loop .inv) (c .before .loop-test .taken) (rw (← w) (search needs)))
 
--- src/acquisition.rt:59:1
 returns : tie.Need-returns Inv-loop μ-loop
 returns c = finish (c .before .loop .inv) (c .loop-test .left)
 

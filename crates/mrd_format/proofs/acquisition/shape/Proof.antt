@@ -1,26 +1,19 @@
 -- `mrd_format::acquisition::shape` meets its contract: each number is the one read at its offset.
 -- Assumes nothing.
-use Rattle.mrd_format.specs.Acquisition.{numbers}
 use borrow.Author.Needs.{needs}
+use Rattle.mrd_format.specs.Acquisition.{numbers}
 use Rattle.mrd_format.proofs.acquisition.shape.Statement.{statement}
 use Rattle.mrd_format.proofs.acquisition.shape.Tie as tie
-use Rattle.mrd_format.proofs.acquisition.shape.Reads as reads
-use Rattle.mrd_format.proofs.acquisition.shape.Lts as lts
-use Rattle.mrd_numbers.proofs.read_u16.Reads as read-u16-reads
 
--- src/acquisition.rt:89:28
 read-u16-requires : tie.Need-read-u16-requires
 read-u16-requires c κs = search needs
 
--- src/acquisition.rt:90:26
 read-u16-requires-2 : tie.Need-read-u16-requires-2
 read-u16-requires-2 c κs = search needs
 
--- src/acquisition.rt:91:32
 read-u16-requires-3 : tie.Need-read-u16-requires-3
 read-u16-requires-3 c κs = search needs
 
--- src/acquisition.rt:84:1
 returns : tie.Need-returns
 unfolding numbers
 returns c = simp (c .before .before .read-u16 .ensures, c .before .read-u162 .ensures, c .read-u163 .ensures)

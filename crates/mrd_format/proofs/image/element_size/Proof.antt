@@ -1,32 +1,25 @@
 -- `mrd_format::image::element_size` meets its contract: the table is that of the definition.
 -- Assumes nothing.
-use mathlib.Core.List.{[], _∷_}
-use mathlib.Core.Path.{sym}
-use lib.ListN.{List·getD-eq-default}
-use mathlib.Core.Path.{refl}
 use native.Mathlib.Omega.{arith}
-use Rattle.mrd_format.specs.SizeLaws.{elementSize-small}
-use Rattle.mrd_format.specs.Image.{elementSize}
+use mathlib.Core.List.{[], _∷_}
+use mathlib.Core.Path.{sym, refl}
 use borrow.Author.Needs.{needs}
+use lib.ListN.{List·getD-eq-default}
+use Rattle.mrd_format.specs.Image.{elementSize}
+use Rattle.mrd_format.specs.SizeLaws.{elementSize-small}
 use Rattle.mrd_format.proofs.image.element_size.Statement.{statement}
 use Rattle.mrd_format.proofs.image.element_size.Tie as tie
-use Rattle.mrd_format.proofs.image.element_size.Reads as reads
-use Rattle.mrd_format.proofs.image.element_size.Lts as lts
 
--- src/image.rt:57:9
 mul-result : tie.Need-mul-result
 mul-result c = search needs
 
--- src/image.rt:57:9
 array-read-result : tie.Need-array-read-result
 array-read-result c = search needs
 
--- src/image.rt:52:1
 returns : tie.Need-returns
 unfolding elementSize
 returns c = (refl, elementSize-small (c .before .args .data-type))
 
--- src/image.rt:52:1
 returns-2 : tie.Need-returns-2
 unfolding elementSize
 returns-2 c = (sym (List·getD-eq-default (0 ∷ 2 ∷ 2 ∷ 4 ∷ 4 ∷ 4 ∷ 8 ∷ 8 ∷ 16 ∷ []) 0 (c .if1 .left)), omega arith)

@@ -1,57 +1,52 @@
 -- `mrd_format::image::pixel_count` meets its contract: two products below 2 ^ 32 multiply to less than 2 ^ 64.
 -- Assumes nothing.
-use Rattle.mrd_format.specs.Image.{pixelCount}
 use native.Mathlib.Nat.{mul-assoc}
-use Rattle.mrd_format.specs.SizeLaws.{product}
 use native.Mathlib.Omega.{arith}
 use borrow.Author.Needs.{needs}
+use Rattle.mrd_format.specs.Image.{pixelCount}
+use Rattle.mrd_format.specs.SizeLaws.{product}
 use Rattle.mrd_format.proofs.image.pixel_count.Statement.{statement}
 use Rattle.mrd_format.proofs.image.pixel_count.Tie as tie
-use Rattle.mrd_format.proofs.image.pixel_count.Reads as reads
-use Rattle.mrd_format.proofs.image.pixel_count.Lts as lts
-use Rattle.mrd_format.proofs.size.product.Reads as product-reads
-use Rattle.mrd_numbers.proofs.read_u16.Reads as read-u16-reads
 
--- src/image.rt:71:25
 read-u16-requires : tie.Need-read-u16-requires
 read-u16-requires c κs = search needs
 
--- src/image.rt:71:53
 read-u16-requires-2 : tie.Need-read-u16-requires-2
 read-u16-requires-2 c κs = search needs
 
--- src/image.rt:71:9
 product-requires : tie.Need-product-requires
 product-requires c κs = search needs
 
--- src/image.rt:72:26
 read-u16-requires-3 : tie.Need-read-u16-requires-3
 read-u16-requires-3 c κs = search needs
 
--- src/image.rt:72:54
 read-u16-requires-4 : tie.Need-read-u16-requires-4
 read-u16-requires-4 c κs = search needs
 
--- src/image.rt:72:9
 product-requires-2 : tie.Need-product-requires-2
 product-requires-2 c κs = search needs
 
--- src/image.rt:73:5
 mul-result : tie.Need-mul-result
-mul-result c = omega (arith, product {a = c .before .before .before .product .result} {b = c .product2 .result} {x = 4294967295} {y = 4294967295} (search needs) (search needs))
+mul-result c = omega (
+  arith,
+  product {a = c .before .before .before .product .result} {b = c .product2 .result} {x = 4294967295} {y = 4294967295}
+      (search needs) (search needs),
+)
 
--- src/image.rt:67:1
 returns : tie.Need-returns
 unfolding pixelCount
-returns c = simp (
-  c .before .before .before .product .ensures .0,
-  c .product2 .ensures .0,
-  c .before .before .before .before .before .read-u16 .ensures,
-  c .before .before .before .before .read-u162 .ensures,
-  c .before .before .read-u163 .ensures,
-  c .before .read-u164 .ensures,
-  mul-assoc,
-)
+returns c =
+    let read-u16 = c .before .before .before .before .before .read-u16 in
+    let read-u162 = c .before .before .before .before .read-u162 in
+    simp (
+      c .before .before .before .product .ensures .0,
+      c .product2 .ensures .0,
+      read-u16 .ensures,
+      read-u162 .ensures,
+      c .before .before .read-u163 .ensures,
+      c .before .read-u164 .ensures,
+      mul-assoc,
+    )
 
 pub pixel-count-spec : {M : Type 1} → statement M
 pixel-count-spec =

@@ -1,27 +1,21 @@
 -- `mrd_format::message::name_fault` meets its contract: the test is that of check 5.
 -- Assumes nothing.
-use Rattle.mrd_format.specs.Message.{ownChecks}
-use borrow.Author.Tests.{ne-eqb, eq-eqb, lt-ltb, le-ltb, le-leb, lt-leb}
 use borrow.Author.Needs.{needs}
+use borrow.Author.Tests.{le-leb, lt-leb}
+use Rattle.mrd_format.specs.Message.{ownChecks}
 use Rattle.mrd_format.proofs.message.name_fault.Statement.{statement}
 use Rattle.mrd_format.proofs.message.name_fault.Tie as tie
-use Rattle.mrd_format.proofs.message.name_fault.Reads as reads
-use Rattle.mrd_format.proofs.message.name_fault.Lts as lts
-use Rattle.mrd_format.proofs.message.name_length.Reads as name-length-reads
 
--- src/message.rt:52:28
 name-length-requires : tie.Need-name-length-requires
 name-length-requires c κs = search needs
 
--- src/message.rt:53:9
 returns : tie.Need-returns
 unfolding ownChecks
-returns c = simp (← c .before .name-length .ensures, le-leb _ _ (c .if1 .taken))
+returns c = simp (← c .before .name-length .ensures .0, le-leb _ _ (c .if1 .taken))
 
--- src/message.rt:48:1
 returns-2 : tie.Need-returns-2
 unfolding ownChecks
-returns-2 c = simp (← c .before .name-length .ensures, lt-leb _ _ (c .if1 .left))
+returns-2 c = simp (← c .before .name-length .ensures .0, lt-leb _ _ (c .if1 .left))
 
 pub name-fault-spec : {M : Type 1} → statement M
 name-fault-spec = tie.close (tie.spec name-length-requires returns returns-2)

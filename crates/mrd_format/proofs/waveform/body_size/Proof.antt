@@ -1,31 +1,22 @@
 -- `mrd_format::waveform::body_size` meets its contract: the product is that of the definition.
 -- Assumes nothing.
-use Rattle.mrd_format.specs.Waveform.{bodySize}
 use borrow.Author.Needs.{needs}
+use Rattle.mrd_format.specs.Waveform.{bodySize}
 use Rattle.mrd_format.proofs.waveform.body_size.Statement.{statement}
 use Rattle.mrd_format.proofs.waveform.body_size.Tie as tie
-use Rattle.mrd_format.proofs.waveform.body_size.Reads as reads
-use Rattle.mrd_format.proofs.waveform.body_size.Lts as lts
-use Rattle.mrd_format.proofs.size.product.Reads as product-reads
-use Rattle.mrd_numbers.proofs.read_u16.Reads as read-u16-reads
 
--- src/waveform.rt:35:14
 read-u16-requires : tie.Need-read-u16-requires
 read-u16-requires c κs = search needs
 
--- src/waveform.rt:35:37
 read-u16-requires-2 : tie.Need-read-u16-requires-2
 read-u16-requires-2 c κs = search needs
 
--- src/waveform.rt:35:6
 product-requires : tie.Need-product-requires
 product-requires c κs = search needs
 
--- src/waveform.rt:35:6
 mul-result : tie.Need-mul-result
 mul-result c = search needs
 
--- src/waveform.rt:31:1
 returns : tie.Need-returns
 unfolding bodySize
 returns c = (simp (c .product .ensures .0, c .before .before .read-u16 .ensures, c .before .read-u162 .ensures), search needs)

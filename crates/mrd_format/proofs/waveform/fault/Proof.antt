@@ -1,24 +1,18 @@
 -- `mrd_format::waveform::fault` meets its contract: the test is that of the one check.
 -- Assumes nothing.
-use Rattle.mrd_format.specs.Waveform.{checks}
-use borrow.Author.Tests.{ne-eqb, eq-eqb, lt-ltb, le-ltb, le-leb, lt-leb}
 use borrow.Author.Needs.{needs}
+use borrow.Author.Tests.{ne-eqb, eq-eqb}
+use Rattle.mrd_format.specs.Waveform.{checks}
 use Rattle.mrd_format.proofs.waveform.fault.Statement.{statement}
 use Rattle.mrd_format.proofs.waveform.fault.Tie as tie
-use Rattle.mrd_format.proofs.waveform.fault.Reads as reads
-use Rattle.mrd_format.proofs.waveform.fault.Lts as lts
-use Rattle.mrd_numbers.proofs.read_u16.Reads as read-u16-reads
 
--- src/waveform.rt:21:8
 read-u16-requires : tie.Need-read-u16-requires
 read-u16-requires c κs = search needs
 
--- src/waveform.rt:22:9
 returns : tie.Need-returns
 unfolding checks
 returns c = simp (← c .before .read-u16 .ensures, ne-eqb _ _ (c .if1 .taken))
 
--- src/waveform.rt:17:1
 returns-2 : tie.Need-returns-2
 unfolding checks
 returns-2 c = simp (← c .before .read-u16 .ensures, eq-eqb _ _ (c .if1 .left))

@@ -1,38 +1,29 @@
 -- `mrd_stream::judge::fixed_part` meets its contract: the part from byte 2 on is as long as the kind's fixed part.
 -- Assumes nothing.
-use native.Mathlib.Omega.{arith}
-use Rattle.mrd_format.specs.Kinds.{fixedSize}
-use Rattle.mrd_format.specs.Message.{fixedPart}
 use Prim.Native.Nat.{_+_, _-_}
+use native.Mathlib.Omega.{arith}
 use mathlib.Core.Path.{_≡_}
 use borrow.Author.Needs.{needs}
+use Rattle.mrd_format.specs.Kinds.{fixedSize}
+use Rattle.mrd_format.specs.Message.{fixedPart}
 use Rattle.mrd_stream.proofs.judge.fixed_part.Statement.{statement}
 use Rattle.mrd_stream.proofs.judge.fixed_part.Tie as tie
-use Rattle.mrd_stream.proofs.judge.fixed_part.Reads as reads
-use Rattle.mrd_stream.proofs.judge.fixed_part.Lts as lts
-use Rattle.mrd_format.proofs.kind.Kind.fixed_size.Reads as fixed-size-reads
 
--- src/judge.rt:90:19
 fixed-size-requires : tie.Need-fixed-size-requires
 fixed-size-requires c κs = search needs
 
--- src/judge.rt:90:15
 add-end : tie.Need-add-end
 add-end c = search needs
 
--- src/judge.rt:91:5
 sub-result : tie.Need-sub-result
 sub-result c = search needs
 
--- src/judge.rt:91:5
 part-result-start : tie.Need-part-result-start
 part-result-start c = search needs
 
--- src/judge.rt:91:5
 part-result-end : tie.Need-part-result-end
 part-result-end c = search needs
 
--- src/judge.rt:86:1
 returns : tie.Need-returns
 unfolding fixedPart
 returns c = let k = c .before .before .before .args .kind in

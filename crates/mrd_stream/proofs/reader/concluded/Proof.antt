@@ -1,29 +1,24 @@
 -- `mrd_stream::reader::concluded` meets its contract: it goes by the stream's answer.
 -- Assumes nothing.
-use Rattle.mrd_stream.specs.Told.{toldPlaced, toldChecked}
-use Rattle.mrd_stream.specs.Seek.{concluded}
 use mathlib.Core.Path.{sym, ap}
 use borrow.Author.Needs.{needs}
+use Rattle.mrd_stream.specs.Seek.{concluded}
+use Rattle.mrd_stream.specs.Told.{toldPlaced, toldChecked}
 use Rattle.mrd_stream.proofs.reader.concluded.Statement.{statement}
 use Rattle.mrd_stream.proofs.reader.concluded.Tie as tie
-use Rattle.mrd_stream.proofs.reader.concluded.Reads as reads
-use Rattle.mrd_stream.proofs.reader.concluded.Lts as lts
 
--- src/reader.rt:77:33
 enum-told : tie.Need-enum-told
 enum-told c = search needs
 
--- src/reader.rt:78:26
 enum-known-answer : tie.Need-enum-known-answer
 enum-known-answer c = search needs
 
--- src/reader.rt:73:1
 returns : tie.Need-returns
 returns c = search needs
 
--- src/reader.rt:73:1
 returns-2 : tie.Need-returns-2
-returns-2 c = let a = c .before .before .before .args in sym (ap (λ v. concluded (toldPlaced (a .found)) (toldChecked v)) (c .before .answer .given .1))
+returns-2 c = let a = c .before .before .before .args in sym
+    (ap (λ v. concluded (toldPlaced (a .found)) (toldChecked v)) (c .before .answer .given .1))
 
 pub concluded-spec : {M : Type 1} → statement M
 concluded-spec = tie.close (tie.spec enum-told enum-known-answer returns returns-2)

@@ -1,23 +1,17 @@
 -- `mrd_stream::Cursor::ended` meets its contract: the phase says whether a close was met.
 -- Assumes nothing.
-use Rattle.mrd_stream.specs.Walk.{ended}
 use borrow.Author.Needs.{needs}
+use Rattle.mrd_stream.specs.Walk.{ended}
 use Rattle.mrd_stream.proofs.cursor.Cursor.ended.Statement.{statement}
 use Rattle.mrd_stream.proofs.cursor.Cursor.ended.Tie as tie
-use Rattle.mrd_stream.proofs.cursor.Cursor.ended.Reads as reads
-use Rattle.mrd_stream.proofs.cursor.Cursor.ended.Lts as lts
-use Rattle.mrd_stream.proofs.cursor.Phase.is_closed.Reads as is-closed-reads
 
--- src/cursor.rt:152:12
 is-closed-requires : tie.Need-is-closed-requires
 is-closed-requires c κs = search needs
 
--- src/cursor.rt:153:13
 returns : tie.Need-returns
 unfolding ended
 returns c = simp (← c .before .is-closed .ensures, c .if1 .taken)
 
--- src/cursor.rt:148:5
 returns-2 : tie.Need-returns-2
 unfolding ended
 returns-2 c = simp (← c .before .is-closed .ensures, c .if1 .left)

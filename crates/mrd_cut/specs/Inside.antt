@@ -1,0 +1,55 @@
+-- An answered place lies in the stream, and the bytes there are a well-formed message of the answered kind, with the answered numbers.
+-- Assumes nothing.
+use Prim.Native.Nat.{ℕ, zero, suc, _+_, _≤_}
+use native.Mathlib.Omega.{arith}
+use mathlib.Core.Path.{_≡_, refl, sym, ap, _∙_, subst}
+use mathlib.Core.List.{List, [], _∷_, _++_, append-assoc}
+use lib.ListN.{length, length-append}
+use lib.Seq.{take-append-seam, drop-at}
+use Rattle.mrd_format.specs.Every.{Every}
+use Rattle.mrd_format.specs.Message.{fixedPart, numbersOf, WellFormed}
+use Rattle.mrd_stream.specs.declared.cursor.Cursor.{Cursor}
+use Rattle.mrd_stream.specs.Walk.{Verdict, accepted, refused, Trace, trace, answer}
+use Rattle.mrd_stream.specs.Places.{Located, located, places, Answer, found, stream, number, nth, placeBy, place}
+use Rattle.mrd_cut.specs.Places.{partAt}
+use Rattle.mrd_cut.specs.Walked.{Walks, ends, faults, meets, walks}
+
+-- the place l lies in s, at a well-formed message of its kind and numbers
+pub record Inside (s : List ℕ) (l : Located) : Type 0 where
+  pub well : WellFormed (partAt s l)
+  pub kind : well .kind ≡ l .kind
+  pub numbers : l .numbers ≡ numbersOf (l .kind) (fixedPart (l .kind) (partAt s l))
+  pub long : length (partAt s l) ≡ l .size
+  pub fits : l .start + l .size ≤ length s
+
+places-inside : {c : Cursor} {s : List ℕ} {r : Trace} → Walks c s r → (before : List ℕ) → length before ≡ c .start →
+    Every (Inside (before ++ s)) (places r)
+places-inside ends before h = tt
+places-inside (faults e) before h = tt
+places-inside (meets {c} {m} {rest} {r} w a n v) before h =
+    let here : partAt (before ++ (m ++ rest)) (located c (w .kind) m) ≡ m = rw (drop-at before (m ++ rest) (c .start) h, take-append-seam) in
+    let far : length (before ++ m) ≡ c .start + length m = simp (length-append, h) in
+    let later : Every (Inside (before ++ (m ++ rest))) (places r) = rw append-assoc at (places-inside v (before ++ m) far) in (
+      record {
+        well = rw here w;
+        kind = refl;
+        numbers = rw here;
+        long = rw here;
+        fits = simp length-append (omega (arith, h));
+      },
+      later,
+    )
+
+nth-inside : {s : List ℕ} (ls : List Located) (n : ℕ) {l : Located} → Every (Inside s) ls → nth ls n ≡ found l → Inside s l
+nth-inside [] n i e = absurd (let z : _≡_ {A = ℕ} 0 1 = cc in omega arith)
+nth-inside (l ∷ ls) zero i e = subst (Inside _) (cc) (i .0)
+nth-inside (l ∷ ls) (suc n) i e = nth-inside ls n (i .1) e
+
+-- the place that is answered for a record lies in the stream
+pub place-inside : (s : List ℕ) (n : ℕ) {l : Located} → place s n ≡ found l → Inside s l
+unfolding place
+place-inside s n {l} e = by-verdict (answer s) e
+  where
+    by-verdict : (v : Verdict) → placeBy v (places (trace s)) n ≡ found l → Inside s l
+    by-verdict (accepted k) e = nth-inside (places (trace s)) n (places-inside (walks s) [] refl) e
+    by-verdict (refused f r b) e = absurd (let z : _≡_ {A = ℕ} 0 1 = cc in omega arith)

@@ -1,0 +1,25 @@
+-- Two streams that differ in the filler after a configuration name alone: both accepted, with the same records and the same normal form.
+-- Assumes nothing.
+use Prim.Native.Nat.{ℕ}
+use mathlib.Core.Path.{_≡_, refl}
+use mathlib.Core.List.{List, [], _∷_, _++_}
+use lib.ListN.{replicate}
+use Rattle.bytes.specs.Bytes.{indexOf, indexAfter}
+use Rattle.mrd_numbers.specs.Little.{num}
+use Rattle.mrd_format.specs.Kinds.{identified}
+use Rattle.mrd_format.specs.Message.{fixedPart, nameLength, ownChecks, bodySize, sizeOf}
+use Rattle.mrd_format.specs.Content.{extents, fieldsOf, recordOf, normalOf}
+use Rattle.mrd_stream.specs.Walk.{accepted, answer, trace, walk, judge, judgeAs, checksAs, earlyChecks, lateChecks, ended}
+use Rattle.mrd_stream.specs.Records.{records}
+use Rattle.mrd_stream.specs.Normal.{normal}
+
+-- the configuration name 'a', with this byte among the filler, and a close
+abbrev pub named : ℕ → List ℕ
+named filler = 1 ∷ 0 ∷ 97 ∷ 0 ∷ filler ∷ replicate 1021 0 ++ (4 ∷ 0 ∷ [])
+
+pub filler-is-no-meaning :
+    (answer (named 7) ≡ accepted 2) ×
+    (answer (named 0) ≡ accepted 2) × (records (named 7) ≡ records (named 0)) ×
+    (normal (named 7) ≡ named 0)
+unfolding answer trace walk judge judgeAs checksAs earlyChecks lateChecks ended identified num fixedPart nameLength indexOf indexAfter ownChecks bodySize sizeOf records recordOf fieldsOf extents normal normalOf
+filler-is-no-meaning = (refl, refl, refl, refl)

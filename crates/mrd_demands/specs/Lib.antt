@@ -1,0 +1,6 @@
+pub mod Headers
+pub mod Written
+pub mod Messages
+pub mod Normal
+pub mod Demands
+pub mod Examples

@@ -1,0 +1,164 @@
+-- The normal form of one well-formed message: it is well formed, of the same kind and length, the same record, and its own normal form.
+-- Assumes nothing.
+use Prim.Native.Nat.{ℕ, suc, _+_, _-_, _≤_, _<_}
+use native.Mathlib.Nat.{le-of-eq}
+use native.Mathlib.Omega.{arith}
+use mathlib.Core.Path.{_≡_, refl, sym, ap, _∙_}
+use mathlib.Core.Bool.{Bool, true, false}
+use mathlib.Core.List.{List, [], _∷_, _++_, append-assoc}
+use borrow.Author.Tests.{eq-eqb, leb-false}
+use lib.Dec.{eqb}
+use lib.ListN.{length, take, drop, replicate, length-append, length-drop, length-replicate, take-append-drop}
+use lib.Seq.{length-take-le, take-take, take-all, take-at, drop-at, take-add}
+use Rattle.bytes.specs.Bytes.{indexOf, indexAfter}
+use Rattle.mrd_format.specs.declared.kind.Kind.{Kind}
+use Rattle.mrd_format.specs.declared.kind.Kind.the-variants.{ConfigurationName, ConfigurationText, HeaderText, Close, Text, Acquisition, Image, Waveform}
+use Rattle.mrd_format.specs.Checks.{first}
+use Rattle.mrd_format.specs.CheckLaws.{first-passed}
+use Rattle.mrd_format.specs.Message.{idAt, fixedPart, nameLength, ownChecks, bodySize, sizeOf, WellFormed}
+use Rattle.mrd_format.specs.MessageLaws.{id-append}
+use Rattle.mrd_format.specs.Content.{extents, fieldsOf, recordOf, normalOf}
+
+-- a byte is found where it is put after what stood before it
+index-put : (b : ℕ) (h rest : List ℕ) → indexOf b (take (indexOf b h) h ++ (b ∷ rest)) ≡ indexOf b h
+unfolding indexOf indexAfter
+index-put b [] rest = rw (eq-eqb b b refl)
+index-put b (x ∷ h) rest = here (eqb x b) refl (index-put b h rest)
+  where
+    here : (t : Bool) → eqb x b ≡ t → indexOf b (take (indexOf b h) h ++ (b ∷ rest)) ≡ indexOf b h →
+        indexOf b (take (indexOf b (x ∷ h)) (x ∷ h) ++ (b ∷ rest)) ≡ indexOf b (x ∷ h)
+    here true e ih = rw e (rw (eq-eqb b b refl))
+    here false e ih = rw e (rw e (ap suc ih))
+
+-- a name's 1,024 bytes with those after the first zero made zero
+abbrev pub filled : List ℕ → List ℕ
+filled h = take (nameLength h) h ++ replicate (1024 - nameLength h) 0
+
+module _ (h : List ℕ) (long : length h ≡ 1024) (short : nameLength h < 1024) where
+  name-taken : length (take (nameLength h) h) ≡ nameLength h
+  name-taken = length-take-le (nameLength h) h (omega arith)
+
+  pub length-filled : length (filled h) ≡ 1024
+  length-filled = simp (length-append, name-taken, length-replicate) (omega arith)
+
+  -- the name's bytes stay
+  pub take-filled : take (nameLength h) (filled h) ≡ take (nameLength h) h
+  take-filled = take-at (take (nameLength h) h) (replicate (1024 - nameLength h) 0) (nameLength h) name-taken
+
+  pub name-filled : nameLength (filled h) ≡ nameLength h
+  unfolding nameLength
+  name-filled =
+      let some : 1024 - nameLength h ≡ suc (1023 - nameLength h) = omega arith in
+      rw some (index-put 0 h (replicate (1023 - nameLength h) 0))
+
+-- what holds of a message's normal form
+pub record Normalised (k : Kind) (m : List ℕ) : Type 0 where
+  pub long : length (normalOf k m) ≡ length m
+  pub id : idAt (normalOf k m) ≡ idAt m
+  pub checks : ownChecks k (fixedPart k (normalOf k m)) ≡ ownChecks k (fixedPart k m)
+  pub size : sizeOf k (fixedPart k (normalOf k m)) ≡ sizeOf k (fixedPart k m)
+  pub same : recordOf k (normalOf k m) ≡ recordOf k m
+  pub own : normalOf k (normalOf k m) ≡ normalOf k m
+
+-- a message that is its normal form
+unchanged : (k : Kind) (m : List ℕ) → normalOf k m ≡ m → Normalised k m
+unchanged k m e = record { long = rw e; id = rw e; checks = rw e; size = rw e; same = rw e; own = rw e e }
+
+-- a configuration name's 1,024 bytes
+abbrev pub nameBytes : List ℕ → List ℕ
+nameBytes m = fixedPart ConfigurationName m
+
+-- check 5 passed: a zero is among them
+pub name-short : (m : List ℕ) → first (ownChecks ConfigurationName (nameBytes m)) ≡ 0 → nameLength (nameBytes m) < 1024
+unfolding ownChecks
+name-short m sound =
+    leb-false 1024 (nameLength (nameBytes m)) (first-passed (ownChecks ConfigurationName (nameBytes m)) refl sound .0)
+
+-- a whole configuration name, a zero among its bytes
+module _ (m : List ℕ) (whole : length m ≡ 1026) (short : nameLength (nameBytes m) < 1024) where
+  name-long : length (nameBytes m) ≡ 1024
+  unfolding fixedPart
+  name-long = length-take-le 1024 (drop 2 m) (simp length-drop (omega arith))
+
+  two : length (take 2 m) ≡ 2
+  two = length-take-le 2 m (omega arith)
+
+  -- the id stays, and the 1,024 bytes are filled
+  pub name-normal : normalOf ConfigurationName m ≡ take 2 m ++ filled (nameBytes m)
+  unfolding normalOf fixedPart
+  name-normal =
+      let n = nameLength (take 1024 (drop 2 m)) in
+      let within : n ≤ 1024 = omega arith in
+      rw (take-add 2 n m, take-take n 1024 (drop 2 m)) (append-assoc (take 2 m) (take n (drop 2 m)) (replicate (1024 - n) 0))
+
+  name-fixed : nameBytes (normalOf ConfigurationName m) ≡ filled (nameBytes m)
+  unfolding fixedPart
+  name-fixed =
+      rw (name-normal, drop-at (take 2 m) (filled (nameBytes m)) 2 two)
+      (take-all 1024 (filled (nameBytes m)) (le-of-eq (length-filled (nameBytes m) name-long short)))
+
+  name-length : nameLength (nameBytes (normalOf ConfigurationName m)) ≡ nameLength (nameBytes m)
+  name-length = ap nameLength name-fixed ∙ name-filled (nameBytes m) name-long short
+
+  name-id : idAt (normalOf ConfigurationName m) ≡ idAt m
+  name-id =
+      ap idAt name-normal ∙
+      id-append (take 2 m) (filled (nameBytes m)) (le-of-eq (sym two)) ∙
+      sym (id-append (take 2 m) (drop 2 m) (le-of-eq (sym two))) ∙
+      ap idAt (take-append-drop 2 m)
+
+  name-part :
+      take (nameLength (nameBytes (normalOf ConfigurationName m))) (drop 2 (normalOf ConfigurationName m)) ≡
+      take (nameLength (nameBytes m)) (drop 2 m)
+  unfolding fixedPart
+  name-part =
+      let n = nameLength (nameBytes m) in
+      rw (name-length, name-normal, drop-at (take 2 m) (filled (nameBytes m)) 2 two)
+      (take-filled (nameBytes m) name-long short ∙ take-take n 1024 (drop 2 m) (omega arith))
+
+  name-own : normalOf ConfigurationName (normalOf ConfigurationName m) ≡ normalOf ConfigurationName m
+  unfolding normalOf
+  name-own =
+      let n = nameLength (nameBytes m) in
+      let here : length (take (2 + n) m) ≡ 2 + n = length-take-le (2 + n) m (omega arith) in
+      rw name-length (ap (λ (l : List ℕ). l ++ replicate (1024 - n) 0) (take-at (take (2 + n) m) (replicate (1024 - n) 0) (2 + n) here))
+
+  name-normalised : Normalised ConfigurationName m
+  unfolding ownChecks sizeOf bodySize recordOf fieldsOf extents
+  name-normalised =
+      record {
+        long = rw (name-normal, length-append (take 2 m)) (omega (arith, two, length-filled (nameBytes m) name-long short));
+        id = name-id;
+        checks = rw name-length;
+        size = refl;
+        same = rw name-part;
+        own = name-own;
+      }
+
+-- this holds of the normal form of every message of kind k that passes its own checks and has its size
+normalised : (k : Kind) (m : List ℕ) → first (ownChecks k (fixedPart k m)) ≡ 0 → sizeOf k (fixedPart k m) ≡ length m → Normalised k m
+unfolding normalOf sizeOf bodySize
+normalised ConfigurationName m sound whole = name-normalised m (sym whole) (name-short m sound)
+normalised ConfigurationText m sound whole = unchanged ConfigurationText m refl
+normalised HeaderText m sound whole = unchanged HeaderText m refl
+normalised Close m sound whole = unchanged Close m refl
+normalised Text m sound whole = unchanged Text m refl
+normalised Acquisition m sound whole = unchanged Acquisition m refl
+normalised Image m sound whole = unchanged Image m refl
+normalised Waveform m sound whole = unchanged Waveform m refl
+
+-- this holds of every well-formed message's normal form
+pub well-normalised : (m : List ℕ) (w : WellFormed m) → Normalised (w .kind) m
+well-normalised m w = normalised (w .kind) m (w .sound) (w .whole)
+
+-- and it is well formed, of the same kind
+abbrev pub normal-well : (m : List ℕ) (w : WellFormed m) → WellFormed (normalOf (w .kind) m)
+normal-well m w =
+    let n = well-normalised m w in
+    record {
+      kind = w .kind;
+      known = rw (n .id) (w .known);
+      sound = rw (n .checks) (w .sound);
+      small = rw (n .size) (w .small);
+      whole = n .size ∙ w .whole ∙ sym (n .long);
+    }

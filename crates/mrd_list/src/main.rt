@@ -1,0 +1,93 @@
+// Lists the records of the stream on standard input: a line for each with its number, id, start and
+// size, or one line with the refusal. At most 65,536 bytes are listed; of more, nothing is.
+use libc::STDIN_FILENO;
+use libc::STDOUT_FILENO;
+use mrd_stream::Checked;
+use mrd_stream::Cursor;
+use mrd_stream::Record;
+use mrd_stream::Refusal;
+use mrd_stream::Step;
+
+const LIMIT: usize = 65536;
+
+fn main() {
+    // One byte more than the limit tells whether there is more.
+    let mut input = [0u8; 65537];
+    let got = io::read_full(STDIN_FILENO, &mut input);
+    if LIMIT < got {
+        drain();
+        io::write_all(STDOUT_FILENO, b"input over 65536 bytes\n");
+        return;
+    }
+    list(&input[..got]);
+}
+
+// Reads the input to its end, so that whoever writes it is not cut off.
+fn drain() {
+    let mut chunk = [0u8; 4096];
+    let mut turns: u64 = 0;
+    while turns < 0x1000_0000_0000_0000 {
+        if io::read_full(STDIN_FILENO, &mut chunk) == 0 {
+            return;
+        }
+        turns += 1;
+    }
+}
+
+// The whole listing of s: nothing of a refused stream but its refusal.
+fn list(s: &[u8]) {
+    match mrd_stream::check(s) {
+        Checked::Accepted(count) => {
+            io::write_all(STDOUT_FILENO, b"record id start bytes\n");
+            list_records(s);
+            io::write_all(STDOUT_FILENO, b"ok ");
+            io::print_decimal(STDOUT_FILENO, count as u64);
+            io::write_all(STDOUT_FILENO, b" records ");
+            io::print_decimal(STDOUT_FILENO, s.len() as u64);
+            io::write_all(STDOUT_FILENO, b" bytes\n");
+        }
+        Checked::Refused(refusal) => {
+            list_refusal(refusal);
+        }
+    }
+}
+
+// A line for each record.
+fn list_records(s: &[u8]) {
+    let mut c = Cursor::beginning();
+    loop {
+        let step = c.next(s);
+        match step {
+            Step::Message(record, next) => {
+                list_record(record);
+                c = next;
+            }
+            Step::End(_) => {
+                return;
+            }
+        }
+    }
+}
+
+fn list_record(record: Record) {
+    let place = record.place;
+    let shape = record.shape;
+    io::print_decimal(STDOUT_FILENO, place.number as u64);
+    io::write_all(STDOUT_FILENO, b" ");
+    io::print_decimal(STDOUT_FILENO, shape.kind().id() as u64);
+    io::write_all(STDOUT_FILENO, b" ");
+    io::print_decimal(STDOUT_FILENO, place.start as u64);
+    io::write_all(STDOUT_FILENO, b" ");
+    io::print_decimal(STDOUT_FILENO, place.size as u64);
+    io::write_all(STDOUT_FILENO, b"\n");
+}
+
+fn list_refusal(refusal: Refusal) {
+    io::write_all(STDOUT_FILENO, b"refused ");
+    io::print_decimal(STDOUT_FILENO, refusal.number as u64);
+    io::write_all(STDOUT_FILENO, b" at record ");
+    io::print_decimal(STDOUT_FILENO, refusal.record as u64);
+    io::write_all(STDOUT_FILENO, b" byte ");
+    io::print_decimal(STDOUT_FILENO, refusal.byte as u64);
+    io::write_all(STDOUT_FILENO, b"\n");
+}

@@ -1,0 +1,47 @@
+-- `mrd_normal::normal_form` meets its contract: it goes by the stream's answer.
+-- Assumes nothing.
+use mathlib.Core.Path.{sym, ap, _∙_}
+use borrow.Author.Needs.{needs}
+use denote.Ref.{now}
+use Rattle.mrd_stream.specs.Told.{toldChecked}
+use Rattle.mrd_normal.specs.WrittenLaws.{stream-refused}
+use Rattle.mrd_normal.proofs.normal_form.Statement.{statement}
+use Rattle.mrd_normal.proofs.normal_form.Tie as tie
+
+check-requires : tie.Need-check-requires
+check-requires c κs = search needs
+
+enum-told : tie.Need-enum-told
+enum-told c = search needs
+
+write-requires : tie.Need-write-requires
+write-requires c κs =
+    let checked = c .before .enum-told .given in
+    (checked .0 .0, sym (c .before .before .before .check .ensures) ∙ ap toldChecked (checked .1))
+
+enum-known-checked : tie.Need-enum-known-checked
+enum-known-checked c = search needs
+
+same-length : tie.Need-same-length
+same-length c = search needs
+
+returns : tie.Need-returns
+returns c = search needs
+
+returns-2 : tie.Need-returns-2
+returns-2 c =
+    let check = c .before .before .before in
+    let a = check .before .before .before .args in
+    stream-refused (now (a .s)) (now (a .out)) (sym (check .check .ensures) ∙ ap toldChecked (c .before .checked .given .1))
+
+pub normal-form-spec : {M : Type 1} → statement M
+normal-form-spec =
+    tie.close
+    (tie.spec
+    check-requires
+    enum-told
+    write-requires
+    enum-known-checked
+    same-length
+    returns
+    returns-2)

@@ -1,0 +1,38 @@
+-- `mrd_normal::write` meets its contract: an output too short for the stream is left as it is; else it holds the copy of the stream, cleared.
+-- Assumes nothing.
+use borrow.Author.Needs.{needs}
+use denote.Ref.{now}
+use Rattle.mrd_normal.specs.WrittenLaws.{output-short, copied, all-written}
+use Rattle.mrd_normal.proofs.write.Statement.{statement}
+use Rattle.mrd_normal.proofs.write.Tie as tie
+
+returns : tie.Need-returns
+returns c =
+    let start = c .before .before .before in
+    output-short (now (start .args .s)) (now (start .args .out)) (start .pre .1) (c .if1 .taken)
+
+copy-requires : tie.Need-copy-requires
+copy-requires c κs = search needs
+
+clear-fillers-requires : tie.Need-clear-fillers-requires
+clear-fillers-requires c κs =
+    let copy = c .before .before .before in
+    let test = copy .before .before in
+    let start = test .before .before .before in
+    copied (now (start .args .s)) (now (start .args .out)) (start .pre .1) (test .if1 .left) (copy .copy .ensures .1)
+
+same-length : tie.Need-same-length
+same-length c = search needs
+
+returns-2 : tie.Need-returns-2
+returns-2 c =
+    let clear = c .before .before in
+    let copy = clear .before .before .before .before in
+    let test = copy .before .before in
+    let start = test .before .before .before in
+    all-written (now (start .args .s)) (now (start .args .out)) (start .pre .1) (test .if1 .left)
+    (copy .copy .ensures .0) (copy .copy .ensures .1) (clear .clear-fillers .ensures)
+
+pub write-spec : {M : Type 1} → statement M
+write-spec =
+    tie.close (tie.spec returns copy-requires clear-fillers-requires same-length returns-2)

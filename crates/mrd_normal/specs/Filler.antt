@@ -1,0 +1,77 @@
+-- The filler of a message: the bytes after the name in a configuration name's 1,024.
+-- Assumes nothing.
+use Prim.Native.Nat.{ℕ, _+_, _-_, _≤_, _<_}
+use native.Mathlib.Nat.{sub-zero}
+use native.Mathlib.Omega.{arith}
+use mathlib.Core.Path.{_≡_, refl, ap}
+use mathlib.Core.List.{List, _++_, append-nil}
+use lib.ListN.{length, take, replicate, length-append, length-replicate}
+use lib.Seq.{take-length, length-take-le}
+use Rattle.mrd_format.specs.declared.kind.Kind.{Kind}
+use Rattle.mrd_format.specs.declared.kind.Kind
+use Rattle.mrd_format.specs.declared.shape.Shape.{Shape}
+use Rattle.mrd_format.specs.declared.shape.Shape.the-variants.{ConfigurationName, ConfigurationText, HeaderText, Close, Text, Acquisition, Image, Waveform}
+use Rattle.mrd_format.specs.Shapes.{kindOf, toldNumbers}
+use Rattle.mrd_format.specs.Checks.{first}
+use Rattle.mrd_format.specs.Message.{fixedPart, nameLength, ownChecks, bodySize, sizeOf, numbersOf}
+use Rattle.mrd_format.specs.Content.{normalOf}
+use Rattle.mrd_format.specs.NormalLaws.{nameBytes, name-short}
+use Rattle.mrd_stream.specs.declared.answer.Record.{Record}
+use Rattle.mrd_stream.specs.declared.cursor.Cursor.{Cursor}
+use Rattle.mrd_stream.specs.Places.{Located, located}
+use Rattle.mrd_stream.specs.StepLaws.{Passes}
+use Rattle.mrd_stream.specs.Told.{toldRecord}
+
+-- how many bytes of filler a message of this shape ends in
+abbrev pub fillerOf : Shape → ℕ
+fillerOf (ConfigurationName s) = 1024 - s .length
+fillerOf (ConfigurationText s) = 0
+fillerOf (HeaderText s) = 0
+fillerOf Close = 0
+fillerOf (Text s) = 0
+fillerOf (Acquisition s) = 0
+fillerOf (Image s) = 0
+fillerOf (Waveform s) = 0
+
+-- the normal form of a message of kind k is the message with its last f bytes made zero
+pub record Filled (k : Kind) (m : List ℕ) (f : ℕ) : Type 0 where
+  pub within : f ≤ length m
+  pub normal : normalOf k m ≡ take (length m - f) m ++ replicate f 0
+
+-- it is as long as the message
+pub filled-long : {k : Kind} {m : List ℕ} {f : ℕ} → Filled k m f → length (normalOf k m) ≡ length m
+filled-long {k} {m} {f} h =
+    let kept : length (take (length m - f) m) ≡ length m - f = length-take-le (length m - f) m (omega arith) in
+    rw (h .normal, length-append (take (length m - f) m), kept, length-replicate) (omega (arith, h .within))
+
+unfilled : (k : Kind) (m : List ℕ) → normalOf k m ≡ m → Filled k m 0
+unfilled k m e = record { within = omega arith; normal = rw (e, sub-zero, take-length, append-nil) }
+
+-- a message whose kind and numbers a shape tells
+filled-as : (h : Shape) (m : List ℕ) → toldNumbers h ≡ numbersOf (kindOf h) (fixedPart (kindOf h) m) →
+    first (ownChecks (kindOf h) (fixedPart (kindOf h) m)) ≡ 0 → sizeOf (kindOf h) (fixedPart (kindOf h) m) ≡ length m →
+    Filled (kindOf h) m (fillerOf h)
+unfolding normalOf numbersOf sizeOf bodySize
+filled-as (ConfigurationName s) m told sound whole =
+    let n = nameLength (nameBytes m) in
+    let same : s .length ≡ n = cc in
+    let short : n < 1024 = name-short m sound in
+    let kept : length m - (1024 - n) ≡ 2 + n = omega arith in
+    record { within = omega arith; normal = rw (same, kept) }
+filled-as (ConfigurationText s) m told sound whole = unfilled Kind.ConfigurationText m refl
+filled-as (HeaderText s) m told sound whole = unfilled Kind.HeaderText m refl
+filled-as Close m told sound whole = unfilled Kind.Close m refl
+filled-as (Text s) m told sound whole = unfilled Kind.Text m refl
+filled-as (Acquisition s) m told sound whole = unfilled Kind.Acquisition m refl
+filled-as (Image s) m told sound whole = unfilled Kind.Image m refl
+filled-as (Waveform s) m told sound whole = unfilled Kind.Waveform m refl
+
+-- the filler that a message's record tells
+pub told-filler : {c d : Cursor} {s : List ℕ}
+    (r : Record) (p : Passes c s (toldRecord r) d) → Filled (p .kind) (p .bytes) (fillerOf (r .shape))
+told-filler {c} r p =
+    let m = p .bytes in
+    let l : toldRecord r ≡ located c (p .kind) m = p .place in
+    let k : kindOf (r .shape) ≡ p .kind = ap (λ (l : Located). l .kind) l in
+    let n : toldNumbers (r .shape) ≡ numbersOf (p .kind) (fixedPart (p .kind) m) = ap (λ (l : Located). l .numbers) l in
+    rw (← k) (filled-as (r .shape) m (rw k n) (rw (k, ← p .known) (p .well .sound)) (rw (k, ← p .known) (p .well .whole)))

@@ -1,0 +1,4 @@
+pub mod Written
+pub mod Filler
+pub mod Clearing
+pub mod WrittenLaws

@@ -1,0 +1,74 @@
+// The filler of configuration names, made zero in a copy of a stream.
+ghost use mathlib.Core.Path.{_≡_};
+ghost use mathlib.Core.List.{_++_};
+ghost use Prim.Native.Nat.{_-_};
+ghost use lib.ListN.{length, drop, replicate};
+ghost use Rattle.mrd_stream.specs.Normal.{normal};
+ghost use Rattle.mrd_normal.specs.Filler.{fillerOf};
+ghost use Rattle.mrd_normal.specs.Clearing.{Copied};
+use mrd_format::Kind;
+use mrd_format::Shape;
+use mrd_stream::Cursor;
+use mrd_stream::Step;
+
+// Makes the filler of each configuration name zero, where the front of out is a copy of the accepted
+// stream s: one step for each message, and no byte is touched but the filler.
+pub(crate) fn clear_fillers(s: &[u8], out: &mut [u8])
+    requires { ⌜ Copied (now s) (now out) ⌝ }
+    ensures { λ _. ⌜ now (out .exit) ≡ normal (now (s .entry)) ++ drop (length (now (s .entry))) (now (out .entry)) ⌝ }
+{
+    let mut c = Cursor::beginning();
+    loop {
+        let step = c.next(s);
+        match step {
+            Step::Message(record, next) => {
+                let shape = record.shape;
+                let end = next.start;
+                let start = end - filler(shape);
+                clear(&mut out[start..end]);
+                c = next;
+            }
+            Step::End(_) => {
+                return;
+            }
+        }
+    }
+}
+
+// How many bytes of filler a message of this shape ends in: what a configuration name leaves of its 1,024.
+fn filler(shape: Shape) -> usize
+    ensures { λ r. ⌜ r ≡ fillerOf shape ⌝ }
+{
+    match shape {
+        Shape::ConfigurationName(name) => name_filler(name.length),
+        Shape::ConfigurationText(_) => 0,
+        Shape::HeaderText(_) => 0,
+        Shape::Close => 0,
+        Shape::Text(_) => 0,
+        Shape::Acquisition(_) => 0,
+        Shape::Image(_) => 0,
+        Shape::Waveform(_) => 0,
+    }
+}
+
+// What a name of this length leaves of its 1,024 bytes.
+fn name_filler(length: usize) -> usize
+    ensures { λ r. ⌜ r ≡ 1024 - length ⌝ }
+{
+    if length < Kind::NAME_FIXED {
+        Kind::NAME_FIXED - length
+    } else {
+        0
+    }
+}
+
+// Makes every byte zero.
+fn clear(part: &mut [u8])
+    ensures { λ _. ⌜ now (part .exit) ≡ replicate (length (now (part .entry))) 0 ⌝ }
+{
+    let mut i = 0;
+    while i < part.len() {
+        part[i] = 0;
+        i += 1;
+    }
+}

@@ -1,0 +1,54 @@
+// The normal form of an accepted stream, written to the front of an output.
+//
+// No public function here has a `requires`: any bytes and any output get an answer. The stream is checked
+// first, and a refusal writes no byte. Then the stream is copied whole, and one walk over its messages makes
+// the filler after each configuration name zero. Assumes nothing.
+mod filler;
+
+ghost use mathlib.Core.Path.{_≡_};
+ghost use Prim.Native.Nat.{ℕ};
+ghost use lib.ListN.{length};
+ghost use Rattle.mrd_stream.specs.Walk.{accepted, answer};
+ghost use Rattle.mrd_normal.specs.Written.{told, normalAnswer, normalOutput};
+use mrd_format::refusal;
+use mrd_stream::Checked;
+use mrd_stream::Refusal;
+use mrd_stream::check;
+
+// What the call answers.
+pub enum Written {
+    // The normal form stands at the output's front, with this length.
+    Length(usize),
+    // The stream itself is refused.
+    Stream(Refusal),
+    // Refused with a number alone.
+    Refused(u8),
+}
+
+// Writes the normal form of the stream s to the front of out and answers its length, which is that of s;
+// else answers the stream's refusal, or 14 where out is shorter than s. The rest of out keeps its content,
+// and a refusal changes no byte.
+pub fn normal_form(s: &[u8], out: &mut [u8]) -> Written
+    ensures { λ r. ⌜ told r ≡ normalAnswer (now (s .entry)) (length (now (out .entry))) ⌝ }
+    ensures { λ _. ⌜ now (out .exit) ≡ normalOutput (now (s .entry)) (now (out .entry)) ⌝ }
+{
+    let checked = check(s);
+    match checked {
+        Checked::Accepted(_) => write(s, out),
+        Checked::Refused(refusal) => Written::Stream(refusal),
+    }
+}
+
+// The same for an accepted stream.
+fn write(s: &[u8], out: &mut [u8]) -> Written
+    requires { ⌜ ((n : ℕ) × (answer (now s) ≡ accepted n)) ⌝ }
+    ensures { λ r. ⌜ told r ≡ normalAnswer (now (s .entry)) (length (now (out .entry))) ⌝ }
+    ensures { λ _. ⌜ now (out .exit) ≡ normalOutput (now (s .entry)) (now (out .entry)) ⌝ }
+{
+    if out.len() < s.len() {
+        return Written::Refused(refusal::OUTPUT);
+    }
+    let length = bytes::copy(s, out);
+    filler::clear_fillers(s, out);
+    Written::Length(length)
+}

@@ -1,0 +1,6 @@
+pub mod Parts
+pub mod Views
+pub mod Fields
+pub mod Told
+pub mod PartLaws
+pub mod ViewLaws

@@ -1,0 +1,111 @@
+// Views: a part of a record, as that part of the lent stream itself.
+ghost use mathlib.Core.Path.{_≡_};
+ghost use Prim.Native.Nat.{_+_, _<_, _≤_, _^_};
+ghost use lib.ListN.{take, drop};
+ghost use lib.ListN.{length as List·length};
+ghost use Rattle.mrd_format.specs.Message.{fixedPart};
+ghost use Rattle.mrd_format.specs.Shapes.{kindOf};
+ghost use Rattle.mrd_stream.specs.Places.{found};
+ghost use Rattle.mrd_stream.specs.Told.{toldRecord};
+ghost use Rattle.mrd_cut.specs.Places.{partAt};
+ghost use Rattle.mrd_cut.specs.Inside.{Inside};
+ghost use Rattle.mrd_record.specs.Parts.{offsetOf, toldSought};
+ghost use Rattle.mrd_record.specs.Views.{viewOf, viewBy, shownAt, shown};
+ghost use Rattle.mrd_record.specs.Told.{toldView};
+use crate::parts::Part;
+use crate::parts::Sought;
+use crate::parts::locate;
+use mrd_format::refusal;
+use mrd_stream::Placed;
+use mrd_stream::Record;
+use mrd_stream::Refusal;
+
+// Where a view lies in the stream: its first byte and its length.
+pub struct Span {
+    pub start: usize,
+    pub length: usize,
+}
+
+// The answer about a view's place.
+pub enum ViewPlace {
+    At(Span),
+    // The stream itself is refused.
+    Stream(Refusal),
+    // Refused with a number alone: 16, or 17 where the record has no such part or channel.
+    Refused(u8),
+}
+
+// Where a part of record n lies. One walk over the stream.
+pub fn view_place(s: &[u8], n: usize, part: Part) -> ViewPlace
+    ensures { λ r. ⌜ toldView r ≡ viewOf (now (s .entry)) n part ⌝ }
+{
+    let placed = mrd_stream::place(s, n);
+    match placed {
+        Placed::Found(here) => record_view(s, here, part),
+        Placed::Stream(refusal) => ViewPlace::Stream(refusal),
+        Placed::Refused(number) => ViewPlace::Refused(number),
+    }
+}
+
+// A part of record n: that part of the stream, or the empty part at the stream's front where
+// view_place is a refusal. One walk over the stream.
+pub fn view(s: &[u8], n: usize, part: Part) -> &[u8]
+    ensures { λ r. ⌜ now r ≡ shown (viewOf (now (s .entry)) n part) (now (s .entry)) ⌝ }
+{
+    let place = view_place(s, n, part);
+    match place {
+        ViewPlace::At(span) => spanned(s, span.start, span.length),
+        ViewPlace::Stream(_) => &s[..0],
+        ViewPlace::Refused(_) => &s[..0],
+    }
+}
+
+// The bytes of s from start on, as many as length.
+fn spanned(s: &[u8], start: usize, length: usize) -> &[u8]
+    requires { ⌜ start + length ≤ List·length (now s) ⌝ }
+    ensures { λ r. ⌜ now r ≡ take length (drop start (now (s .entry))) ⌝ }
+{
+    let end = start + length;
+    &s[start..end]
+}
+
+// Where a part of a record that lies in s is.
+fn record_view(s: &[u8], here: Record, part: Part) -> ViewPlace
+    requires { ⌜ Inside (now s) (toldRecord here) ⌝ }
+    ensures { λ r. ⌜ toldView r ≡ viewBy (found (toldRecord here)) part (now (s .entry)) ⌝ }
+{
+    let place = here.place;
+    let shape = here.shape;
+    let sought = locate(shape.kind(), fixed_part(s, here), place.size, part);
+    shifted(sought, place.start)
+}
+
+// A part's place in its message, from the message's start on.
+fn shifted(sought: Sought, start: usize) -> ViewPlace
+    requires { ⌜ start + offsetOf (toldSought sought) < 2 ^ 64 ⌝ }
+    ensures { λ r. ⌜ toldView r ≡ shownAt (toldSought sought) start ⌝ }
+{
+    match sought {
+        Sought::Lies(extent) => {
+            let offset = extent.offset;
+            let length = extent.size;
+            ViewPlace::At(Span {
+                start: start + offset,
+                length: length,
+            })
+        }
+        Sought::Lacks => ViewPlace::Refused(refusal::NO_PART),
+    }
+}
+
+// The fixed part of a record that lies in s.
+pub(crate) fn fixed_part(s: &[u8], here: Record) -> &[u8]
+    requires { ⌜ Inside (now s) (toldRecord here) ⌝ }
+    ensures { λ r. ⌜ now r ≡ fixedPart (kindOf (here .shape)) (partAt (now (s .entry)) (toldRecord here)) ⌝ }
+{
+    let place = here.place;
+    let shape = here.shape;
+    let from = place.start + 2;
+    let to = from + shape.kind().fixed_size();
+    &s[from..to]
+}

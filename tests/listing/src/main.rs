@@ -1,0 +1,231 @@
+//! Runs the listing program on many streams and compares its standard output, byte for byte,
+//! with what document 01 says, as the second reader works it out.
+//!
+//!     listing [count of drawn streams] [seed] [path of the program]
+//!
+//! Without a path it is the environment's MRD_LIST, else target/bin/mrd_list of the repository.
+
+mod cases;
+mod program;
+
+use cases::Case;
+use program::Program;
+use second_reader::Kind;
+use std::collections::BTreeMap;
+use std::path::PathBuf;
+use std::process::ExitCode;
+use streams::{Rng, SHORT_REFUSALS};
+
+/// How often each outcome was met in runs that agreed.
+#[derive(Default)]
+struct Tally {
+    runs: u64,
+    accepted: u64,
+    over_the_limit: u64,
+    refusals: BTreeMap<u32, u64>,
+    kinds: BTreeMap<Kind, u64>,
+    ends: BTreeMap<i32, u64>,
+}
+
+impl Tally {
+    fn note(&mut self, input: &[u8]) {
+        self.runs += 1;
+        if input.len() > second_reader::listing::MOST_INPUT {
+            self.over_the_limit += 1;
+            return;
+        }
+        match second_reader::records(input) {
+            Ok(records) => {
+                self.accepted += 1;
+                for record in records {
+                    *self.kinds.entry(record.detail.kind()).or_default() += 1;
+                }
+            }
+            Err(refusal) => *self.refusals.entry(refusal.number).or_default() += 1,
+        }
+    }
+
+    fn print(&self) {
+        println!(
+            "{} runs: {} accepted, {} refused, {} over the limit",
+            self.runs,
+            self.accepted,
+            self.refusals.values().sum::<u64>(),
+            self.over_the_limit
+        );
+        for number in SHORT_REFUSALS {
+            let times = self.refusals.get(&number).unwrap_or(&0);
+            println!("refusal {number}: {times}");
+        }
+        for kind in Kind::ALL {
+            let times = self.kinds.get(&kind).unwrap_or(&0);
+            println!("kind {} ({kind:?}): {times} records listed", kind.id());
+        }
+        for (code, times) in &self.ends {
+            println!("exit code {code}: {times}");
+        }
+    }
+
+    /// What a run over many streams must meet and did not.
+    fn missing(&self) -> Vec<String> {
+        let mut missing = Vec::new();
+        for number in SHORT_REFUSALS {
+            if !self.refusals.contains_key(&number) {
+                missing.push(format!("refusal {number}"));
+            }
+        }
+        for kind in Kind::ALL {
+            if !self.kinds.contains_key(&kind) {
+                missing.push(format!("kind {}", kind.id()));
+            }
+        }
+        if self.over_the_limit == 0 {
+            missing.push("input over the limit".to_string());
+        }
+        missing
+    }
+}
+
+/// What is wrong with the program's run on this case, if anything. The exit code comes back too,
+/// for the tally: document 01 does not fix it.
+fn difference(program: &Program, case: &Case) -> Result<i32, String> {
+    let output = program
+        .run(&case.input, case.delivery)
+        .map_err(|error| format!("{}: {error}", program.path.display()))?;
+    let expected = second_reader::listing(&case.input);
+    if output.stdout != expected.as_bytes() {
+        return Err(format!(
+            "expected:\n{}printed:\n{}",
+            shortened(&expected),
+            shortened(&String::from_utf8_lossy(&output.stdout))
+        ));
+    }
+    output
+        .status
+        .code()
+        .ok_or_else(|| format!("the program ended by {}", output.status))
+}
+
+fn shortened(text: &str) -> String {
+    match text.char_indices().nth(1_000) {
+        Some((at, _)) => format!("{} ..\n", &text[..at]),
+        None => text.to_string(),
+    }
+}
+
+/// A shorter input that still shows a difference, by taking out runs of bytes.
+fn shortest_difference(program: &Program, case: &Case) -> Case {
+    let mut best = Case {
+        what: case.what.clone(),
+        input: case.input.clone(),
+        delivery: case.delivery,
+    };
+    let mut tries = 2_000;
+    let mut run = best.input.len() / 2;
+    while run > 0 && tries > 0 {
+        let mut at = 0;
+        while at < best.input.len() && tries > 0 {
+            tries -= 1;
+            let mut input = best.input.clone();
+            input.drain(at..(at + run).min(input.len()));
+            let candidate = Case {
+                what: best.what.clone(),
+                input,
+                delivery: best.delivery,
+            };
+            if difference(program, &candidate).is_err() {
+                best = candidate;
+            } else {
+                at += run;
+            }
+        }
+        run /= 2;
+    }
+    best
+}
+
+fn report(program: &Program, case: &Case, difference_found: &str) {
+    println!(
+        "DIFFERENCE, {} ({} bytes):\n{difference_found}",
+        case.what,
+        case.input.len()
+    );
+    let shortest = shortest_difference(program, case);
+    let shown: Vec<String> = shortest
+        .input
+        .iter()
+        .take(600)
+        .map(|byte| format!("{byte:02X}"))
+        .collect();
+    println!(
+        "shortest input found, {} bytes: {}",
+        shortest.input.len(),
+        shown.join(" ")
+    );
+    if let Err(text) = difference(program, &shortest) {
+        println!("{text}");
+    }
+}
+
+fn number_argument(arguments: &[String], i: usize, otherwise: u64) -> u64 {
+    match arguments.get(i) {
+        Some(text) => text
+            .parse()
+            .unwrap_or_else(|_| panic!("{text} is no number")),
+        None => otherwise,
+    }
+}
+
+fn program_path(arguments: &[String]) -> PathBuf {
+    match arguments
+        .get(2)
+        .cloned()
+        .or_else(|| std::env::var("MRD_LIST").ok())
+    {
+        Some(path) => path.into(),
+        None => concat!(env!("CARGO_MANIFEST_DIR"), "/../../target/bin/mrd_list").into(),
+    }
+}
+
+fn main() -> ExitCode {
+    let arguments: Vec<String> = std::env::args().skip(1).collect();
+    let count = number_argument(&arguments, 0, 4_000);
+    let seed = number_argument(&arguments, 1, 1);
+    let program = Program {
+        path: program_path(&arguments),
+    };
+
+    let mut rng = Rng::new(seed);
+    let mut fixed = cases::examples();
+    fixed.extend(cases::shortest());
+    fixed.extend(cases::around_the_limit());
+    fixed.extend(cases::each_cut_and_flip(&mut rng));
+    fixed.extend(cases::wrapping_images(&mut rng));
+    let drawn = (0..count).map(|number| cases::drawn(&mut rng, number));
+
+    let mut tally = Tally::default();
+    for case in fixed.into_iter().chain(drawn) {
+        match difference(&program, &case) {
+            Ok(code) => {
+                tally.note(&case.input);
+                *tally.ends.entry(code).or_default() += 1;
+            }
+            Err(found) => {
+                report(&program, &case, &found);
+                println!("listing: FAILED after {} runs (seed {seed})", tally.runs);
+                return ExitCode::FAILURE;
+            }
+        }
+    }
+    tally.print();
+    let missing = tally.missing();
+    if !missing.is_empty() {
+        println!("listing: FAILED, never met: {}", missing.join(", "));
+        return ExitCode::FAILURE;
+    }
+    println!(
+        "listing: ok, {} runs without a difference (seed {seed})",
+        tally.runs
+    );
+    ExitCode::SUCCESS
+}

@@ -1,0 +1,40 @@
+//! What the listing program prints.
+
+use crate::stream::records;
+use std::fmt::Write;
+
+/// The most bytes that the listing program reads from its standard input.
+pub const MOST_INPUT: usize = 65_536;
+
+/// The whole standard output for this standard input; every line ends in one line feed.
+pub fn listing(input: &[u8]) -> String {
+    if input.len() > MOST_INPUT {
+        return "input over 65536 bytes\n".to_string();
+    }
+    let mut lines = String::new();
+    match records(input) {
+        Ok(records) => {
+            lines.push_str("record id start bytes\n");
+            for record in &records {
+                let id = record.detail.kind().id();
+                writeln!(
+                    lines,
+                    "{} {} {} {}",
+                    record.number, id, record.start, record.size
+                )
+                .expect("a string takes every line");
+            }
+            writeln!(lines, "ok {} records {} bytes", records.len(), input.len())
+                .expect("a string takes every line");
+        }
+        Err(refusal) => {
+            writeln!(
+                lines,
+                "refused {} at record {} byte {}",
+                refusal.number, refusal.record, refusal.byte
+            )
+            .expect("a string takes every line");
+        }
+    }
+    lines
+}

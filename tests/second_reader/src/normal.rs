@@ -1,0 +1,24 @@
+//! The normal form of an accepted stream.
+
+use crate::message::Detail;
+use crate::refusal::Refused;
+use crate::stream::records;
+use crate::NAME_FIELD;
+
+/// Fills the front of `output` with the stream in which the bytes after each configuration
+/// name's first zero are zero, and gives its length, which is the stream's: the stream refusal,
+/// then 14.
+pub fn normal_form(stream: &[u8], output: &mut [u8]) -> Result<u64, Refused> {
+    let records = records(stream)?;
+    if output.len() < stream.len() {
+        return Err(Refused::Other(14));
+    }
+    output[..stream.len()].copy_from_slice(stream);
+    for record in records {
+        if let Detail::ConfigurationName { length } = record.detail {
+            let field = &mut output[record.start as usize + 2..][..NAME_FIELD];
+            field[length as usize..].fill(0);
+        }
+    }
+    Ok(stream.len() as u64)
+}

@@ -1,0 +1,124 @@
+//! The writer of one message. It judges one message, not the order of several.
+
+use crate::kinds::Kind;
+use crate::message::{header_detail, header_fault, text_detail, Detail, PartName};
+use crate::numbers;
+use crate::{LARGEST_MESSAGE, NAME_FIELD};
+
+/// The seven variable parts; those that the kind lacks must be empty.
+#[derive(Clone, Copy, Debug, Default)]
+pub struct Parts<'a> {
+    pub name: &'a [u8],
+    pub text: &'a [u8],
+    pub trajectory: &'a [u8],
+    pub samples: &'a [u8],
+    pub attributes: &'a [u8],
+    pub pixels: &'a [u8],
+    pub waveform: &'a [u8],
+}
+
+impl<'a> Parts<'a> {
+    pub fn get(&self, name: PartName) -> &'a [u8] {
+        match name {
+            PartName::Name => self.name,
+            PartName::Text => self.text,
+            PartName::Trajectory => self.trajectory,
+            PartName::Samples => self.samples,
+            PartName::Attributes => self.attributes,
+            PartName::Pixels => self.pixels,
+            PartName::Waveform => self.waveform,
+        }
+    }
+}
+
+/// Puts one message into `output` from `position` on and gives the position after it. Refusals
+/// are 2 to 10 in order, then 18, then 14; a refusal writes no byte.
+pub fn write(
+    id: u16,
+    header: &[u8],
+    parts: &Parts,
+    output: &mut [u8],
+    position: u64,
+) -> Result<u64, u32> {
+    let kind = Kind::of_id(id).ok_or(2_u32)?;
+    let detail = judge_lent(kind, header, parts)?;
+    if detail.size() > LARGEST_MESSAGE {
+        return Err(10);
+    }
+    if !parts_fit(&detail, parts) {
+        return Err(18);
+    }
+    let end = u128::from(position) + detail.size();
+    if end > output.len() as u128 {
+        return Err(14);
+    }
+    let message = message_bytes(&detail, header, parts);
+    output[position as usize..end as usize].copy_from_slice(&message);
+    Ok(end as u64)
+}
+
+/// Checks 3 to 9, and the message's own numbers: an image's attribute length and a text's length
+/// are those of the lent bytes.
+fn judge_lent(kind: Kind, header: &[u8], parts: &Parts) -> Result<Detail, u32> {
+    if header.len() != kind.header_size() {
+        return Err(3);
+    }
+    if let Some(number) = header_fault(kind, header) {
+        return Err(number);
+    }
+    match kind {
+        Kind::Close => Ok(Detail::Close),
+        Kind::ConfigurationName => {
+            if parts.name.len() >= NAME_FIELD || parts.name.contains(&0) {
+                return Err(5);
+            }
+            Ok(Detail::ConfigurationName {
+                length: parts.name.len() as u64,
+            })
+        }
+        Kind::ConfigurationText | Kind::HeaderText | Kind::Text => {
+            Ok(text_detail(kind, parts.text.len() as u64))
+        }
+        Kind::Image => {
+            let table = kind.table().expect("an image has a fixed header");
+            let lent = parts.attributes.len() as u64;
+            if table.whole(header, "attribute_string_len", 0) != lent {
+                return Err(9);
+            }
+            Ok(header_detail(kind, header, lent))
+        }
+        Kind::Acquisition | Kind::Waveform => Ok(header_detail(kind, header, 0)),
+    }
+}
+
+/// Check 18: each part has the length that the header says, and those of other kinds are empty.
+fn parts_fit(detail: &Detail, parts: &Parts) -> bool {
+    PartName::ALL.into_iter().all(|name| {
+        let wanted = detail.part(name).map_or(0, |(_, length)| length);
+        parts.get(name).len() as u128 == wanted
+    })
+}
+
+fn message_bytes(detail: &Detail, header: &[u8], parts: &Parts) -> Vec<u8> {
+    let kind = detail.kind();
+    let mut message = vec![0; detail.size() as usize];
+    numbers::put(&mut message, 0, 2, u64::from(kind.id()));
+    message[2..2 + header.len()].copy_from_slice(header);
+    if kind.is_text() {
+        numbers::put(&mut message, 2, 4, parts.text.len() as u64);
+    }
+    if kind == Kind::Image {
+        numbers::put(
+            &mut message,
+            2 + header.len(),
+            8,
+            parts.attributes.len() as u64,
+        );
+    }
+    for name in PartName::ALL {
+        if let Some((start, length)) = detail.part(name) {
+            message[start as usize..][..length as usize].copy_from_slice(parts.get(name));
+        }
+    }
+    message
+}

@@ -1,0 +1,597 @@
+//! Streams with a fault: each refusal number on purpose, and damage whose outcome is left open.
+
+use crate::messages::{self, message, set_mask, Message};
+use crate::rng::Rng;
+use crate::well_formed::{joined, opening, well_formed};
+use second_reader::{numbers, Kind};
+
+const DATA: [Kind; 3] = [Kind::Acquisition, Kind::Image, Kind::Waveform];
+
+/// What stands behind a faulty message: nothing, further messages, or any bytes. It never
+/// changes the verdict, as the first faulty message decides.
+fn rest(rng: &mut Rng) -> Vec<u8> {
+    match rng.below(3) {
+        0 => vec![],
+        1 => joined(&well_formed(rng, 2_000)),
+        _ => {
+            let length = rng.below(60) as usize;
+            rng.bytes(length)
+        }
+    }
+}
+
+/// A stream of at most about 30,000 bytes that is refused with this number, one of 1 to 13.
+pub fn refused_with(rng: &mut Rng, number: u32) -> Vec<u8> {
+    if number == 12 {
+        return broken_order(rng);
+    }
+    let headed = match number {
+        4 | 6..=9 => true,
+        5 => false,
+        _ => rng.one_in(2),
+    };
+    let mut stream = joined(&opening(rng, headed));
+    let faulty = match number {
+        1 => {
+            let byte = rng.number() as u8;
+            return [stream, vec![byte]].concat();
+        }
+        2 => unknown_id(rng).to_le_bytes().to_vec(),
+        3 => {
+            stream.extend(short_fixed_part(rng, headed));
+            return stream;
+        }
+        4 => wrong_version(rng),
+        5 => rng.bytes(1_024).iter().fold(vec![1, 0], |mut name, &byte| {
+            name.push(byte.max(1));
+            name
+        }),
+        6 => wrong_channels(rng),
+        7 => wrong_discards(rng),
+        8 => wrong_data_type(rng),
+        9 => different_attribute_lengths(rng),
+        10 => too_large(rng, headed),
+        11 => {
+            stream.extend(short_body(rng, headed));
+            return stream;
+        }
+        13 => return stream,
+        _ => panic!("no short stream is refused with {number}"),
+    };
+    stream.extend(faulty);
+    stream.extend(rest(rng));
+    stream
+}
+
+/// Ids near the known ones, known ones with their bytes swapped, and any others.
+pub fn unknown_id(rng: &mut Rng) -> u16 {
+    loop {
+        let id = match rng.below(3) {
+            0 => rng.pick(&[0, 6, 7, 1007, 1009, 1021, 1023, 1025, 1027, 65_535]),
+            1 => rng.pick(&Kind::ALL).id().swap_bytes(),
+            _ => rng.number() as u16,
+        };
+        if Kind::of_id(id).is_none() {
+            return id;
+        }
+    }
+}
+
+/// A kind that may come next after an opening.
+fn kind_allowed(rng: &mut Rng, headed: bool) -> Kind {
+    if headed {
+        rng.pick(&[Kind::Text, Kind::Acquisition, Kind::Image, Kind::Waveform])
+    } else {
+        rng.pick(&[
+            Kind::Text,
+            Kind::HeaderText,
+            Kind::ConfigurationName,
+            Kind::ConfigurationText,
+        ])
+    }
+}
+
+fn short_fixed_part(rng: &mut Rng, headed: bool) -> Vec<u8> {
+    let kind = kind_allowed(rng, headed);
+    let length = match rng.below(3) {
+        0 => kind.fixed_size() - 1,
+        _ => rng.below(kind.fixed_size() as u64) as usize,
+    };
+    // Whatever the bytes hold, the missing ones are met first.
+    let bytes = match rng.below(2) {
+        0 => rng.bytes(length),
+        _ => message(rng, kind, 50).bytes()[2..2 + length].to_vec(),
+    };
+    [kind.id().to_le_bytes().to_vec(), bytes].concat()
+}
+
+fn wrong_version(rng: &mut Rng) -> Vec<u8> {
+    let kind = rng.pick(&DATA);
+    let mut message = message(rng, kind, 100);
+    if rng.one_in(2) {
+        // Every later check may fail too.
+        message.header = rng.bytes(kind.header_size());
+    }
+    let version = rng.pick(&[0, 2, 3, 255, 256, 257, 65_535]);
+    message.set("version", 0, version);
+    message.bytes()
+}
+
+fn wrong_channels(rng: &mut Rng) -> Vec<u8> {
+    let mut message = messages::acquisition(rng, 600);
+    if rng.one_in(3) {
+        message.set("discard_pre", 0, 65_535);
+        message.set("discard_post", 0, 65_535);
+    }
+    let active = message.get("active_channels", 0);
+    if active > 0 && rng.one_in(2) {
+        let available = match rng.below(2) {
+            0 => active - 1,
+            _ => rng.below(active),
+        };
+        message.set("available_channels", 0, available);
+    } else {
+        let ones = match active {
+            0 => 1 + rng.below(1_024),
+            1 => 2 + rng.below(60),
+            2..=1_023 => rng.pick(&[active - 1, active + 1]),
+            _ => rng.pick(&[1, 1_023]),
+        };
+        set_mask(rng, &mut message, ones);
+    }
+    message.bytes()
+}
+
+fn wrong_discards(rng: &mut Rng) -> Vec<u8> {
+    let mut message = messages::acquisition(rng, 600);
+    if rng.one_in(4) {
+        message.set("number_of_samples", 0, 65_535);
+    }
+    let samples = message.get("number_of_samples", 0);
+    let (pre, post) = match rng.below(4) {
+        // A sum taken in 16 bits would not pass the number of samples.
+        0 => (65_535, (samples + 1).min(65_535)),
+        1 if samples < 65_535 => (samples + 1, 0),
+        2 if samples < 65_535 => (0, samples + 1),
+        _ => {
+            let pre = rng.below(samples + 1).max(samples.min(1));
+            (pre, samples - pre + 1)
+        }
+    };
+    message.set("discard_pre", 0, pre);
+    message.set("discard_post", 0, post);
+    message.bytes()
+}
+
+fn wrong_data_type(rng: &mut Rng) -> Vec<u8> {
+    let mut message = messages::image(rng, 600);
+    let data_type = rng.pick(&[0, 9, 10, 16, 255, 256, 257, 264, 65_535]);
+    message.set("data_type", 0, data_type);
+    if rng.one_in(2) {
+        let length = rng.number();
+        message.set("attribute_string_len", 0, length);
+    }
+    message.bytes()
+}
+
+/// The byte in an image message where its 8-byte attribute length starts.
+const LONG_LENGTH: usize = 2 + 198;
+
+fn different_attribute_lengths(rng: &mut Rng) -> Vec<u8> {
+    let mut message = messages::image(rng, 600);
+    if rng.one_in(3) {
+        set_image_sizes(&mut message, [65_535; 4], 8);
+    }
+    let short = message.get("attribute_string_len", 0);
+    let mut bytes = message.bytes();
+    let long = match rng.below(4) {
+        // The low four bytes agree.
+        0 => short | 1 << (32 + rng.below(32)),
+        1 => short + 1,
+        2 => short ^ 1 << rng.below(64),
+        _ => !short,
+    };
+    numbers::put(&mut bytes, LONG_LENGTH, 8, long);
+    bytes
+}
+
+fn set_image_sizes(message: &mut Message, sizes: [u64; 4], data_type: u64) {
+    message.set("data_type", 0, data_type);
+    for (i, &size) in sizes[..3].iter().enumerate() {
+        message.set("matrix_size", i, size);
+    }
+    message.set("channels", 0, sizes[3]);
+}
+
+/// A text that claims `length` bytes and has few.
+fn claiming_text(rng: &mut Rng, kind: Kind, length: u64) -> Vec<u8> {
+    let mut bytes = messages::text(rng, kind, 40).bytes();
+    numbers::put(&mut bytes, 2, 4, length);
+    bytes
+}
+
+/// An image whose two attribute lengths agree on `length`, of which few bytes are there.
+fn claiming_image(rng: &mut Rng, length: u64) -> Vec<u8> {
+    let mut message = messages::image(rng, 40);
+    message.set("attribute_string_len", 0, length);
+    let mut bytes = message.bytes();
+    numbers::put(&mut bytes, LONG_LENGTH, 8, length);
+    bytes
+}
+
+fn too_large(rng: &mut Rng, headed: bool) -> Vec<u8> {
+    let kind = kind_allowed(rng, headed);
+    match kind {
+        Kind::Acquisition => {
+            let mut message = messages::acquisition(rng, 40);
+            let (samples, channels, dimensions) = rng.pick(&[
+                (65_535, 65_535, 65_535),
+                (65_535, 512, 1),
+                (65_535, 0, 1_025),
+                // Both products wrap to 0 in 32 bits.
+                (32_768, 16_384, 32_768),
+            ]);
+            message.set("number_of_samples", 0, samples);
+            message.set("active_channels", 0, channels);
+            message.set("available_channels", 0, 65_535);
+            message.set("trajectory_dimensions", 0, dimensions);
+            message.set("discard_pre", 0, 0);
+            message.set("discard_post", 0, 0);
+            set_mask(rng, &mut message, 0);
+            message.bytes()
+        }
+        Kind::Image if rng.one_in(3) => {
+            let length = rng.pick(&[268_435_249, 268_435_456, u64::from(u32::MAX)]);
+            claiming_image(rng, length)
+        }
+        Kind::Image => {
+            let mut message = messages::image(rng, 40);
+            let (sizes, data_type) = rng.pick(&[
+                ([65_535; 4], 8),
+                ([65_535; 4], 1),
+                // 2^64, 2^33 and 2^32 bytes.
+                ([32_768; 4], 8),
+                ([256; 4], 1),
+                ([65_535, 65_535, 1, 1], 1),
+                ([1, 1, 32_768, 32_768], 3),
+                ([1, 65_535, 256, 1], 8),
+            ]);
+            set_image_sizes(&mut message, sizes, data_type);
+            message.bytes()
+        }
+        Kind::Waveform => {
+            let mut message = messages::waveform(rng, 40);
+            let (samples, channels) = rng.pick(&[
+                (65_535, 65_535),
+                (32_768, 32_768),
+                (65_535, 1_025),
+                (1_025, 65_535),
+            ]);
+            message.set("number_of_samples", 0, samples);
+            message.set("channels", 0, channels);
+            message.bytes()
+        }
+        _ => {
+            let kind = if kind == Kind::ConfigurationName {
+                Kind::ConfigurationText
+            } else {
+                kind
+            };
+            let length = rng.pick(&[268_435_451, 268_435_452, 1 << 31, u64::from(u32::MAX)]);
+            claiming_text(rng, kind, length)
+        }
+    }
+}
+
+fn short_body(rng: &mut Rng, headed: bool) -> Vec<u8> {
+    if rng.one_in(3) {
+        // At most check 10's limit, and far more than there is.
+        let length = rng.pick(&[65_536, 1 << 20, 268_435_450]);
+        return match headed {
+            true if rng.one_in(2) => claiming_image_within(rng),
+            true => claiming_text(rng, Kind::Text, length),
+            false => claiming_text(rng, Kind::HeaderText, length),
+        };
+    }
+    loop {
+        let kind = kind_allowed(rng, headed);
+        let bytes = message(rng, kind, 400).bytes();
+        let fixed = 2 + kind.fixed_size();
+        if bytes.len() > fixed {
+            let cut = match rng.below(2) {
+                0 => bytes.len() - 1,
+                _ => fixed + rng.below((bytes.len() - fixed) as u64) as usize,
+            };
+            return bytes[..cut].to_vec();
+        }
+    }
+}
+
+/// An image of no pixels with as many attributes as check 10 lets pass.
+fn claiming_image_within(rng: &mut Rng) -> Vec<u8> {
+    let mut message = messages::image(rng, 40);
+    set_image_sizes(&mut message, [0; 4], 8);
+    message.set("attribute_string_len", 0, 268_435_248);
+    message.attributes.clear();
+    message.pixels.clear();
+    let mut bytes = message.bytes();
+    numbers::put(&mut bytes, LONG_LENGTH, 8, 268_435_248);
+    bytes
+}
+
+fn broken_order(rng: &mut Rng) -> Vec<u8> {
+    let early = rng.pick(&DATA);
+    let late = rng.pick(&[
+        Kind::ConfigurationName,
+        Kind::ConfigurationText,
+        Kind::HeaderText,
+    ]);
+    let configuration = rng.pick(&[Kind::ConfigurationName, Kind::ConfigurationText]);
+    let second = rng.pick(&[Kind::ConfigurationName, Kind::ConfigurationText]);
+    let any = rng.pick(&Kind::ALL);
+    let case = rng.below(4);
+    let mut build = |headed: bool, kinds: &[Kind]| {
+        let mut stream = joined(&opening(rng, headed));
+        for &kind in kinds {
+            stream.extend(message(rng, kind, 100).bytes());
+        }
+        stream
+    };
+    let (mut stream, last) = match case {
+        0 => (build(false, &[]), early),
+        1 => (build(true, &[]), late),
+        2 => (build(false, &[configuration]), second),
+        _ => (build(true, &[Kind::Close]), any),
+    };
+    // The order is judged before the message's own checks, even if only its id is there.
+    let faulty = message(rng, last, 100).bytes();
+    let length = match rng.below(3) {
+        0 => 2,
+        _ => faulty.len(),
+    };
+    stream.extend_from_slice(&faulty[..length]);
+    stream.extend(rest(rng));
+    stream
+}
+
+/// A stream of texts without content, one message more than is allowed; with `close` the last
+/// is the close. 6,000,000 bytes and some.
+pub fn too_many(close: bool) -> Vec<u8> {
+    let mut stream = [5, 0, 0, 0, 0, 0].repeat(1_000_000);
+    stream.extend_from_slice(if close { &[4, 0] } else { &[5, 0, 0, 0, 0, 0] });
+    stream
+}
+
+/// Streams of one image whose pixels pass 64 bits and would be few if the product wrapped: to 0
+/// bytes, to at most `most` bytes that are all there, and to some more that are not.
+pub fn huge_images(rng: &mut Rng, most: u64) -> Vec<Vec<u8>> {
+    let mut streams = Vec::new();
+    let mut add = |rng: &mut Rng, sizes: [u64; 4], wrapped: u64| {
+        let mut message = messages::image(rng, 40);
+        set_image_sizes(&mut message, sizes, 8);
+        message.pixels = rng.bytes(wrapped as usize);
+        let mut stream = joined(&opening(rng, true));
+        stream.extend(message.bytes());
+        stream.extend_from_slice(&[4, 0]);
+        streams.push(stream);
+    };
+    add(rng, [32_768; 4], 0);
+    for limit in [most, 1 << 24] {
+        let (sizes, wrapped) = wrapping_sizes(rng, limit);
+        add(rng, sizes, if wrapped <= most { wrapped } else { 0 });
+    }
+    streams
+}
+
+/// Four sizes whose product times 16 passes 2^64 and is at most `most` beyond a multiple of it.
+fn wrapping_sizes(rng: &mut Rng, most: u64) -> ([u64; 4], u64) {
+    loop {
+        let a = 32_768 + rng.below(32_768);
+        let b = 32_768 + rng.below(32_768);
+        let target = u128::from(1 + rng.below(15)) << 60;
+        let ab = u128::from(a * b);
+        let cd = target.div_ceil(ab);
+        let over = (cd * ab - target) * 16;
+        if over > u128::from(most) {
+            continue;
+        }
+        for c in 1..=65_535_u128 {
+            if cd % c == 0 && cd / c <= 65_535 {
+                return ([a, b, c as u64, (cd / c) as u64], over as u64);
+            }
+        }
+    }
+}
+
+/// The kinds of damage that `damaged` does.
+pub const DAMAGES: [&str; 13] = [
+    "truncated",
+    "one byte flipped",
+    "header field at a boundary",
+    "several header fields at boundaries",
+    "text length at a boundary",
+    "wrong order",
+    "close missing",
+    "bytes after the close",
+    "unknown id",
+    "one byte taken out",
+    "one byte put in",
+    "any bytes",
+    "two damages",
+];
+
+/// A well-formed stream with the damage of that number in `DAMAGES`. Some damage leaves a stream
+/// that is still accepted.
+pub fn damaged(rng: &mut Rng, damage: usize, limit: usize) -> Vec<u8> {
+    let mut messages = well_formed(rng, limit);
+    match damage {
+        2 | 3 => {
+            let count = if damage == 2 { 1 } else { 2 + rng.below(4) };
+            set_boundaries(rng, &mut messages, count);
+            joined(&messages)
+        }
+        5 => {
+            swap_or_repeat(rng, &mut messages);
+            joined(&messages)
+        }
+        6 => {
+            messages.pop();
+            joined(&messages)
+        }
+        8 => {
+            let at = rng.below(messages.len() as u64) as usize;
+            let mut pieces: Vec<Vec<u8>> = messages.iter().map(Message::bytes).collect();
+            let id = unknown_id(rng);
+            pieces[at][..2].copy_from_slice(&id.to_le_bytes());
+            pieces.concat()
+        }
+        4 => {
+            let mut pieces: Vec<Vec<u8>> = messages.iter().map(Message::bytes).collect();
+            set_text_length(rng, &messages, &mut pieces);
+            pieces.concat()
+        }
+        12 => {
+            if rng.one_in(2) {
+                set_boundaries(rng, &mut messages, 2);
+            } else {
+                swap_or_repeat(rng, &mut messages);
+            }
+            let mut bytes = joined(&messages);
+            let second = rng.pick(&[0, 1, 9, 10]);
+            damage_bytes(rng, second, &mut bytes);
+            bytes
+        }
+        _ => {
+            let mut bytes = joined(&messages);
+            damage_bytes(rng, damage, &mut bytes);
+            bytes
+        }
+    }
+}
+
+fn damage_bytes(rng: &mut Rng, damage: usize, bytes: &mut Vec<u8>) {
+    let any = rng.below(bytes.len() as u64) as usize;
+    match damage {
+        0 => bytes.truncate(any),
+        1 => bytes[any] ^= 1 << rng.below(8),
+        7 => {
+            let length = 1 + rng.below(8) as usize;
+            let after = match rng.below(2) {
+                0 => rng.bytes(length),
+                _ => vec![4, 0],
+            };
+            bytes.extend(after);
+        }
+        9 => {
+            bytes.remove(any);
+        }
+        10 => bytes.insert(any, rng.number() as u8),
+        _ => {
+            let length = rng.size(400) as usize;
+            *bytes = rng.bytes(length);
+            // A known id in front lets the later bytes be looked at too.
+            if length > 1 && rng.one_in(2) {
+                let id = rng.pick(&Kind::ALL).id();
+                bytes[..2].copy_from_slice(&id.to_le_bytes());
+            }
+        }
+    }
+}
+
+/// A value at an edge of `width` bytes or next to the value that is there.
+fn boundary(rng: &mut Rng, width: usize, now: u64) -> u64 {
+    let top = u64::MAX >> (64 - 8 * width);
+    match rng.below(8) {
+        0 => 0,
+        1 => 1,
+        2 => top,
+        3 => top / 2,
+        4 => top / 2 + 1,
+        5 => now.wrapping_add(1) & top,
+        6 => now.wrapping_sub(1) & top,
+        _ => rng.number() & top,
+    }
+}
+
+/// The header entries that the checks and sizes look at.
+const JUDGED: [&str; 13] = [
+    "version",
+    "number_of_samples",
+    "available_channels",
+    "active_channels",
+    "channel_mask",
+    "discard_pre",
+    "discard_post",
+    "trajectory_dimensions",
+    "data_type",
+    "matrix_size",
+    "channels",
+    "attribute_string_len",
+    "flags",
+];
+
+/// Sets `count` judged header elements of one message to boundary values.
+fn set_boundaries(rng: &mut Rng, messages: &mut [Message], count: u64) {
+    let with_header: Vec<usize> = (0..messages.len())
+        .filter(|&i| !messages[i].header.is_empty())
+        .collect();
+    if with_header.is_empty() {
+        return;
+    }
+    let message = &mut messages[rng.pick(&with_header)];
+    let table = message
+        .kind()
+        .and_then(Kind::table)
+        .expect("it has a header");
+    for _ in 0..count {
+        let name = rng.pick(&JUDGED);
+        if let Some(entry) = table.entry(name) {
+            let i = rng.below(entry.count as u64) as usize;
+            let number = boundary(rng, entry.element.size(), message.get(name, i));
+            message.set(name, i, number);
+        }
+    }
+}
+
+/// Sets a text's length, or both lengths of an image's attributes, to a boundary value.
+fn set_text_length(rng: &mut Rng, messages: &[Message], pieces: &mut [Vec<u8>]) {
+    let with_length: Vec<usize> = (0..messages.len())
+        .filter(|&i| {
+            messages[i]
+                .kind()
+                .is_some_and(|kind| kind.is_text() || kind == Kind::Image)
+        })
+        .collect();
+    if with_length.is_empty() {
+        return;
+    }
+    let at = rng.pick(&with_length);
+    let image = messages[at].kind() == Some(Kind::Image);
+    let place = if image { 2 + 194 } else { 2 };
+    let now = numbers::read(&pieces[at], place, 4);
+    let length = match rng.below(3) {
+        0 => rng.pick(&[
+            268_435_247,
+            268_435_248,
+            268_435_249,
+            268_435_450,
+            268_435_451,
+        ]),
+        _ => boundary(rng, 4, now),
+    };
+    numbers::put(&mut pieces[at], place, 4, length);
+    if image {
+        numbers::put(&mut pieces[at], LONG_LENGTH, 8, length);
+    }
+}
+
+fn swap_or_repeat(rng: &mut Rng, messages: &mut Vec<Message>) {
+    let a = rng.below(messages.len() as u64) as usize;
+    let b = rng.below(messages.len() as u64) as usize;
+    if rng.one_in(2) {
+        messages.swap(a, b);
+    } else {
+        let copy = messages[a].clone();
+        messages.insert(b, copy);
+    }
+}

@@ -1,0 +1,337 @@
+//! Inputs of the writer and of questions.
+
+use crate::damaged::unknown_id;
+use crate::messages::{self, message, set_mask, Message};
+use crate::rng::Rng;
+use second_reader::questions::counters_of;
+use second_reader::{index_bytes, own_columns, records, Kind, PartName};
+
+/// What a writer is lent: the message's id, header and parts, an output and a position in it.
+#[derive(Clone, Debug)]
+pub struct WriterInput {
+    pub message: Message,
+    pub output: Vec<u8>,
+    pub position: u64,
+}
+
+/// The numbers a writer can refuse with.
+pub const WRITER_REFUSALS: [u32; 11] = [2, 3, 4, 5, 6, 7, 8, 9, 10, 14, 18];
+
+/// An output of random bytes that holds the message from the position on.
+fn with_room(rng: &mut Rng, message: Message) -> WriterInput {
+    let position = rng.size(50);
+    let after = rng.size(50);
+    let length = position as usize + message.bytes().len() + after as usize;
+    WriterInput {
+        message,
+        output: rng.bytes(length),
+        position,
+    }
+}
+
+/// Inputs that the writer accepts.
+pub fn writer_input(rng: &mut Rng) -> WriterInput {
+    let kind = rng.pick(&Kind::ALL);
+    let message = message(rng, kind, 2_000);
+    with_room(rng, message)
+}
+
+/// Inputs that the writer refuses with this number, one of `WRITER_REFUSALS`. A text over the
+/// limit of check 10 is not among them, as it would take 256 MB.
+pub fn writer_input_refused(rng: &mut Rng, number: u32) -> WriterInput {
+    let mut input = writer_input(rng);
+    match number {
+        2 => input.message.id = unknown_id(rng),
+        3 => wrong_header_length(rng, &mut input.message),
+        14 => wrong_room(rng, &mut input),
+        18 => wrong_part(rng, &mut input.message),
+        _ => {
+            let message = refused_message(rng, number);
+            input = with_room(rng, message);
+        }
+    }
+    // A later refusal must not show: 14 is the last of all.
+    if number != 14 && rng.one_in(3) {
+        wrong_room(rng, &mut input);
+    }
+    input
+}
+
+fn wrong_header_length(rng: &mut Rng, message: &mut Message) {
+    let right = message.header.len();
+    let length = loop {
+        let length = match rng.below(3) {
+            0 => rng.pick(&[0, 1, 32, 198, 206, 340]),
+            1 => right + 1,
+            _ => right.saturating_sub(1),
+        };
+        if length != right {
+            break length;
+        }
+    };
+    message.header.resize(length, 0);
+}
+
+/// An output too short by one or more, or a position at or past its end.
+fn wrong_room(rng: &mut Rng, input: &mut WriterInput) {
+    match rng.below(4) {
+        0 => {
+            let fits = input.position as usize + input.message.bytes().len();
+            let length = match rng.below(2) {
+                0 => fits - 1,
+                _ => rng.below(fits as u64) as usize,
+            };
+            input.output.truncate(length);
+        }
+        1 => input.position = input.output.len() as u64,
+        2 => input.position = input.output.len() as u64 + 1 + rng.size(1_000),
+        _ => input.position = u64::MAX - rng.size(1_000),
+    }
+}
+
+/// A part one byte too long or too short, or one that the kind lacks.
+fn wrong_part(rng: &mut Rng, message: &mut Message) {
+    let kind = message.kind().expect("a known kind");
+    // The kind's own name, text and attributes set its size, so they never fit badly.
+    let own: &[PartName] = match kind {
+        Kind::ConfigurationName => &[PartName::Name],
+        Kind::ConfigurationText | Kind::HeaderText | Kind::Text => &[PartName::Text],
+        Kind::Image => &[PartName::Attributes],
+        _ => &[],
+    };
+    let name = loop {
+        let name = rng.pick(&PartName::ALL);
+        if !own.contains(&name) {
+            break name;
+        }
+    };
+    let part = message.part_mut(name);
+    if part.is_empty() || rng.one_in(2) {
+        part.push(0);
+    } else if rng.one_in(2) {
+        part.pop();
+    } else {
+        part.clear();
+    }
+}
+
+/// A message whose header or name a writer refuses with this number, one of 4 to 10.
+fn refused_message(rng: &mut Rng, number: u32) -> Message {
+    let mut message = match number {
+        5 => messages::name(rng),
+        6 | 7 => messages::acquisition(rng, 400),
+        8 | 9 => messages::image(rng, 400),
+        _ => {
+            let kind = rng.pick(&[Kind::Acquisition, Kind::Image, Kind::Waveform]);
+            message(rng, kind, 400)
+        }
+    };
+    match number {
+        4 => {
+            let version = rng.pick(&[0, 2, 256, 257, 65_535]);
+            message.set("version", 0, version);
+        }
+        5 if rng.one_in(2) => {
+            let at = rng.below(message.name.len() as u64 + 1) as usize;
+            message.name.insert(at, 0);
+        }
+        5 => message.name.resize(1_024 + rng.size(3) as usize, b'n'),
+        6 if rng.one_in(2) => {
+            message.set("active_channels", 0, 5);
+            message.set("available_channels", 0, 4);
+        }
+        6 => {
+            let active = message.get("active_channels", 0);
+            let ones = if active < 1_024 { active + 1 } else { 1_023 };
+            set_mask(rng, &mut message, ones);
+        }
+        7 => {
+            message.set("discard_pre", 0, 65_535);
+            let samples = message.get("number_of_samples", 0);
+            message.set("discard_post", 0, (samples + 1).min(65_535));
+        }
+        8 => {
+            let data_type = rng.pick(&[0, 9, 256, 65_535]);
+            message.set("data_type", 0, data_type);
+        }
+        9 => {
+            let length = message.get("attribute_string_len", 0);
+            let other = rng.pick(&[length + 1, length ^ 1 << 31, length ^ 1]);
+            message.set("attribute_string_len", 0, other);
+        }
+        _ => make_too_large(&mut message),
+    }
+    message
+}
+
+fn make_too_large(message: &mut Message) {
+    match message.kind() {
+        Some(Kind::Acquisition) => {
+            message.set("number_of_samples", 0, 65_535);
+            message.set("trajectory_dimensions", 0, 1_025);
+        }
+        Some(Kind::Image) => {
+            message.set("data_type", 0, 8);
+            for i in 0..3 {
+                message.set("matrix_size", i, 32_768);
+            }
+            message.set("channels", 0, 32_768);
+        }
+        _ => {
+            message.set("number_of_samples", 0, 32_768);
+            message.set("channels", 0, 32_768);
+        }
+    }
+}
+
+/// A lent index file, and whether it is the stream's own.
+#[derive(Clone, Debug)]
+pub struct LentFile {
+    pub what: &'static str,
+    pub right: bool,
+    pub bytes: Vec<u8>,
+}
+
+/// Index files to lend with an accepted stream.
+pub fn lent_files(rng: &mut Rng, stream: &[u8]) -> Vec<LentFile> {
+    let own = index_bytes(stream).expect("an accepted stream");
+    let mut one_off = own.clone();
+    let at = rng.below(own.len() as u64) as usize;
+    one_off[at] ^= 1 << rng.below(8);
+    let cut = own[..rng.below(own.len() as u64) as usize].to_vec();
+    let more = 1 + rng.size(20) as usize;
+    let trailing = [&own[..], &rng.bytes(more)].concat();
+    let mut without_record = own.clone();
+    without_record.drain(16..33);
+    let file = |what, right, bytes| LentFile { what, right, bytes };
+    vec![
+        file("right", true, own),
+        file("one byte off", false, one_off),
+        file("short", false, cut),
+        file("trailing bytes", false, trailing),
+        file("one record less", false, without_record),
+        file("empty", false, vec![]),
+    ]
+}
+
+/// Lent columns, and whether they hold the stream's own numbers.
+#[derive(Clone, Debug)]
+pub struct LentColumns {
+    pub what: &'static str,
+    pub right: bool,
+    pub starts: Vec<u64>,
+    pub ids: Vec<u16>,
+    pub counters: Vec<u32>,
+}
+
+/// Columns to lend with an accepted stream.
+pub fn lent_columns(rng: &mut Rng, stream: &[u8]) -> Vec<LentColumns> {
+    let (starts, ids, counters) = own_columns(stream).expect("an accepted stream");
+    let own = LentColumns {
+        what: "right",
+        right: true,
+        starts,
+        ids,
+        counters,
+    };
+    let column = rng.below(3);
+    let record = rng.below(own.starts.len() as u64) as usize;
+    let mut off = own.clone();
+    off.what = "one number off";
+    off.right = false;
+    match column {
+        0 => off.starts[record] ^= 1 << rng.below(64),
+        1 => off.ids[record] ^= 1 << rng.below(16),
+        _ => off.counters[record] ^= 1 << rng.below(32),
+    }
+    let mut short = own.clone();
+    short.what = "one column short";
+    short.right = false;
+    match column {
+        0 => short.starts.truncate(record),
+        1 => short.ids.truncate(record),
+        _ => short.counters.truncate(record),
+    }
+    let mut long = own.clone();
+    long.what = "longer";
+    let more = rng.size(20) as usize;
+    long.starts.extend((0..more).map(|i| i as u64));
+    long.ids.push(rng.number() as u16);
+    let mut empty = own.clone();
+    empty.what = "empty";
+    empty.right = false;
+    empty.starts.clear();
+    empty.ids.clear();
+    empty.counters.clear();
+    vec![own, off, short, long, empty]
+}
+
+/// A record number to ask for: mostly one that is there, also the count, past it and far past.
+pub fn record_number(rng: &mut Rng, count: u64) -> u64 {
+    match rng.below(8) {
+        0 => count,
+        1 => rng.pick(&[count + 1, 1_000_000, u64::from(u32::MAX) + 1, u64::MAX]),
+        _ => rng.below(count.max(1)),
+    }
+}
+
+/// A header offset to ask for: an element's start, any byte of a header, its end, or far past.
+pub fn field_offset(rng: &mut Rng) -> u64 {
+    let table = rng
+        .pick(&[Kind::Acquisition, Kind::Image, Kind::Waveform])
+        .table()
+        .expect("these have headers");
+    match rng.below(6) {
+        0 => rng.below(360),
+        1 => rng.pick(&[32, 198, 206, 340, 65_536, (1 << 32) + 2, u64::MAX]),
+        _ => rng.pick(&table.elements()).0 as u64,
+    }
+}
+
+/// A flag number: 1 to 64, their neighbours, and numbers that only a wrap would bring there.
+pub fn flag(rng: &mut Rng) -> u64 {
+    match rng.below(4) {
+        0 => rng.pick(&[0, 65, 66, 128, 129, 256 + 7, (1 << 32) + 7, u64::MAX]),
+        1 => rng.pick(&[1, 7, 32, 33, 63, 64]),
+        _ => 1 + rng.below(64),
+    }
+}
+
+/// Counters to look for: those of an acquisition of the stream, the same but for one, any
+/// seventeen, or a list of another length.
+pub fn counters(rng: &mut Rng, stream: &[u8]) -> Vec<u16> {
+    let mut found: Vec<Vec<u16>> = Vec::new();
+    for record in records(stream).unwrap_or_default() {
+        if record.detail.kind() == Kind::Acquisition {
+            found.push(counters_of(&stream[record.start as usize + 2..]));
+        }
+    }
+    let mut asked = if found.is_empty() {
+        vec![0; 17]
+    } else {
+        found.swap_remove(rng.below(found.len() as u64) as usize)
+    };
+    match rng.below(6) {
+        0 => asked[rng.below(17) as usize] ^= 1 << rng.below(16),
+        1 => asked
+            .iter_mut()
+            .for_each(|counter| *counter = rng.below(2) as u16),
+        2 => asked.resize(rng.pick(&[0, 16, 18]), 0),
+        _ => {}
+    }
+    asked
+}
+
+/// Two scan counters, earlier and later, mostly near each other or half the range apart.
+pub fn counter_pair(rng: &mut Rng) -> (u32, u32) {
+    let earlier = match rng.below(3) {
+        0 => rng.pick(&[0, 1, 1 << 31, u32::MAX - 1, u32::MAX]),
+        _ => rng.number() as u32,
+    };
+    let step = match rng.below(3) {
+        0 => rng.pick(&[0, 1, 2, 1 << 31, (1 << 31) - 1, (1 << 31) + 1, u32::MAX]),
+        1 => rng.below(10) as u32,
+        _ => rng.number() as u32,
+    };
+    (earlier, earlier.wrapping_add(step))
+}

@@ -1,0 +1,21 @@
+//! Streams and other inputs for the tests: well-formed and damaged streams, a writer's inputs,
+//! lent indexes, offsets, flags and counters. A seed fixes all of them.
+
+pub mod damaged;
+pub mod inputs;
+pub mod messages;
+pub mod rng;
+pub mod sample;
+pub mod well_formed;
+
+pub use damaged::{damaged, huge_images, refused_with, too_many, DAMAGES};
+pub use inputs::{
+    counter_pair, counters, field_offset, flag, lent_columns, lent_files, record_number,
+    writer_input, writer_input_refused, LentColumns, LentFile, WriterInput, WRITER_REFUSALS,
+};
+pub use messages::Message;
+pub use rng::Rng;
+pub use well_formed::{joined, well_formed};
+
+/// The stream refusals that a stream of a few bytes can meet; 19 needs a million messages.
+pub const SHORT_REFUSALS: [u32; 13] = [1, 2, 3, 4, 5, 6, 7, 8, 9, 10, 11, 12, 13];

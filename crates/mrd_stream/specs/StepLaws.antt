@@ -3,23 +3,23 @@
 use Prim.Native.Nat.{ℕ, _+_, _-_, _≤_, _<_}
 use native.Mathlib.Omega.{arith}
 use mathlib.Core.Path.{_≡_, refl, sym, ap, _∙_}
-use mathlib.Core.List.{List, [], _∷_}
-use lib.ListN.{length, take, drop, length-drop}
+use mathlib.Core.List.{List, [], _∷_, _++_}
+use lib.ListN.{length, take, drop, length-drop, take-append-drop}
 use lib.Seq.{drop-drop}
 use Rattle.mrd_format.specs.declared.kind.Kind.{Kind}
-use Rattle.mrd_format.specs.Message.{fixedPart}
+use Rattle.mrd_format.specs.Message.{fixedPart, WellFormed}
 use Rattle.mrd_format.specs.MessageLaws.{size-least}
 use Rattle.mrd_stream.specs.declared.cursor.Cursor.{Cursor}
 use Rattle.mrd_stream.specs.Walk.{Judged, faulty, whole, judge, after, Verdict, Trace, message, done, beginning, walk, trace}
 use Rattle.mrd_stream.specs.WalkLaws.{walk-end, walk-fault, walk-next}
-use Rattle.mrd_stream.specs.Judged.{WholeAt, judge-whole}
+use Rattle.mrd_stream.specs.Judged.{WholeAt, judge-whole, wellFormed}
 use Rattle.mrd_stream.specs.Places.{Located, located, Stepped, handed, over, stepBy, stepAt, step}
 
 -- the trace from a cursor on
 abbrev pub from : Cursor → List ℕ → Trace
 from c s = walk (drop (c .start) s) 0 c
 
--- a step from c over s that hands out l goes to d: it passes one message of the trace
+-- a step from c over s that hands out l goes to d: it passes one message of the trace, the well-formed bytes at c
 pub record Passes (c : Cursor) (s : List ℕ) (l : Located) (d : Cursor) : Type 0 where
   pub kind : Kind
   pub bytes : List ℕ
@@ -28,6 +28,9 @@ pub record Passes (c : Cursor) (s : List ℕ) (l : Located) (d : Cursor) : Type 
   pub ahead : c .start < d .start
   pub within : d .start ≤ length s
   pub counted : d .number ≡ c .number + 1
+  pub well : WellFormed bytes
+  pub known : well .kind ≡ kind
+  pub split : drop (c .start) s ≡ bytes ++ drop (d .start) s
 
 -- a step hands out a message or ends the walk, and not both
 not-both : {l : Located} {d : Cursor} {v : Verdict} → over v ≡ handed l d → ⊥
@@ -67,6 +70,9 @@ step-handed c s {l} {d} e = at (drop (c .start) s) refl e
           ahead = rw next (omega arith);
           within = rw next (omega (arith, w .fits));
           counted = rw next;
+          well = wellFormed c (b ∷ t) w;
+          known = refl;
+          split = rw (next, ← rest) (here ∙ sym (take-append-drop z (b ∷ t)));
         }
 
     at : (t : List ℕ) → drop (c .start) s ≡ t → stepAt c t ≡ handed l d → Passes c s l d
@@ -79,18 +85,25 @@ pub record On {A : Type 0} (f : Trace → A) (wanted : A) (c : Cursor) (s : List
   pub kept : f (from c s) ≡ wanted
 
 module _ {A : Type 0} (f : Trace → A) (s : List ℕ) where
+  -- past a message, where what f finds from there on is what g finds in the rest; from any cursor
+  pub kept-next : {wanted : A} {c d : Cursor} {l : Located} (g : Trace → A) → f (from c s) ≡ wanted → (p : Passes c s l d) →
+      ((r : Trace) → f (message c (p .kind) (p .bytes) r) ≡ g r) → g (from d s) ≡ wanted
+  kept-next {d = d} g o p e = sym (e (from d s)) ∙ sym (ap f (p .trace)) ∙ o
+
+  -- at the end
+  pub kept-end : (c : Cursor) {wanted : A} {v : Verdict} → f (from c s) ≡ wanted → step c s ≡ over v → f (done v) ≡ wanted
+  kept-end c o e = sym (ap f (step-over c s e)) ∙ o
+
   pub on-start : On f (f (trace s)) beginning s
   unfolding trace
   on-start = record { within = omega arith; kept = refl }
 
-  -- past a message, where what f finds from there on is what g finds in the rest
   pub on-next : {wanted : A} {c d : Cursor} {l : Located} (g : Trace → A) → On f wanted c s → (p : Passes c s l d) →
       ((r : Trace) → f (message c (p .kind) (p .bytes) r) ≡ g r) → On g wanted d s
-  on-next {d = d} g o p e = record { within = p .within; kept = sym (e (from d s)) ∙ sym (ap f (p .trace)) ∙ o .kept }
+  on-next g o p e = record { within = p .within; kept = kept-next g (o .kept) p e }
 
-  -- at the end
   pub on-end : {wanted : A} {c : Cursor} {v : Verdict} → On f wanted c s → step c s ≡ over v → f (done v) ≡ wanted
-  on-end {wanted} {c} o e = sym (ap f (step-over c s e)) ∙ o .kept
+  on-end {c = c} o e = kept-end c (o .kept) e
 
 -- a step goes forward
 pub on-less : {c d : Cursor} {l : Located} (s : List ℕ) → Passes c s l d → length s - d .start < length s - c .start

@@ -85,18 +85,25 @@ pub record On {A : Type 0} (f : Trace → A) (wanted : A) (c : Cursor) (s : List
   pub kept : f (from c s) ≡ wanted
 
 module _ {A : Type 0} (f : Trace → A) (s : List ℕ) where
+  -- past a message, where what f finds from there on is what g finds in the rest; from any cursor
+  pub kept-next : {wanted : A} {c d : Cursor} {l : Located} (g : Trace → A) → f (from c s) ≡ wanted → (p : Passes c s l d) →
+      ((r : Trace) → f (message c (p .kind) (p .bytes) r) ≡ g r) → g (from d s) ≡ wanted
+  kept-next {d = d} g o p e = sym (e (from d s)) ∙ sym (ap f (p .trace)) ∙ o
+
+  -- at the end
+  pub kept-end : (c : Cursor) {wanted : A} {v : Verdict} → f (from c s) ≡ wanted → step c s ≡ over v → f (done v) ≡ wanted
+  kept-end c o e = sym (ap f (step-over c s e)) ∙ o
+
   pub on-start : On f (f (trace s)) beginning s
   unfolding trace
   on-start = record { within = omega arith; kept = refl }
 
-  -- past a message, where what f finds from there on is what g finds in the rest
   pub on-next : {wanted : A} {c d : Cursor} {l : Located} (g : Trace → A) → On f wanted c s → (p : Passes c s l d) →
       ((r : Trace) → f (message c (p .kind) (p .bytes) r) ≡ g r) → On g wanted d s
-  on-next {d = d} g o p e = record { within = p .within; kept = sym (e (from d s)) ∙ sym (ap f (p .trace)) ∙ o .kept }
+  on-next g o p e = record { within = p .within; kept = kept-next g (o .kept) p e }
 
-  -- at the end
   pub on-end : {wanted : A} {c : Cursor} {v : Verdict} → On f wanted c s → step c s ≡ over v → f (done v) ≡ wanted
-  on-end {wanted} {c} o e = sym (ap f (step-over c s e)) ∙ o .kept
+  on-end {c = c} o e = kept-end c (o .kept) e
 
 -- a step goes forward
 pub on-less : {c d : Cursor} {l : Located} (s : List ℕ) → Passes c s l d → length s - d .start < length s - c .start

@@ -17,4 +17,5 @@ pub use cursor::Cursor;
 pub use cursor::Phase;
 pub use judge::MESSAGE_LIMIT;
 pub use reader::check;
+pub use reader::check_from;
 pub use reader::place;

@@ -1,7 +1,8 @@
 // The reader: a whole stream checked, walked record by record, and asked for a record's place and kind.
 ghost use mathlib.Core.Path.{_≡_};
-ghost use Rattle.mrd_stream.specs.Walk.{answer};
+ghost use Rattle.mrd_stream.specs.Walk.{verdict, answer};
 ghost use Rattle.mrd_stream.specs.Places.{place, step};
+ghost use Rattle.mrd_stream.specs.StepLaws.{from};
 ghost use Rattle.mrd_stream.specs.Seek.{concluded, keptBy};
 ghost use Rattle.mrd_stream.specs.Told.{toldChecked, toldPlaced, toldRecord, toldStep};
 use crate::answer::Checked;
@@ -33,7 +34,15 @@ impl Cursor {
 pub fn check(s: &[u8]) -> Checked
     ensures { λ r. ⌜ toldChecked r ≡ answer (now (s .entry)) ⌝ }
 {
-    let mut c = Cursor::beginning();
+    check_from(Cursor::beginning(), s)
+}
+
+// Checks what a walk still has before it: the answer that its steps from c on end in. Where c was handed
+// out by a walk over s, that is the stream's answer; any other cursor gets some answer too.
+pub fn check_from(c: Cursor, s: &[u8]) -> Checked
+    ensures { λ r. ⌜ toldChecked r ≡ verdict (from c (now (s .entry))) ⌝ }
+{
+    let mut c = c;
     loop {
         let step = c.next(s);
         match step {

@@ -1,0 +1,26 @@
+-- `mrd_find::search::concluded` meets its contract: it goes by the stream's answer.
+-- Assumes nothing.
+use mathlib.Core.Path.{sym, ap}
+use borrow.Author.Needs.{needs}
+use Rattle.mrd_stream.specs.Told.{toldChecked}
+use Rattle.mrd_find.specs.Find.{unlessRefused}
+use Rattle.mrd_find.specs.Told.{told}
+use Rattle.mrd_find.proofs.search.concluded.Statement.{statement}
+use Rattle.mrd_find.proofs.search.concluded.Tie as tie
+
+enum-told : tie.Need-enum-told
+enum-told c = search needs
+
+enum-known-answer : tie.Need-enum-known-answer
+enum-known-answer c = search needs
+
+returns : tie.Need-returns
+returns c = search needs
+
+returns-2 : tie.Need-returns-2
+returns-2 c =
+    let a = c .before .before .before .args in
+    sym (ap (λ v. unlessRefused (toldChecked v) (told (a .found))) (c .before .answer .given .1))
+
+pub concluded-spec : {M : Type 1} → statement M
+concluded-spec = tie.close (tie.spec enum-told enum-known-answer returns returns-2)

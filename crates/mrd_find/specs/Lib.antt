@@ -1,0 +1,5 @@
+pub mod Find
+pub mod Told
+pub mod Alike
+pub mod CounterLaws
+pub mod FindLaws

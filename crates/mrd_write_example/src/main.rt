@@ -1,0 +1,119 @@
+// Writes a small stream message by message, each from the position that the one before it gave, and
+// has the reader check it.
+use libc::STDOUT_FILENO;
+use mrd_format::Kind;
+use mrd_stream::Checked;
+use mrd_writer::Written;
+
+fn main() {
+    let mut out = [0u8; 2048];
+    let named = put_name(&mut out, 0);
+    let headed = put_header(&mut out, named);
+    let measured = put_readout(&mut out, headed);
+    let end = put_close(&mut out, measured);
+    read_back(&out, end);
+}
+
+// The position after a message, which is printed; where the message was refused, its number is printed
+// and the position stays.
+fn after(written: Written, position: usize) -> usize {
+    match written {
+        Written::To(next) => {
+            io::write_all(STDOUT_FILENO, b"written to ");
+            io::print_decimal(STDOUT_FILENO, next as u64);
+            io::write_all(STDOUT_FILENO, b"\n");
+            next
+        }
+        Written::Refused(number) => {
+            io::write_all(STDOUT_FILENO, b"refused ");
+            io::print_decimal(STDOUT_FILENO, number as u64);
+            io::write_all(STDOUT_FILENO, b"\n");
+            position
+        }
+    }
+}
+
+fn put_name(out: &mut [u8], position: usize) -> usize {
+    let id = Kind::CONFIGURATION_NAME;
+    let written = mrd_writer::write(
+        id,
+        b"",
+        b"default.xml",
+        b"",
+        b"",
+        b"",
+        b"",
+        b"",
+        b"",
+        out,
+        position,
+    );
+    after(written, position)
+}
+
+fn put_header(out: &mut [u8], position: usize) -> usize {
+    let id = Kind::HEADER_TEXT;
+    let written = mrd_writer::write(
+        id,
+        b"",
+        b"",
+        b"<ismrmrdHeader/>",
+        b"",
+        b"",
+        b"",
+        b"",
+        b"",
+        out,
+        position,
+    );
+    after(written, position)
+}
+
+// An acquisition of four samples in one of two channels, with no trajectory.
+fn put_readout(out: &mut [u8], position: usize) -> usize {
+    let mut header = [0u8; 340];
+    header[0] = 1;
+    header[34] = 4;
+    header[36] = 2;
+    header[38] = 1;
+    let samples = [7u8; 32];
+    let id = Kind::ACQUISITION;
+    let written = mrd_writer::write(
+        id,
+        &header,
+        b"",
+        b"",
+        b"",
+        &samples,
+        b"",
+        b"",
+        b"",
+        out,
+        position,
+    );
+    after(written, position)
+}
+
+fn put_close(out: &mut [u8], position: usize) -> usize {
+    let id = Kind::CLOSE;
+    let written = mrd_writer::write(id, b"", b"", b"", b"", b"", b"", b"", b"", out, position);
+    after(written, position)
+}
+
+// What the reader finds in out up to `end`.
+fn read_back(out: &[u8], end: usize) {
+    if out.len() < end {
+        return;
+    }
+    match mrd_stream::check(&out[0..end]) {
+        Checked::Accepted(count) => {
+            io::write_all(STDOUT_FILENO, b"accepted, records ");
+            io::print_decimal(STDOUT_FILENO, count as u64);
+        }
+        Checked::Refused(refusal) => {
+            io::write_all(STDOUT_FILENO, b"refused ");
+            io::print_decimal(STDOUT_FILENO, refusal.number as u64);
+        }
+    }
+    io::write_all(STDOUT_FILENO, b"\n");
+}

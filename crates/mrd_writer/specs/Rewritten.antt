@@ -1,10 +1,10 @@
 -- The other way: the header and the parts of a well-formed message, lent to the writer, are not refused, and make that message's normal form.
 -- Assumes nothing.
-use Prim.Native.Nat.{ℕ, zero, suc, _+_, _-_, _*_, _^_, _≤_, _<_}
+use Prim.Native.Nat.{ℕ, _+_, _-_, _*_, _^_, _≤_, _<_}
 use native.Mathlib.Nat.{le-of-eq}
 use native.Mathlib.Omega.{arith}
 use mathlib.Core.Path.{_≡_, refl, sym, ap, ap₂, _∙_}
-use mathlib.Core.Bool.{Bool, true, false, not, _||_}
+use mathlib.Core.Bool.{Bool, true, false, _||_}
 use mathlib.Core.List.{List, [], _∷_, _++_, append-nil}
 use lib.Dec.{eqb, ltb}
 use lib.ListN.{length, take, drop, replicate, length-drop, take-append-drop, drop-of-length-le}
@@ -23,13 +23,12 @@ use Rattle.mrd_format.specs.Checks.{first, Passed}
 use Rattle.mrd_format.specs.CheckLaws.{first-passed, own-numbered}
 use Rattle.mrd_format.specs.Message as message
 use Rattle.mrd_format.specs.Message.{limit, idAt, fixedPart, nameLength, textLength, WellFormed}
-use Rattle.mrd_format.specs.Content.{Extent, extent, partOf, normalOf}
+use Rattle.mrd_format.specs.Content.{extent, partOf, normalOf}
 use Rattle.mrd_format.specs.NormalLaws.{nameBytes, name-short, name-normal}
 use Rattle.mrd_format.specs.Acquisition as acquisition
 use Rattle.mrd_format.specs.Image as image
 use Rattle.mrd_format.specs.Waveform as waveform
-use Rattle.mrd_writer.specs.declared.lengths.Lengths.{Lengths}
-use Rattle.mrd_writer.specs.Lent.{Lent, lent, lengthsOf, headerSize, fixedOf, bodyOf, contentOf, messageOf}
+use Rattle.mrd_writer.specs.Lent.{Lent, lent, lengthsOf, fixedOf, bodyOf, contentOf, messageOf}
 use Rattle.mrd_writer.specs.Refusals.{holdsZero, ownChecks, bodySize, sizeOf, dueLengths}
 use Rattle.mrd_writer.specs.ImageLaws.{pixels-size, image-checks, image-size}
 use Rattle.mrd_writer.specs.Sound.{Sound}

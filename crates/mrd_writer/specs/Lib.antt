@@ -10,3 +10,4 @@ pub mod WriteLaws
 pub mod Written
 pub mod LentRecord
 pub mod ReadBack
+pub mod Rewritten

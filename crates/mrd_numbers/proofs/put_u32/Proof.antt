@@ -42,7 +42,8 @@ same-length c = search needs
 returns : tie.Need-returns
 returns c =
     let start = c .before .before .before .before .before .before .before .before .before in
-    halves-stored 2 (start .args .v) (now (start .args .out)) (c .before .before .before .before .before .before .put-u16 .last .0) (c .before .before .put-u162 .last .0) (start .pre)
+    halves-stored 2 (start .args .v) (now (start .args .out))
+    (c .before .before .before .before .before .before .put-u16 .last .0) (c .before .before .put-u162 .last .0) (start .pre)
     (c .before .before .before .before .before .before .put-u16 .ensures) (c .before .before .put-u162 .ensures)
 
 pub put-u32-spec : {M : Type 1} → statement M

@@ -42,7 +42,8 @@ same-length c = search needs
 returns : tie.Need-returns
 returns c =
     let start = c .before .before .before .before .before .before .before .before .before in
-    halves-stored 4 (start .args .v) (now (start .args .out)) (c .before .before .before .before .before .before .put-u32 .last .0) (c .before .before .put-u322 .last .0) (start .pre)
+    halves-stored 4 (start .args .v) (now (start .args .out))
+    (c .before .before .before .before .before .before .put-u32 .last .0) (c .before .before .put-u322 .last .0) (start .pre)
     (c .before .before .before .before .before .before .put-u32 .ensures) (c .before .before .put-u322 .ensures)
 
 pub put-u64-spec : {M : Type 1} → statement M

@@ -11,16 +11,26 @@ fault-requires : tie.Need-fault-requires
 fault-requires c κs = search needs
 
 returns : tie.Need-returns
-returns c = let a = c .before .before .before .args in sym (sized-own (a .kind) (now (a .h)) _ (sym (c .before .fault .ensures)) (c .if1 .taken))
+returns c =
+    let a = c .before .before .before .args in
+    sym (sized-own (a .kind) (now (a .h)) _ (sym (c .before .fault .ensures)) (c .if1 .taken))
 
 size-requires : tie.Need-size-requires
 size-requires c κs = search needs
 
 returns-2 : tie.Need-returns-2
-returns-2 c = let a = c .before .before .before .before .before .args in sym (sized-limit (a .kind) (now (a .h)) (sym (c .before .before .before .fault .ensures) ∙ c .before .before .if1 .left) _ (c .before .size .ensures) (c .if2 .taken))
+returns-2 c =
+    let a = c .before .before .before .before .before .args in
+    sym
+    (sized-limit (a .kind) (now (a .h)) (sym (c .before .before .before .fault .ensures) ∙ c .before .before .if1 .left) _
+    (c .before .size .ensures) (c .if2 .taken))
 
 returns-3 : tie.Need-returns-3
-returns-3 c = let a = c .before .before .before .before .before .args in sym (sized-whole (a .kind) (now (a .h)) (sym (c .before .before .before .fault .ensures) ∙ c .before .before .if1 .left) _ (c .before .size .ensures) (c .if2 .left))
+returns-3 c =
+    let a = c .before .before .before .before .before .args in
+    sym
+    (sized-whole (a .kind) (now (a .h)) (sym (c .before .before .before .fault .ensures) ∙ c .before .before .if1 .left) _
+    (c .before .size .ensures) (c .if2 .left))
 
 pub checked-size-spec : {M : Type 1} → statement M
 checked-size-spec = tie.close (tie.spec fault-requires returns size-requires returns-2 returns-3)

@@ -26,7 +26,12 @@ put-u64-requires : tie.Need-put-u64-requires
 put-u64-requires c κs = search needs
 
 returns : tie.Need-returns
-returns c = fixed-made (now (c .before .before .before .before .before .before .before .args .header)) (replicate 206 0) (c .before .before .before .before .copy .last .1 .0) (c .before .put-u64 .last .0) (c .before .before .before .before .before .before .before .args .attributes) (c .before .before .before .before .before .before .before .pre) (c .before .before .before .before .copy .kept .1 .0) (c .before .before .before .before .copy .ensures .1) (c .before .put-u64 .ensures)
+returns c =
+    fixed-made (now (c .before .before .before .before .before .before .before .args .header)) (replicate 206 0)
+    (c .before .before .before .before .copy .last .1 .0) (c .before .put-u64 .last .0)
+    (c .before .before .before .before .before .before .before .args .attributes)
+    (c .before .before .before .before .before .before .before .pre) (c .before .before .before .before .copy .kept .1 .0)
+    (c .before .before .before .before .copy .ensures .1) (c .before .put-u64 .ensures)
 
 pub image-fixed-spec : {M : Type 1} → statement M
 image-fixed-spec =

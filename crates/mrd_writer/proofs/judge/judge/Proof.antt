@@ -14,7 +14,11 @@ header-size-requires : tie.Need-header-size-requires
 header-size-requires c κs = search needs
 
 returns : tie.Need-returns
-returns c = let a = c .before .before .before .before .args in sym (judged-header (a .kind) (now (a .header)) (now (a .name)) (a .lent) (λ e. c .if1 .taken (e ∙ sym (c .before .header-size .ensures))))
+returns c =
+    let a = c .before .before .before .before .args in
+    sym
+    (judged-header (a .kind) (now (a .header)) (now (a .name)) (a .lent)
+    (λ e. c .if1 .taken (e ∙ sym (c .before .header-size .ensures))))
 
 enum-told : tie.Need-enum-told
 enum-told c = search needs
@@ -50,51 +54,86 @@ enum-told-6 : tie.Need-enum-told-6
 enum-told-6 c = search needs
 
 judge-acquisition-requires : tie.Need-judge-acquisition-requires
-judge-acquisition-requires c κs = c .before .before .if1 .left ∙ c .before .before .before .header-size .ensures ∙ ap headerSize (c .enum-told6 .given .1)
+judge-acquisition-requires c κs =
+    c .before .before .if1 .left ∙ c .before .before .before .header-size .ensures ∙ ap headerSize (c .enum-told6 .given .1)
 
 enum-told-7 : tie.Need-enum-told-7
 enum-told-7 c = search needs
 
 judge-image-requires : tie.Need-judge-image-requires
-judge-image-requires c κs = c .before .before .if1 .left ∙ c .before .before .before .header-size .ensures ∙ ap headerSize (c .enum-told7 .given .1)
+judge-image-requires c κs =
+    c .before .before .if1 .left ∙ c .before .before .before .header-size .ensures ∙ ap headerSize (c .enum-told7 .given .1)
 
 enum-told-8 : tie.Need-enum-told-8
 enum-told-8 c = search needs
 
 judge-waveform-requires : tie.Need-judge-waveform-requires
-judge-waveform-requires c κs = c .before .before .if1 .left ∙ c .before .before .before .header-size .ensures ∙ ap headerSize (c .enum-told8 .given .1)
+judge-waveform-requires c κs =
+    c .before .before .if1 .left ∙ c .before .before .before .header-size .ensures ∙ ap headerSize (c .enum-told8 .given .1)
 
 returns-2 : tie.Need-returns-2
 unfolding headed headedChecks ownChecks sizeOf bodySize dueLengths
-returns-2 c = let a = c .before .before .before .before .before .before .before .args in c .judge-name .ensures ∙ sym (judged-as (a .kind) ConfigurationName (now (a .header)) (now (a .name)) (a .lent) (c .before .enum-told .given .1) (c .before .before .before .if1 .left ∙ c .before .before .before .before .header-size .ensures))
+returns-2 c =
+    let a = c .before .before .before .before .before .before .before .args in
+    c .judge-name .ensures ∙ sym
+    (judged-as (a .kind) ConfigurationName (now (a .header)) (now (a .name)) (a .lent) (c .before .enum-told .given .1)
+    (c .before .before .before .if1 .left ∙ c .before .before .before .before .header-size .ensures))
 
 returns-3 : tie.Need-returns-3
 unfolding headed headedChecks ownChecks sizeOf bodySize dueLengths
-returns-3 c = let a = c .before .before .before .before .before .before .before .args in c .judge-text .ensures ∙ sym (judged-as (a .kind) ConfigurationText (now (a .header)) (now (a .name)) (a .lent) (c .before .enum-told2 .given .1) (c .before .before .before .if1 .left ∙ c .before .before .before .before .header-size .ensures))
+returns-3 c =
+    let a = c .before .before .before .before .before .before .before .args in
+    c .judge-text .ensures ∙ sym
+    (judged-as (a .kind) ConfigurationText (now (a .header)) (now (a .name)) (a .lent) (c .before .enum-told2 .given .1)
+    (c .before .before .before .if1 .left ∙ c .before .before .before .before .header-size .ensures))
 
 returns-4 : tie.Need-returns-4
 unfolding headed headedChecks ownChecks sizeOf bodySize dueLengths
-returns-4 c = let a = c .before .before .before .before .before .before .before .args in c .judge-text2 .ensures ∙ sym (judged-as (a .kind) HeaderText (now (a .header)) (now (a .name)) (a .lent) (c .before .enum-told3 .given .1) (c .before .before .before .if1 .left ∙ c .before .before .before .before .header-size .ensures))
+returns-4 c =
+    let a = c .before .before .before .before .before .before .before .args in
+    c .judge-text2 .ensures ∙ sym
+    (judged-as (a .kind) HeaderText (now (a .header)) (now (a .name)) (a .lent) (c .before .enum-told3 .given .1)
+    (c .before .before .before .if1 .left ∙ c .before .before .before .before .header-size .ensures))
 
 returns-5 : tie.Need-returns-5
 unfolding headed headedChecks ownChecks sizeOf bodySize dueLengths
-returns-5 c = let a = c .before .before .before .before .before .before .before .args in c .judge-close .ensures ∙ sym (judged-as (a .kind) Close (now (a .header)) (now (a .name)) (a .lent) (c .before .enum-told4 .given .1) (c .before .before .before .if1 .left ∙ c .before .before .before .before .header-size .ensures))
+returns-5 c =
+    let a = c .before .before .before .before .before .before .before .args in
+    c .judge-close .ensures ∙ sym
+    (judged-as (a .kind) Close (now (a .header)) (now (a .name)) (a .lent) (c .before .enum-told4 .given .1)
+    (c .before .before .before .if1 .left ∙ c .before .before .before .before .header-size .ensures))
 
 returns-6 : tie.Need-returns-6
 unfolding headed headedChecks ownChecks sizeOf bodySize dueLengths
-returns-6 c = let a = c .before .before .before .before .before .before .before .args in c .judge-text3 .ensures ∙ sym (judged-as (a .kind) Text (now (a .header)) (now (a .name)) (a .lent) (c .before .enum-told5 .given .1) (c .before .before .before .if1 .left ∙ c .before .before .before .before .header-size .ensures))
+returns-6 c =
+    let a = c .before .before .before .before .before .before .before .args in
+    c .judge-text3 .ensures ∙ sym
+    (judged-as (a .kind) Text (now (a .header)) (now (a .name)) (a .lent) (c .before .enum-told5 .given .1)
+    (c .before .before .before .if1 .left ∙ c .before .before .before .before .header-size .ensures))
 
 returns-7 : tie.Need-returns-7
 unfolding headed headedChecks ownChecks sizeOf bodySize dueLengths
-returns-7 c = let a = c .before .before .before .before .before .before .before .args in c .judge-acquisition .ensures ∙ sym (judged-as (a .kind) Acquisition (now (a .header)) (now (a .name)) (a .lent) (c .before .enum-told6 .given .1) (c .before .before .before .if1 .left ∙ c .before .before .before .before .header-size .ensures))
+returns-7 c =
+    let a = c .before .before .before .before .before .before .before .args in
+    c .judge-acquisition .ensures ∙ sym
+    (judged-as (a .kind) Acquisition (now (a .header)) (now (a .name)) (a .lent) (c .before .enum-told6 .given .1)
+    (c .before .before .before .if1 .left ∙ c .before .before .before .before .header-size .ensures))
 
 returns-8 : tie.Need-returns-8
 unfolding headed headedChecks ownChecks sizeOf bodySize dueLengths
-returns-8 c = let a = c .before .before .before .before .before .before .before .args in c .judge-image .ensures ∙ sym (judged-as (a .kind) Image (now (a .header)) (now (a .name)) (a .lent) (c .before .enum-told7 .given .1) (c .before .before .before .if1 .left ∙ c .before .before .before .before .header-size .ensures))
+returns-8 c =
+    let a = c .before .before .before .before .before .before .before .args in
+    c .judge-image .ensures ∙ sym
+    (judged-as (a .kind) Image (now (a .header)) (now (a .name)) (a .lent) (c .before .enum-told7 .given .1)
+    (c .before .before .before .if1 .left ∙ c .before .before .before .before .header-size .ensures))
 
 returns-9 : tie.Need-returns-9
 unfolding headed headedChecks ownChecks sizeOf bodySize dueLengths
-returns-9 c = let a = c .before .before .before .before .before .before .before .args in c .judge-waveform .ensures ∙ sym (judged-as (a .kind) Waveform (now (a .header)) (now (a .name)) (a .lent) (c .before .enum-told8 .given .1) (c .before .before .before .if1 .left ∙ c .before .before .before .before .header-size .ensures))
+returns-9 c =
+    let a = c .before .before .before .before .before .before .before .args in
+    c .judge-waveform .ensures ∙ sym
+    (judged-as (a .kind) Waveform (now (a .header)) (now (a .name)) (a .lent) (c .before .enum-told8 .given .1)
+    (c .before .before .before .if1 .left ∙ c .before .before .before .before .header-size .ensures))
 
 pub judge-spec : {M : Type 1} → statement M
 judge-spec =

@@ -26,10 +26,26 @@ add-due : tie.Need-add-due
 add-due c = search needs
 
 sub-due : tie.Need-sub-due
-sub-due c = omega (arith, acquisition-sized (now (c .before .before .before .before .before .before .before .args .header)) [] (c .before .before .before .before .before .before .before .args .lent) (sym (c .before .before .before .before .before .checked-size .ensures) ∙ ap toldJudged (c .before .before .before .checked .given .1)) .0)
+sub-due c =
+    omega (
+      arith,
+      acquisition-sized (now (c .before .before .before .before .before .before .before .args .header)) []
+          (c .before .before .before .before .before .before .before .args .lent)
+          (sym (c .before .before .before .before .before .checked-size .ensures) ∙ ap toldJudged
+          (c .before .before .before .checked .given .1)) .0,
+    )
 
 sub-due-2 : tie.Need-sub-due-2
-sub-due-2 c = omega (arith, c .before .trajectory-size .ensures, acquisition-sized (now (c .before .before .before .before .before .before .before .args .header)) [] (c .before .before .before .before .before .before .before .args .lent) (sym (c .before .before .before .before .before .checked-size .ensures) ∙ ap toldJudged (c .before .before .before .checked .given .1)) .0)
+sub-due-2 c =
+    omega (
+      arith,
+      c .before .trajectory-size .ensures,
+      acquisition-sized
+          (now (c .before .before .before .before .before .before .before .args .header)) []
+          (c .before .before .before .before .before .before .before .args .lent)
+          (sym (c .before .before .before .before .before .checked-size .ensures) ∙ ap toldJudged
+          (c .before .before .before .checked .given .1)) .0,
+    )
 
 judge-bodies-requires : tie.Need-judge-bodies-requires
 judge-bodies-requires c κs = search needs
@@ -38,10 +54,20 @@ enum-known-checked-2 : tie.Need-enum-known-checked-2
 enum-known-checked-2 c = search needs
 
 returns : tie.Need-returns
-returns c = c .judge-bodies .ensures ∙ rw (c .before .none .ensures, c .before .before .trajectory-size .ensures .0) (sym (acquisition-sized (now (c .before .before .before .before .before .before .before .before .args .header)) [] (c .before .before .before .before .before .before .before .before .args .lent) (sym (c .before .before .before .before .before .before .checked-size .ensures) ∙ ap toldJudged (c .before .before .before .before .checked .given .1)) .1))
+returns c =
+    c .judge-bodies .ensures ∙ rw (c .before .none .ensures, c .before .before .trajectory-size .ensures .0)
+    (sym
+    (acquisition-sized (now (c .before .before .before .before .before .before .before .before .args .header)) []
+    (c .before .before .before .before .before .before .before .before .args .lent)
+    (sym (c .before .before .before .before .before .before .checked-size .ensures) ∙ ap toldJudged
+    (c .before .before .before .before .checked .given .1)) .1))
 
 returns-2 : tie.Need-returns-2
-returns-2 c = sym (acquisition-refused (now (c .before .before .before .before .before .args .header)) [] (c .before .before .before .before .before .args .lent) (sym (c .before .before .before .checked-size .ensures) ∙ ap toldJudged (c .before .checked2 .given .1)))
+returns-2 c =
+    sym
+    (acquisition-refused (now (c .before .before .before .before .before .args .header)) []
+    (c .before .before .before .before .before .args .lent)
+    (sym (c .before .before .before .checked-size .ensures) ∙ ap toldJudged (c .before .checked2 .given .1)))
 
 pub judge-acquisition-spec : {M : Type 1} → statement M
 judge-acquisition-spec =

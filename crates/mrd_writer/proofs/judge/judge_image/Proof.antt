@@ -31,10 +31,30 @@ add-due : tie.Need-add-due
 add-due c = search needs
 
 sub-due : tie.Need-sub-due
-sub-due c = omega (arith, image-sized (now (c .before .before .before .before .before .before .before .before .args .header)) [] (c .before .before .before .before .before .before .before .before .args .lent) (c .before .before .before .before .before .before .before .before .pre) (omega arith) (sym (c .before .before .before .before .checked-size .ensures ∙ ap (sized Image) (c .before .before .before .before .before .before .image-fixed .ensures)) ∙ ap toldJudged (c .before .before .checked .given .1)) .0)
+sub-due c =
+    omega (
+      arith,
+      image-sized (now (c .before .before .before .before .before .before .before .before .args .header)) []
+          (c .before .before .before .before .before .before .before .before .args .lent)
+          (c .before .before .before .before .before .before .before .before .pre) (omega arith)
+          (sym
+          (c .before .before .before .before .checked-size .ensures ∙ ap (sized Image)
+          (c .before .before .before .before .before .before .image-fixed .ensures)) ∙ ap toldJudged
+          (c .before .before .checked .given .1)) .0,
+    )
 
 sub-due-2 : tie.Need-sub-due-2
-sub-due-2 c = omega (arith, image-sized (now (c .before .before .before .before .before .before .before .before .args .header)) [] (c .before .before .before .before .before .before .before .before .args .lent) (c .before .before .before .before .before .before .before .before .pre) (omega arith) (sym (c .before .before .before .before .checked-size .ensures ∙ ap (sized Image) (c .before .before .before .before .before .before .image-fixed .ensures)) ∙ ap toldJudged (c .before .before .checked .given .1)) .0)
+sub-due-2 c =
+    omega (
+      arith,
+      image-sized (now (c .before .before .before .before .before .before .before .before .args .header)) []
+          (c .before .before .before .before .before .before .before .before .args .lent)
+          (c .before .before .before .before .before .before .before .before .pre) (omega arith)
+          (sym
+          (c .before .before .before .before .checked-size .ensures ∙ ap (sized Image)
+          (c .before .before .before .before .before .before .image-fixed .ensures)) ∙ ap toldJudged
+          (c .before .before .checked .given .1)) .0,
+    )
 
 judge-bodies-requires : tie.Need-judge-bodies-requires
 judge-bodies-requires c κs = search needs
@@ -43,10 +63,26 @@ enum-known-checked-2 : tie.Need-enum-known-checked-2
 enum-known-checked-2 c = search needs
 
 returns : tie.Need-returns
-returns c = c .judge-bodies .ensures ∙ rw (c .before .none .ensures) (sym (image-sized (now (c .before .before .before .before .before .before .before .before .before .args .header)) [] (c .before .before .before .before .before .before .before .before .before .args .lent) (c .before .before .before .before .before .before .before .before .before .pre) (omega arith) (sym (c .before .before .before .before .before .checked-size .ensures ∙ ap (sized Image) (c .before .before .before .before .before .before .before .image-fixed .ensures)) ∙ ap toldJudged (c .before .before .before .checked .given .1)) .1))
+returns c =
+    c .judge-bodies .ensures ∙ rw (c .before .none .ensures)
+    (sym
+    (image-sized (now (c .before .before .before .before .before .before .before .before .before .args .header)) []
+    (c .before .before .before .before .before .before .before .before .before .args .lent)
+    (c .before .before .before .before .before .before .before .before .before .pre) (omega arith)
+    (sym
+    (c .before .before .before .before .before .checked-size .ensures ∙ ap (sized Image)
+    (c .before .before .before .before .before .before .before .image-fixed .ensures)) ∙ ap toldJudged
+    (c .before .before .before .checked .given .1)) .1))
 
 returns-2 : tie.Need-returns-2
-returns-2 c = sym (image-refused (now (c .before .before .before .before .before .before .before .args .header)) [] (c .before .before .before .before .before .before .before .args .lent) (c .before .before .before .before .before .before .before .pre) (omega arith) (sym (c .before .before .before .checked-size .ensures ∙ ap (sized Image) (c .before .before .before .before .before .image-fixed .ensures)) ∙ ap toldJudged (c .before .checked2 .given .1)))
+returns-2 c =
+    sym
+    (image-refused (now (c .before .before .before .before .before .before .before .args .header)) []
+    (c .before .before .before .before .before .before .before .args .lent)
+    (c .before .before .before .before .before .before .before .pre) (omega arith)
+    (sym
+    (c .before .before .before .checked-size .ensures ∙ ap (sized Image)
+    (c .before .before .before .before .before .image-fixed .ensures)) ∙ ap toldJudged (c .before .checked2 .given .1)))
 
 pub judge-image-spec : {M : Type 1} → statement M
 judge-image-spec =

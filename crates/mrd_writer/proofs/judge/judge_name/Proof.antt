@@ -22,7 +22,8 @@ returns-2 : tie.Need-returns-2
 unfolding slice
 returns-2 c =
     let a = c .before .before .before .before .args in
-    let at : c .before .find .result ≡ indexOf 0 (now (a .name)) = c .before .find .ensures .0 ∙ zero-add _ ∙ ap (indexOf 0) (take-length (now (a .name))) in
+    let at : c .before .find .result ≡ indexOf 0 (now (a .name)) = c .before .find .ensures .0 ∙ zero-add _ ∙ ap (indexOf 0)
+    (take-length (now (a .name))) in
     sym (name-zero [] (now (a .name)) (a .lent) (c .before .before .if1 .left) (rw (← at) (c .if2 .taken)))
 
 none-requires : tie.Need-none-requires
@@ -38,8 +39,12 @@ returns-3 : tie.Need-returns-3
 unfolding slice dueLengths
 returns-3 c =
     let a = c .before .before .before .before .before .before .args in
-    let at : c .before .before .before .find .result ≡ indexOf 0 (now (a .name)) = c .before .before .before .find .ensures .0 ∙ zero-add _ ∙ ap (indexOf 0) (take-length (now (a .name))) in
-    c .judge-bodies .ensures ∙ rw (c .before .none .ensures) (sym (name-sound [] (now (a .name)) (a .lent) (c .before .before .before .before .if1 .left) (rw (← at) (c .before .before .if2 .left))))
+    let at : c .before .before .before .find .result ≡ indexOf 0 (now (a .name)) = c .before .before .before .find .ensures .0 ∙
+    zero-add _ ∙ ap (indexOf 0) (take-length (now (a .name))) in
+    c .judge-bodies .ensures ∙ rw (c .before .none .ensures)
+    (sym
+    (name-sound [] (now (a .name)) (a .lent) (c .before .before .before .before .if1 .left)
+    (rw (← at) (c .before .before .if2 .left))))
 
 pub judge-name-spec : {M : Type 1} → statement M
 judge-name-spec =

@@ -28,7 +28,9 @@ judge-bodies-requires c κs = search needs
 
 returns-2 : tie.Need-returns-2
 unfolding dueLengths
-returns-2 c = c .judge-bodies .ensures ∙ rw (c .before .none .ensures) (sym (text-sound [] [] (c .before .before .before .args .lent) (c .before .before .if1 .left)))
+returns-2 c =
+    c .judge-bodies .ensures ∙ rw (c .before .none .ensures)
+    (sym (text-sound [] [] (c .before .before .before .args .lent) (c .before .before .if1 .left)))
 
 pub judge-text-spec : {M : Type 1} → statement M
 judge-text-spec =

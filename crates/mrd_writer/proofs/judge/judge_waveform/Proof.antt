@@ -23,7 +23,13 @@ add-due : tie.Need-add-due
 add-due c = search needs
 
 sub-due : tie.Need-sub-due
-sub-due c = omega (arith, waveform-sized (now (c .before .before .before .before .before .before .args .header)) [] (c .before .before .before .before .before .before .args .lent) (sym (c .before .before .before .before .checked-size .ensures) ∙ ap toldJudged (c .before .before .checked .given .1)) .0)
+sub-due c =
+    omega (
+      arith,
+      waveform-sized (now (c .before .before .before .before .before .before .args .header)) []
+          (c .before .before .before .before .before .before .args .lent)
+          (sym (c .before .before .before .before .checked-size .ensures) ∙ ap toldJudged (c .before .before .checked .given .1)) .0,
+    )
 
 judge-bodies-requires : tie.Need-judge-bodies-requires
 judge-bodies-requires c κs = search needs
@@ -32,10 +38,20 @@ enum-known-checked-2 : tie.Need-enum-known-checked-2
 enum-known-checked-2 c = search needs
 
 returns : tie.Need-returns
-returns c = c .judge-bodies .ensures ∙ rw (c .before .none .ensures) (sym (waveform-sized (now (c .before .before .before .before .before .before .before .args .header)) [] (c .before .before .before .before .before .before .before .args .lent) (sym (c .before .before .before .before .before .checked-size .ensures) ∙ ap toldJudged (c .before .before .before .checked .given .1)) .1))
+returns c =
+    c .judge-bodies .ensures ∙ rw (c .before .none .ensures)
+    (sym
+    (waveform-sized (now (c .before .before .before .before .before .before .before .args .header)) []
+    (c .before .before .before .before .before .before .before .args .lent)
+    (sym (c .before .before .before .before .before .checked-size .ensures) ∙ ap toldJudged
+    (c .before .before .before .checked .given .1)) .1))
 
 returns-2 : tie.Need-returns-2
-returns-2 c = sym (waveform-refused (now (c .before .before .before .before .before .args .header)) [] (c .before .before .before .before .before .args .lent) (sym (c .before .before .before .checked-size .ensures) ∙ ap toldJudged (c .before .checked2 .given .1)))
+returns-2 c =
+    sym
+    (waveform-refused (now (c .before .before .before .before .before .args .header)) []
+    (c .before .before .before .before .before .args .lent)
+    (sym (c .before .before .before .checked-size .ensures) ∙ ap toldJudged (c .before .checked2 .given .1)))
 
 pub judge-waveform-spec : {M : Type 1} → statement M
 judge-waveform-spec =

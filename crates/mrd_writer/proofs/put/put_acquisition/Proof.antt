@@ -38,7 +38,10 @@ same-length c = search needs
 returns : tie.Need-returns
 returns c =
     let start = c .before .before .before .before .before .before .before .before .before .before .before .before in
-    headed-put (now (start .args .header)) (now (start .args .trajectory) ++ now (start .args .samples)) (now (start .args .out)) (c .before .before .before .before .before .before .copy .last .1 .0) (c .before .before .put-joined .last .1 .1 .0) (simp length-append (start .pre)) (c .before .before .before .before .before .before .copy .ensures .1) (c .before .before .put-joined .ensures)
+    headed-put (now (start .args .header)) (now (start .args .trajectory) ++ now (start .args .samples))
+    (now (start .args .out)) (c .before .before .before .before .before .before .copy .last .1 .0)
+    (c .before .before .put-joined .last .1 .1 .0) (simp length-append (start .pre))
+    (c .before .before .before .before .before .before .copy .ensures .1) (c .before .before .put-joined .ensures)
 
 pub put-acquisition-spec : {M : Type 1} → statement M
 put-acquisition-spec =

@@ -4,10 +4,16 @@ use mathlib.Core.Path.{refl}
 use denote.Ref.{now}
 use borrow.Author.Needs.{needs}
 use Rattle.mrd_format.specs.declared.kind.Kind.the-variants.{ConfigurationText, HeaderText, Text}
-use Rattle.mrd_writer.specs.Lent.{lent, fixedOf, bodyOf, contentOf}
+use Rattle.mrd_writer.specs.Lent.{Lent, lent, fixedOf, bodyOf, contentOf}
 use Rattle.mrd_writer.specs.PutLaws.{content-name, name-room, text-room, acquisition-room, image-room, waveform-room}
 use Rattle.mrd_writer.proofs.put.put_content.Statement.{statement}
 use Rattle.mrd_writer.proofs.put.put_content.Tie as tie
+
+-- what is lent, where the function begins
+abbrev lentAt : tie.Start → Lent
+lentAt s =
+    lent (now (s .args .header)) (now (s .args .name)) (now (s .args .text)) (now (s .args .trajectory)) (now (s .args .samples))
+    (now (s .args .attributes)) (now (s .args .pixels)) (now (s .args .waveform))
 
 enum-told : tie.Need-enum-told
 enum-told c = search needs
@@ -15,7 +21,7 @@ enum-told c = search needs
 put-name-requires : tie.Need-put-name-requires
 put-name-requires c κs =
     let start = c .before .before .before .before .before .before .before .before .before .before .before .before in
-    name-room (start .args .kind) (lent (now (start .args .header)) (now (start .args .name)) (now (start .args .text)) (now (start .args .trajectory)) (now (start .args .samples)) (now (start .args .attributes)) (now (start .args .pixels)) (now (start .args .waveform))) (now (start .args .out)) (start .pre .0) (start .pre .1) (c .before .enum-told .given .1)
+    name-room (start .args .kind) (lentAt start) (now (start .args .out)) (start .pre .0) (start .pre .1) (c .before .enum-told .given .1)
 
 enum-told-2 : tie.Need-enum-told-2
 enum-told-2 c = search needs
@@ -24,7 +30,8 @@ put-text-requires : tie.Need-put-text-requires
 unfolding contentOf fixedOf bodyOf
 put-text-requires c κs =
     let start = c .before .before .before .before .before .before .before .before .before .before .before .before in
-    text-room (start .args .kind) (lent (now (start .args .header)) (now (start .args .name)) (now (start .args .text)) (now (start .args .trajectory)) (now (start .args .samples)) (now (start .args .attributes)) (now (start .args .pixels)) (now (start .args .waveform))) (now (start .args .out)) (start .pre .0) (start .pre .1) ConfigurationText (c .before .enum-told2 .given .1) refl
+    text-room (start .args .kind) (lentAt start) (now (start .args .out)) (start .pre .0) (start .pre .1) ConfigurationText
+    (c .before .enum-told2 .given .1) refl
 
 enum-told-3 : tie.Need-enum-told-3
 enum-told-3 c = search needs
@@ -33,7 +40,8 @@ put-text-requires-2 : tie.Need-put-text-requires-2
 unfolding contentOf fixedOf bodyOf
 put-text-requires-2 c κs =
     let start = c .before .before .before .before .before .before .before .before .before .before .before .before in
-    text-room (start .args .kind) (lent (now (start .args .header)) (now (start .args .name)) (now (start .args .text)) (now (start .args .trajectory)) (now (start .args .samples)) (now (start .args .attributes)) (now (start .args .pixels)) (now (start .args .waveform))) (now (start .args .out)) (start .pre .0) (start .pre .1) HeaderText (c .before .enum-told3 .given .1) refl
+    text-room (start .args .kind) (lentAt start) (now (start .args .out)) (start .pre .0) (start .pre .1) HeaderText
+    (c .before .enum-told3 .given .1) refl
 
 enum-told-4 : tie.Need-enum-told-4
 enum-told-4 c = search needs
@@ -45,7 +53,8 @@ put-text-requires-3 : tie.Need-put-text-requires-3
 unfolding contentOf fixedOf bodyOf
 put-text-requires-3 c κs =
     let start = c .before .before .before .before .before .before .before .before .before .before .before .before in
-    text-room (start .args .kind) (lent (now (start .args .header)) (now (start .args .name)) (now (start .args .text)) (now (start .args .trajectory)) (now (start .args .samples)) (now (start .args .attributes)) (now (start .args .pixels)) (now (start .args .waveform))) (now (start .args .out)) (start .pre .0) (start .pre .1) Text (c .before .enum-told5 .given .1) refl
+    text-room (start .args .kind) (lentAt start) (now (start .args .out)) (start .pre .0) (start .pre .1) Text
+    (c .before .enum-told5 .given .1) refl
 
 enum-told-6 : tie.Need-enum-told-6
 enum-told-6 c = search needs
@@ -53,7 +62,8 @@ enum-told-6 c = search needs
 put-acquisition-requires : tie.Need-put-acquisition-requires
 put-acquisition-requires c κs =
     let start = c .before .before .before .before .before .before .before .before .before .before .before .before in
-    acquisition-room (start .args .kind) (lent (now (start .args .header)) (now (start .args .name)) (now (start .args .text)) (now (start .args .trajectory)) (now (start .args .samples)) (now (start .args .attributes)) (now (start .args .pixels)) (now (start .args .waveform))) (now (start .args .out)) (start .pre .0) (start .pre .1) (c .before .enum-told6 .given .1)
+    acquisition-room (start .args .kind) (lentAt start) (now (start .args .out)) (start .pre .0) (start .pre .1)
+    (c .before .enum-told6 .given .1)
 
 enum-told-7 : tie.Need-enum-told-7
 enum-told-7 c = search needs
@@ -61,7 +71,7 @@ enum-told-7 c = search needs
 put-image-requires : tie.Need-put-image-requires
 put-image-requires c κs =
     let start = c .before .before .before .before .before .before .before .before .before .before .before .before in
-    image-room (start .args .kind) (lent (now (start .args .header)) (now (start .args .name)) (now (start .args .text)) (now (start .args .trajectory)) (now (start .args .samples)) (now (start .args .attributes)) (now (start .args .pixels)) (now (start .args .waveform))) (now (start .args .out)) (start .pre .0) (start .pre .1) (c .before .enum-told7 .given .1)
+    image-room (start .args .kind) (lentAt start) (now (start .args .out)) (start .pre .0) (start .pre .1) (c .before .enum-told7 .given .1)
 
 enum-told-8 : tie.Need-enum-told-8
 enum-told-8 c = search needs
@@ -69,7 +79,8 @@ enum-told-8 c = search needs
 put-joined-requires : tie.Need-put-joined-requires
 put-joined-requires c κs =
     let start = c .before .before .before .before .before .before .before .before .before .before .before .before in
-    waveform-room (start .args .kind) (lent (now (start .args .header)) (now (start .args .name)) (now (start .args .text)) (now (start .args .trajectory)) (now (start .args .samples)) (now (start .args .attributes)) (now (start .args .pixels)) (now (start .args .waveform))) (now (start .args .out)) (start .pre .0) (start .pre .1) (c .before .enum-told8 .given .1)
+    waveform-room (start .args .kind) (lentAt start) (now (start .args .out)) (start .pre .0) (start .pre .1)
+    (c .before .enum-told8 .given .1)
 
 same-length : tie.Need-same-length
 same-length c = search needs

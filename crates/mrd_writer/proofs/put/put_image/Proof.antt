@@ -50,7 +50,13 @@ same-length c = search needs
 returns : tie.Need-returns
 returns c =
     let start = c .before .before .before .before .before .before .before .before .before .before .before .before .before .before .before .before in
-    image-put (now (start .args .header)) (length (now (start .args .attributes))) (now (start .args .attributes) ++ now (start .args .pixels)) (now (start .args .out)) (c .before .before .before .before .before .before .before .before .before .before .copy .last .1 .0) (c .before .before .before .before .before .before .put-u64 .last .0) (c .before .before .put-joined .last .1 .1 .0) (start .pre .0) (simp length-append (start .pre .1)) (c .before .before .before .before .before .before .before .before .before .before .copy .ensures .1) (c .before .before .before .before .before .before .put-u64 .ensures) (c .before .before .put-joined .ensures)
+    image-put (now (start .args .header)) (length (now (start .args .attributes)))
+    (now (start .args .attributes) ++ now (start .args .pixels)) (now (start .args .out))
+    (c .before .before .before .before .before .before .before .before .before .before .copy .last .1 .0)
+    (c .before .before .before .before .before .before .put-u64 .last .0) (c .before .before .put-joined .last .1 .1 .0)
+    (start .pre .0) (simp length-append (start .pre .1))
+    (c .before .before .before .before .before .before .before .before .before .before .copy .ensures .1)
+    (c .before .before .before .before .before .before .put-u64 .ensures) (c .before .before .put-joined .ensures)
 
 pub put-image-spec : {M : Type 1} → statement M
 put-image-spec =

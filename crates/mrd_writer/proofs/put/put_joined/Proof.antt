@@ -36,7 +36,9 @@ same-length c = search needs
 returns : tie.Need-returns
 returns c =
     let start = c .before .before .before .before .before .before .before .before .before .before .before in
-    joined-put (now (start .args .first)) (now (start .args .second)) (now (start .args .out)) (c .before .before .before .before .before .before .copy .last .1 .0) (c .before .before .copy2 .last .1 .0) (start .pre) (c .before .before .before .before .before .before .copy .ensures .1) (c .before .before .copy2 .ensures .1)
+    joined-put (now (start .args .first)) (now (start .args .second)) (now (start .args .out))
+    (c .before .before .before .before .before .before .copy .last .1 .0) (c .before .before .copy2 .last .1 .0) (start .pre)
+    (c .before .before .before .before .before .before .copy .ensures .1) (c .before .before .copy2 .ensures .1)
 
 pub put-joined-spec : {M : Type 1} → statement M
 put-joined-spec =

@@ -39,7 +39,9 @@ same-length c = search needs
 returns : tie.Need-returns
 returns c =
     let start = c .before .before .before .before .before .before .before .before .before .before in
-    name-put (now (start .args .name)) (now (start .args .out)) (c .before .before .before .before .before .before .copy .last .1 .0) (c .before .before .put-zeros .last .0) (start .pre) (c .before .before .before .before .before .before .copy .ensures .1) (c .before .before .put-zeros .ensures)
+    name-put (now (start .args .name)) (now (start .args .out))
+    (c .before .before .before .before .before .before .copy .last .1 .0) (c .before .before .put-zeros .last .0) (start .pre)
+    (c .before .before .before .before .before .before .copy .ensures .1) (c .before .before .put-zeros .ensures)
 
 pub put-name-spec : {M : Type 1} → statement M
 put-name-spec =

@@ -39,7 +39,9 @@ same-length c = search needs
 returns : tie.Need-returns
 returns c =
     let start = c .before .before .before .before .before .before .before .before .before .before in
-    text-put (now (start .args .text)) (now (start .args .out)) (c .before .before .before .before .before .before .put-u32 .last .0) (c .before .before .copy .last .1 .0) (start .pre .1) (c .before .before .before .before .before .before .put-u32 .ensures) (c .before .before .copy .ensures .1)
+    text-put (now (start .args .text)) (now (start .args .out))
+    (c .before .before .before .before .before .before .put-u32 .last .0) (c .before .before .copy .last .1 .0) (start .pre .1)
+    (c .before .before .before .before .before .before .put-u32 .ensures) (c .before .before .copy .ensures .1)
 
 pub put-text-spec : {M : Type 1} → statement M
 put-text-spec =

@@ -3,11 +3,17 @@
 use mathlib.Core.Path.{sym, ap, _∙_}
 use denote.Ref.{now}
 use borrow.Author.Needs.{needs}
-use Rattle.mrd_writer.specs.Lent.{lent}
+use Rattle.mrd_writer.specs.Lent.{Lent, lent}
 use Rattle.mrd_writer.specs.Refusals.{toldJudged}
 use Rattle.mrd_writer.specs.WriteLaws.{refused-lent, write-known, write-unknown}
 use Rattle.mrd_writer.proofs.writer.write.Statement.{statement}
 use Rattle.mrd_writer.proofs.writer.write.Tie as tie
+
+-- what is lent, where the function begins
+abbrev lentAt : tie.Start → Lent
+lentAt s =
+    lent (now (s .args .header)) (now (s .args .name)) (now (s .args .text)) (now (s .args .trajectory)) (now (s .args .samples))
+    (now (s .args .attributes)) (now (s .args .pixels)) (now (s .args .waveform))
 
 of-id-requires : tie.Need-of-id-requires
 of-id-requires c κs = search needs
@@ -21,7 +27,8 @@ enum-told c = search needs
 returns : tie.Need-returns
 returns c =
     let start = c .before .before .before .before .before .before .before .before .before .before .before .before in
-    write-unknown (start .args .id) (lent (now (start .args .header)) (now (start .args .name)) (now (start .args .text)) (now (start .args .trajectory)) (now (start .args .samples)) (now (start .args .attributes)) (now (start .args .pixels)) (now (start .args .waveform))) (start .args .position) (now (start .args .out)) (sym (c .before .before .of-id .ensures) ∙ c .enum-told .given .1)
+    write-unknown (start .args .id) (lentAt start) (start .args .position) (now (start .args .out))
+    (sym (c .before .before .of-id .ensures) ∙ c .enum-told .given .1)
 
 body-lengths-requires : tie.Need-body-lengths-requires
 body-lengths-requires c κs = search needs
@@ -33,7 +40,10 @@ enum-known-judged : tie.Need-enum-known-judged
 enum-known-judged c = search needs
 
 store-requires : tie.Need-store-requires
-store-requires c κs = sym (rw (c .before .before .before .before .before .body-lengths .ensures) at (c .before .before .before .before .judge .ensures)) ∙ ap toldJudged (c .before .before .judged .given .1)
+store-requires c κs =
+    sym
+    (rw (c .before .before .before .before .before .body-lengths .ensures) at
+    (c .before .before .before .before .judge .ensures)) ∙ ap toldJudged (c .before .before .judged .given .1)
 
 enum-known-judged-2 : tie.Need-enum-known-judged-2
 enum-known-judged-2 c = search needs
@@ -44,13 +54,20 @@ same-length c = search needs
 returns-2 : tie.Need-returns-2
 returns-2 c =
     let start = c .before .before .before .before .before .before .before .before .before .before .before .before .before .before .before .before .before .before .before .before .before .before in
-    write-known (start .args .id) _ (lent (now (start .args .header)) (now (start .args .name)) (now (start .args .text)) (now (start .args .trajectory)) (now (start .args .samples)) (now (start .args .attributes)) (now (start .args .pixels)) (now (start .args .waveform))) (start .args .position) (now (start .args .out)) _ _ (sym (c .before .before .before .before .before .before .before .before .before .before .before .before .of-id .ensures) ∙ c .before .before .before .before .before .before .before .before .before .before .identified .given .1) (c .before .before .store .ensures)
+    write-known (start .args .id) _ (lentAt start) (start .args .position) (now (start .args .out)) _ _
+    (sym (c .before .before .before .before .before .before .before .before .before .before .before .before .of-id .ensures) ∙
+    c .before .before .before .before .before .before .before .before .before .before .identified .given .1)
+    (c .before .before .store .ensures)
 
 returns-3 : tie.Need-returns-3
 returns-3 c =
     let start = c .before .before .before .before .before .before .before .before .before .before .before .before .before .before .before .before .before .before in
-    write-known (start .args .id) _ (lent (now (start .args .header)) (now (start .args .name)) (now (start .args .text)) (now (start .args .trajectory)) (now (start .args .samples)) (now (start .args .attributes)) (now (start .args .pixels)) (now (start .args .waveform))) (start .args .position) (now (start .args .out)) _ _ (sym (c .before .before .before .before .before .before .before .before .of-id .ensures) ∙ c .before .before .before .before .before .before .identified .given .1)
-    (refused-lent _ (lent (now (start .args .header)) (now (start .args .name)) (now (start .args .text)) (now (start .args .trajectory)) (now (start .args .samples)) (now (start .args .attributes)) (now (start .args .pixels)) (now (start .args .waveform))) (start .args .position) (now (start .args .out)) (sym (rw (c .before .before .before .before .body-lengths .ensures) at (c .before .before .before .judge .ensures)) ∙ ap toldJudged (c .before .judged2 .given .1)))
+    write-known (start .args .id) _ (lentAt start) (start .args .position) (now (start .args .out)) _ _
+    (sym (c .before .before .before .before .before .before .before .before .of-id .ensures) ∙
+    c .before .before .before .before .before .before .identified .given .1)
+    (refused-lent _ (lentAt start) (start .args .position) (now (start .args .out))
+    (sym (rw (c .before .before .before .before .body-lengths .ensures) at (c .before .before .before .judge .ensures)) ∙ ap
+    toldJudged (c .before .judged2 .given .1)))
 
 pub write-spec : {M : Type 1} → statement M
 write-spec =

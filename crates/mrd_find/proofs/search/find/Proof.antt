@@ -1,7 +1,7 @@
 -- `mrd_find::find` meets its contract. The outer loop's invariant: the answer from the cursor on is the stream's. The inner loop's: the
 -- counters compared so far are the same, so that the rest of them decides. The measures are the bytes left, and the counters left.
 -- Assumes nothing.
-use Prim.Native.Nat.{_-_}
+use Prim.Native.Nat.{_-_, _<_}
 use native.Mathlib.Omega.{arith}
 use mathlib.Core.Path.{sym, ap, _∙_}
 use borrow.Author.Needs.{needs}
@@ -101,7 +101,7 @@ records-again-2 c =
     let a = s .before .before .before .before .before .before .before .args in
     let turn = turned (a .n) (now (a .counters)) (s .before .before .before .records .inv) (s .before .before .next .ensures) (s .step .given .1) in
     let candidate = sym (h .before .before .before .candidate .ensures) ∙ not-false _ (h .before .before .if1 .left) in
-    let test = c .before .before .before .loop-test .taken in
+    let test : c .before .before .before .before .loop .i < 17 = omega (arith, c .before .before .before .loop-test .taken) in
     let read = counters-at _ _ test ∙ sym (c .before .before .read-u16 .ensures) in
     no-match turn candidate (h .header .ensures .0) (differs (c .before .before .before .before .loop .inv) test (λ e. c .if2 .taken (sym read ∙ e)))
 
@@ -113,7 +113,7 @@ loop-less c = omega arith
 
 loop-again : tie.Need-loop-again Inv-loop μ-loop Inv-records μ-records
 loop-again c =
-    let test = c .before .before .before .loop-test .taken in
+    let test : c .before .before .before .before .loop .i < 17 = omega (arith, c .before .before .before .loop-test .taken) in
     let read = counters-at _ _ test ∙ sym (c .before .before .read-u16 .ensures) in
     step (c .before .before .before .before .loop .inv) test (read ∙ c .if2 .left)
 

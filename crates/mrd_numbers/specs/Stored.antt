@@ -1,0 +1,70 @@
+-- Storing bytes in an output: what lies before and after them keeps its content. The laws by which field writers, each lent the part of the output
+-- from its own place on, make one message.
+-- Assumes nothing.
+use Prim.Native.Nat.{ℕ, _+_, _-_, _≤_}
+use native.Mathlib.Nat.{zero-add, add-assoc, le-of-eq}
+use native.Mathlib.Omega.{arith}
+use mathlib.Core.Path.{_≡_, _∙_}
+use mathlib.Core.List.{List, [], _++_, append-assoc, append-nil}
+use lib.ListN.{length, take, drop, length-append, length-drop, drop-of-length-le}
+use lib.Seq.{length-take-le, take-all, drop-drop, take-at, drop-at}
+
+-- the output o with the bytes m in it from `at` on
+unfoldable pub stored : ℕ → List ℕ → List ℕ → List ℕ
+stored at m o = take at o ++ (m ++ drop (at + length m) o)
+
+-- bytes at the front
+pub stored-front : (m o : List ℕ) → stored 0 m o ≡ m ++ drop (length m) o
+unfolding stored
+stored-front m o = rw zero-add
+
+-- an output keeps its length
+pub length-stored : (at : ℕ) (m o : List ℕ) → at + length m ≤ length o → length (stored at m o) ≡ length o
+unfolding stored
+length-stored at m o h =
+    let before : length (take at o) ≡ at = length-take-le at o (omega arith) in
+    simp (length-append, length-drop, before) (omega arith)
+
+-- bytes stored right after others are stored with them
+pub stored-next : (at : ℕ) (m n o : List ℕ) → at + length m ≤ length o → stored (at + length m) n (stored at m o) ≡ stored at (m ++ n) o
+unfolding stored
+stored-next at m n o h =
+    let end = at + length m in
+    let before : length (take at o) ≡ at = length-take-le at o (omega arith) in
+    let front : length (take at o ++ m) ≡ end = simp (length-append, before) in
+    let regroup : take at o ++ (m ++ drop end o) ≡ (take at o ++ m) ++ drop end o = simp append-assoc in
+    let past : drop (end + length n) ((take at o ++ m) ++ drop end o) ≡ drop (at + length (m ++ n)) o =
+    rw (← drop-drop (length n) end, drop-at (take at o ++ m) (drop end o) end front, drop-drop, length-append, add-assoc) in
+    rw (regroup, take-at (take at o ++ m) (drop end o) end front, past) (simp append-assoc)
+
+-- the part of o that is lent from `at` on, and o when that part has come back as x
+abbrev pub lentFrom : ℕ → List ℕ → List ℕ
+lentFrom at o = take (length o - at) (drop at o)
+
+abbrev pub returned : ℕ → List ℕ → List ℕ → List ℕ
+returned at o x = take at o ++ (x ++ drop (length o - at) (drop at o))
+
+pub lent-is : (at : ℕ) (o : List ℕ) → lentFrom at o ≡ drop at o
+lent-is at o = take-all (length o - at) (drop at o) (le-of-eq (length-drop at o))
+
+-- bytes written at the front of the part lent from `at` on are stored there
+pub stored-lent : (at : ℕ) (o m x : List ℕ) → x ≡ m ++ drop (length m) (lentFrom at o) → returned at o x ≡ stored at m o
+unfolding stored
+stored-lent at o m x p =
+    let none : drop (length o - at) (drop at o) ≡ [] = drop-of-length-le (drop at o) (le-of-eq (length-drop at o)) in
+    rw (p, none, lent-is, drop-drop, append-nil)
+
+-- the same at the front
+pub front-first : (w : ℕ) (o m x : List ℕ) → length m ≡ w → x ≡ m ++ drop w (lentFrom 0 o) → returned 0 o x ≡ m ++ drop w o
+front-first w o m x e p = rw (← e) (stored-lent 0 o m x (rw e p) ∙ stored-front m o)
+
+-- and after bytes m at the front
+front-after : (o m n y : List ℕ) → length m ≤ length o → y ≡ n ++ drop (length n) (lentFrom (length m) (m ++ drop (length m) o)) →
+    returned (length m) (m ++ drop (length m) o) y ≡ (m ++ n) ++ drop (length m + length n) o
+front-after o m n y h q =
+    let next : stored (length m) n (stored 0 m o) ≡ stored 0 (m ++ n) o = rw zero-add at (stored-next 0 m n o (rw zero-add h)) in
+    rw (stored-lent (length m) (m ++ drop (length m) o) n y q, ← stored-front, next, stored-front, length-append)
+
+pub front-next : (w z : ℕ) (o o′ m n y : List ℕ) → o′ ≡ m ++ drop w o → length m ≡ w → w ≤ length o → length n ≡ z →
+    y ≡ n ++ drop z (lentFrom w o′) → returned w o′ y ≡ (m ++ n) ++ drop (w + z) o
+front-next w z o o′ m n y p e h f q = rw (p, ← e, ← f) (front-after o m n y (rw e h) (rw (p, ← e, ← f) at q))

@@ -9,27 +9,18 @@ ghost use mathlib.Core.Path.{_≡_};
 ghost use Prim.Native.Nat.{ℕ};
 ghost use lib.ListN.{length};
 ghost use Rattle.mrd_stream.specs.Walk.{accepted, answer};
-ghost use Rattle.mrd_normal.specs.Written.{told, normalAnswer, normalOutput};
+ghost use Rattle.mrd_stream.specs.Output.{toldWritten};
+ghost use Rattle.mrd_normal.specs.Written.{normalAnswer, normalOutput};
 use mrd_format::refusal;
 use mrd_stream::Checked;
-use mrd_stream::Refusal;
+use mrd_stream::Written;
 use mrd_stream::check;
-
-// What the call answers.
-pub enum Written {
-    // The normal form stands at the output's front, with this length.
-    Length(usize),
-    // The stream itself is refused.
-    Stream(Refusal),
-    // Refused with a number alone.
-    Refused(u8),
-}
 
 // Writes the normal form of the stream s to the front of out and answers its length, which is that of s;
 // else answers the stream's refusal, or 14 where out is shorter than s. The rest of out keeps its content,
 // and a refusal changes no byte.
 pub fn normal_form(s: &[u8], out: &mut [u8]) -> Written
-    ensures { λ r. ⌜ told r ≡ normalAnswer (now (s .entry)) (length (now (out .entry))) ⌝ }
+    ensures { λ r. ⌜ toldWritten r ≡ normalAnswer (now (s .entry)) (length (now (out .entry))) ⌝ }
     ensures { λ _. ⌜ now (out .exit) ≡ normalOutput (now (s .entry)) (now (out .entry)) ⌝ }
 {
     let checked = check(s);
@@ -42,7 +33,7 @@ pub fn normal_form(s: &[u8], out: &mut [u8]) -> Written
 // The same for an accepted stream.
 fn write(s: &[u8], out: &mut [u8]) -> Written
     requires { ⌜ ((n : ℕ) × (answer (now s) ≡ accepted n)) ⌝ }
-    ensures { λ r. ⌜ told r ≡ normalAnswer (now (s .entry)) (length (now (out .entry))) ⌝ }
+    ensures { λ r. ⌜ toldWritten r ≡ normalAnswer (now (s .entry)) (length (now (out .entry))) ⌝ }
     ensures { λ _. ⌜ now (out .exit) ≡ normalOutput (now (s .entry)) (now (out .entry)) ⌝ }
 {
     if out.len() < s.len() {

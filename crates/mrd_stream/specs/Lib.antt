@@ -12,4 +12,5 @@ pub mod WalkLaws
 pub mod StepLaws
 pub mod Seek
 pub mod Told
+pub mod Output
 pub mod Examples

@@ -46,3 +46,13 @@ pub enum Placed {
     // Refused with a number alone.
     Refused(u8),
 }
+
+// The answer of a tool that writes to the front of an output.
+pub enum Written {
+    // What was asked for stands at the output's front, with this length.
+    Length(usize),
+    // The stream itself is refused.
+    Stream(Refusal),
+    // Refused with a number alone: 14.
+    Refused(u8),
+}

@@ -13,6 +13,7 @@ pub use answer::Placed;
 pub use answer::Record;
 pub use answer::Refusal;
 pub use answer::Step;
+pub use answer::Written;
 pub use cursor::Cursor;
 pub use cursor::Phase;
 pub use judge::MESSAGE_LIMIT;

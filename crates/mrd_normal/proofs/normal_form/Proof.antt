@@ -3,8 +3,10 @@
 use mathlib.Core.Path.{sym, ap, _∙_}
 use borrow.Author.Needs.{needs}
 use denote.Ref.{now}
+use lib.ListN.{length}
+use Rattle.mrd_stream.specs.Normal.{normal}
+use Rattle.mrd_stream.specs.Output.{stream-refused}
 use Rattle.mrd_stream.specs.Told.{toldChecked}
-use Rattle.mrd_normal.specs.WrittenLaws.{stream-refused}
 use Rattle.mrd_normal.proofs.normal_form.Statement.{statement}
 use Rattle.mrd_normal.proofs.normal_form.Tie as tie
 
@@ -32,7 +34,7 @@ returns-2 : tie.Need-returns-2
 returns-2 c =
     let check = c .before .before .before in
     let a = check .before .before .before .args in
-    stream-refused (now (a .s)) (now (a .out)) (sym (check .check .ensures) ∙ ap toldChecked (c .before .checked .given .1))
+    stream-refused (now (a .s)) (length (now (a .s))) (normal (now (a .s))) (now (a .out)) (sym (check .check .ensures) ∙ ap toldChecked (c .before .checked .given .1))
 
 pub normal-form-spec : {M : Type 1} → statement M
 normal-form-spec =

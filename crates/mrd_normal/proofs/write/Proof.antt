@@ -2,14 +2,18 @@
 -- Assumes nothing.
 use borrow.Author.Needs.{needs}
 use denote.Ref.{now}
-use Rattle.mrd_normal.specs.WrittenLaws.{output-short, copied, all-written}
+use lib.ListN.{length}
+use Rattle.mrd_stream.specs.Normal.{normal}
+use Rattle.mrd_stream.specs.Output.{output-short}
+use Rattle.mrd_normal.specs.WrittenLaws.{copied, all-written}
 use Rattle.mrd_normal.proofs.write.Statement.{statement}
 use Rattle.mrd_normal.proofs.write.Tie as tie
 
 returns : tie.Need-returns
 returns c =
     let start = c .before .before .before in
-    output-short (now (start .args .s)) (now (start .args .out)) (start .pre .1) (c .if1 .taken)
+    let s = now (start .args .s) in
+    output-short s (length s) (normal s) (now (start .args .out)) (start .pre .1) (c .if1 .taken)
 
 copy-requires : tie.Need-copy-requires
 copy-requires c κs = search needs

@@ -1,0 +1,87 @@
+-- `mrd_index::file::write` meets its contract: an output too short for the index is left as it is; else it holds the front, the entries and the end.
+-- Assumes nothing.
+use native.Mathlib.Omega.{arith}
+use borrow.Author.Needs.{needs}
+use denote.Ref.{now}
+use lib.ListN.{length}
+use Rattle.mrd_stream.specs.Index.{index}
+use Rattle.mrd_stream.specs.Output.{output-short}
+use Rattle.mrd_index.specs.Counted.{counted}
+use Rattle.mrd_index.specs.FileLaws.{index-long, front-room, all-written}
+use Rattle.mrd_index.proofs.file.write.Statement.{statement}
+use Rattle.mrd_index.proofs.file.write.Tie as tie
+
+mul-end : tie.Need-mul-end
+mul-end c =
+    let start = c .before .before in
+    omega (arith, counted (now (start .args .s)) (start .pre) .few)
+
+add-end : tie.Need-add-end
+add-end c =
+    let start = c .before .before in
+    omega (arith, counted (now (start .args .s)) (start .pre) .few)
+
+add-size : tie.Need-add-size
+add-size c =
+    let start = c .before .before in
+    omega (arith, counted (now (start .args .s)) (start .pre) .few)
+
+returns : tie.Need-returns
+returns c =
+    let start = c .before .before .before in
+    let s = now (start .args .s) in
+    output-short s (length (index s)) (index s) (now (start .args .out)) (start .pre) (rw (index-long s (start .pre)) (c .if1 .taken))
+
+put-front-requires : tie.Need-put-front-requires
+put-front-requires c κs = search needs
+
+put-entries-requires : tie.Need-put-entries-requires
+put-entries-requires c κs =
+    let test = c .before .before .before .before .before in
+    let start = test .before .before .before in
+    front-room (now (start .args .s)) (start .pre) (now (start .args .out)) _ (test .if1 .left) (c .before .before .before .put-front .ensures)
+
+sub-put-end : tie.Need-sub-put-end
+sub-put-end c = search needs
+
+part-put-end-start : tie.Need-part-put-end-start
+part-put-end-start c = search needs
+
+part-put-end-end : tie.Need-part-put-end-end
+part-put-end-end c = search needs
+
+cast-put-end : tie.Need-cast-put-end
+cast-put-end c =
+    let start = c .before .before .before .before .before .before .before .before .before .before .before .before in
+    omega (arith, counted (now (start .args .s)) (start .pre) .few)
+
+put-end-requires : tie.Need-put-end-requires
+put-end-requires c κs = search needs
+
+same-length : tie.Need-same-length
+same-length c = search needs
+
+returns-2 : tie.Need-returns-2
+returns-2 c =
+    let test = c .before .before .before .before .before .before .before .before .before .before .before .before in
+    let start = test .before .before .before in
+    all-written (now (start .args .s)) (start .pre) (now (start .args .out)) _ (test .if1 .left)
+    (c .before .before .before .before .before .before .before .before .before .before .put-front .ensures) _ _ (c .before .before .before .before .before .before .put-entries .ensures) (c .before .before .put-end .ensures)
+
+pub write-spec : {M : Type 1} → statement M
+write-spec =
+    tie.close
+    (tie.spec
+    mul-end
+    add-end
+    add-size
+    returns
+    put-front-requires
+    put-entries-requires
+    sub-put-end
+    part-put-end-start
+    part-put-end-end
+    cast-put-end
+    put-end-requires
+    same-length
+    returns-2)

@@ -19,6 +19,10 @@ pub record Ready (k : Kind) (l : Lent) : Type 0 where
   pub fixed : length (fixedOf k l) ≡ fixedSize k
   pub text : length (l .text) < 2 ^ 32
 
+-- what is lent is ready, and the part o of the output has room for what follows the id
+abbrev pub Roomy : Kind → Lent → List ℕ → Type 0
+Roomy k l o = Ready k l × (length (contentOf k l) ≤ length o)
+
 -- what a copy of all of a leaves in r
 abbrev copied : List ℕ → List ℕ → List ℕ
 copied a r = take (length a) a ++ drop (length a) r

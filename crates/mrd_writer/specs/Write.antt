@@ -1,6 +1,7 @@
 -- 'The writer puts one message into the output from a given position on': its answer, and the output as it leaves it.
 -- Assumes nothing.
 use Prim.Native.Nat.{ℕ, _+_}
+use mathlib.Core.Path.{_≡_}
 use mathlib.Core.List.{List, [], _∷_, _++_}
 use lib.Dec.{ltb}
 use lib.ListN.{length}
@@ -50,3 +51,11 @@ outputAs (Known k) l at o = outputBy (answerAs (Known k) l at o) (messageOf k l)
 -- the output as it is left
 unfoldable pub writeOutput : ℕ → Lent → ℕ → List ℕ → List ℕ
 writeOutput id l at o = outputAs (identified id) l at o
+
+-- a call that answers r and leaves out, where id, l and the position were lent with the output o
+abbrev pub Writes : Written → List ℕ → ℕ → Lent → ℕ → List ℕ → Type 0
+Writes r out id l at o = (told r ≡ writeAnswer id l at o) × (out ≡ writeOutput id l at o)
+
+-- the same for a kind that is known
+abbrev pub Stores : Written → List ℕ → Kind → Lent → ℕ → List ℕ → Type 0
+Stores r out k l at o = (told r ≡ answerAs (Known k) l at o) × (out ≡ outputAs (Known k) l at o)

@@ -7,7 +7,7 @@ ghost use lib.ListN.{length, replicate};
 ghost use Rattle.mrd_numbers.specs.Little.{toBytes};
 ghost use Rattle.mrd_numbers.specs.Stored.{front};
 ghost use Rattle.mrd_writer.specs.Lent.{lent, contentOf};
-ghost use Rattle.mrd_writer.specs.PutLaws.{Ready};
+ghost use Rattle.mrd_writer.specs.PutLaws.{Roomy};
 use mrd_format::Kind;
 use mrd_numbers::put_u32;
 use mrd_numbers::put_u64;
@@ -26,8 +26,13 @@ pub(crate) fn put_content(
     waveform: &[u8],
     out: &mut [u8],
 )
-    requires { ⌜ Ready kind (lent (now header) (now name) (now text) (now trajectory) (now samples) (now attributes) (now pixels) (now waveform)) × (length (contentOf kind (lent (now header) (now name) (now text) (now trajectory) (now samples) (now attributes) (now pixels) (now waveform))) ≤ length (now out)) ⌝ }
-    ensures { λ _. ⌜ now (out .exit) ≡ front (contentOf kind (lent (now (header .entry)) (now (name .entry)) (now (text .entry)) (now (trajectory .entry)) (now (samples .entry)) (now (attributes .entry)) (now (pixels .entry)) (now (waveform .entry)))) (now (out .entry)) ⌝ }
+    requires { ⌜ Roomy kind
+        (lent (now header) (now name) (now text) (now trajectory) (now samples) (now attributes) (now pixels) (now waveform))
+        (now out) ⌝ }
+    ensures { λ _. ⌜ now (out .exit) ≡ front (contentOf kind
+        (lent (now (header .entry)) (now (name .entry)) (now (text .entry)) (now (trajectory .entry)) (now (samples .entry))
+        (now (attributes .entry)) (now (pixels .entry)) (now (waveform .entry))))
+        (now (out .entry)) ⌝ }
 {
     match kind {
         Kind::ConfigurationName => put_name(name, out),
@@ -73,7 +78,9 @@ fn put_acquisition(header: &[u8], trajectory: &[u8], samples: &[u8], out: &mut [
 // An image's header with the attributes' length after it, its attributes and its pixels.
 fn put_image(header: &[u8], attributes: &[u8], pixels: &[u8], out: &mut [u8])
     requires { ⌜ (length (now header) ≡ 198) × (206 + (length (now attributes) + length (now pixels)) ≤ length (now out)) ⌝ }
-    ensures { λ _. ⌜ now (out .exit) ≡ front ((now (header .entry) ++ toBytes 8 (length (now (attributes .entry)))) ++ (now (attributes .entry) ++ now (pixels .entry))) (now (out .entry)) ⌝ }
+    ensures { λ _. ⌜ now (out .exit) ≡ front
+        ((now (header .entry) ++ toBytes 8 (length (now (attributes .entry)))) ++ (now (attributes .entry) ++ now (pixels .entry)))
+        (now (out .entry)) ⌝ }
 {
     let end = header.len();
     bytes::copy(header, &mut out[0..]);

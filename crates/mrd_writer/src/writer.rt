@@ -1,10 +1,9 @@
 // The writer: what is lent is judged, then the output's room, and then the message is put into it.
 ghost use mathlib.Core.Path.{_≡_};
-ghost use Rattle.mrd_format.specs.declared.kind.Identified.«the-variants».{Known};
 ghost use Rattle.mrd_writer.specs.Lent.{lent};
 ghost use lib.ListN.{length};
 ghost use Rattle.mrd_writer.specs.Refusals.{done, partLengths};
-ghost use Rattle.mrd_writer.specs.Write.{told, judgedLent, writeAnswer, writeOutput, answerAs, outputAs};
+ghost use Rattle.mrd_writer.specs.Write.{judgedLent, Writes, Stores};
 use crate::answer::Judged;
 use crate::answer::Written;
 use crate::judge::judge;
@@ -32,7 +31,10 @@ pub fn write(
     out: &mut [u8],
     position: usize,
 ) -> Written
-    ensures { λ r. ⌜ (told r ≡ writeAnswer id (lent (now (header .entry)) (now (name .entry)) (now (text .entry)) (now (trajectory .entry)) (now (samples .entry)) (now (attributes .entry)) (now (pixels .entry)) (now (waveform .entry))) position (now (out .entry))) × (now (out .exit) ≡ writeOutput id (lent (now (header .entry)) (now (name .entry)) (now (text .entry)) (now (trajectory .entry)) (now (samples .entry)) (now (attributes .entry)) (now (pixels .entry)) (now (waveform .entry))) position (now (out .entry))) ⌝ }
+    ensures { λ r. ⌜ Writes r (now (out .exit)) id
+        (lent (now (header .entry)) (now (name .entry)) (now (text .entry)) (now (trajectory .entry)) (now (samples .entry))
+        (now (attributes .entry)) (now (pixels .entry)) (now (waveform .entry)))
+        position (now (out .entry)) ⌝ }
 {
     let identified = Kind::of_id(id);
     let Identified::Known(kind) = identified else {
@@ -75,8 +77,13 @@ fn store(
     position: usize,
     size: usize,
 ) -> Written
-    requires { ⌜ judgedLent kind (lent (now header) (now name) (now text) (now trajectory) (now samples) (now attributes) (now pixels) (now waveform)) ≡ done size ⌝ }
-    ensures { λ r. ⌜ (told r ≡ answerAs (Known kind) (lent (now (header .entry)) (now (name .entry)) (now (text .entry)) (now (trajectory .entry)) (now (samples .entry)) (now (attributes .entry)) (now (pixels .entry)) (now (waveform .entry))) position (now (out .entry))) × (now (out .exit) ≡ outputAs (Known kind) (lent (now (header .entry)) (now (name .entry)) (now (text .entry)) (now (trajectory .entry)) (now (samples .entry)) (now (attributes .entry)) (now (pixels .entry)) (now (waveform .entry))) position (now (out .entry))) ⌝ }
+    requires { ⌜ judgedLent kind
+        (lent (now header) (now name) (now text) (now trajectory) (now samples) (now attributes) (now pixels) (now waveform))
+        ≡ done size ⌝ }
+    ensures { λ r. ⌜ Stores r (now (out .exit)) kind
+        (lent (now (header .entry)) (now (name .entry)) (now (text .entry)) (now (trajectory .entry)) (now (samples .entry))
+        (now (attributes .entry)) (now (pixels .entry)) (now (waveform .entry)))
+        position (now (out .entry)) ⌝ }
 {
     if out.len() < position {
         return Written::Refused(refusal::OUTPUT);
@@ -110,7 +117,9 @@ fn body_lengths(
     pixels: &[u8],
     waveform: &[u8],
 ) -> Lengths
-    ensures { λ r. ⌜ r ≡ partLengths 0 (length (now (text .entry))) (length (now (trajectory .entry))) (length (now (samples .entry))) (length (now (attributes .entry))) (length (now (pixels .entry))) (length (now (waveform .entry))) ⌝ }
+    ensures { λ r. ⌜ r ≡ partLengths 0
+        (length (now (text .entry))) (length (now (trajectory .entry))) (length (now (samples .entry)))
+        (length (now (attributes .entry))) (length (now (pixels .entry))) (length (now (waveform .entry))) ⌝ }
 {
     Lengths {
         name: 0,

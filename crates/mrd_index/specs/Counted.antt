@@ -44,3 +44,16 @@ walk-counted (b ∷ t) zero c n h e = judged (λ k z. walk-counted t (pred z) (a
 pub counted : (s : List ℕ) {n : ℕ} → answer s ≡ accepted n → Counted 0 (trace s) n
 unfolding answer trace
 counted s {n} e = walk-counted s 0 beginning n (omega arith) e
+
+-- a message that a step hands out is among the first 1,000,000
+pub step-few : (c : Cursor) (s : List ℕ) {l : Located} {d : Cursor} → step c s ≡ handed l d → c .number < messageLimit
+unfolding step stepAt
+step-few c s {l} {d} e = at (drop (c .start) s) e
+  where
+    judged : (b : ℕ) (t : List ℕ) (j : Judged) → judge c (b ∷ t) ≡ j → stepBy j c (b ∷ t) ≡ handed l d → c .number < messageLimit
+    judged b t (faulty f) q e = let z : _≡_ {A = ℕ} 0 1 = cc in absurd (omega arith)
+    judged b t (whole k z) q e = judge-whole c (b ∷ t) q .counted
+
+    at : (t : List ℕ) → stepAt c t ≡ handed l d → c .number < messageLimit
+    at [] e = let z : _≡_ {A = ℕ} 0 1 = cc in absurd (omega arith)
+    at (b ∷ t) e = judged b t (judge c (b ∷ t)) refl e

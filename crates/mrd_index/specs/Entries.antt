@@ -54,8 +54,14 @@ module _ {c d : Cursor} {s : List ℕ} {l : Located} (p : Passes c s l d) where
       let size = simp (length-append, length-drop) at (ap length (p .split)) in
       rw (here, kind) (omega (arith, size, least, p .ahead, p .within))
 
-  pub passes-entry : (r : Trace) → entriesOf (message c (p .kind) (p .bytes) r) ≡ entryAt s l ∷ entriesOf r
-  passes-entry r =
+  pub passes-number : l .number ≡ c .number
+  passes-number = ap (λ (l : Located). l .number) (p .place)
+
+  pub passes-one : record { start = c .start; id = idOf (p .kind); counter = counterOf (p .kind) (fixedPart (p .kind) (p .bytes)) } ≡ entryAt s l
+  passes-one =
       let fixed : fixedPart (p .kind) (p .bytes) ≡ fixedPart (p .kind) (drop (c .start) s) =
       rw (p .split, ← p .known) (sym (well-fixed (p .bytes) (drop (d .start) s) (p .well))) in
       rw (here, kind, fixed)
+
+  pub passes-entry : (r : Trace) → entriesOf (message c (p .kind) (p .bytes) r) ≡ entryAt s l ∷ entriesOf r
+  passes-entry r = ap (λ (e : Entry). e ∷ entriesOf r) passes-one

@@ -11,7 +11,7 @@ use Rattle.mrd_stream.specs.Walk.{Trace, message, beginning, Verdict}
 use Rattle.mrd_stream.specs.Index.{Entry, entriesOf, entries, entryFields}
 use Rattle.mrd_stream.specs.Places.{Located, over, step}
 use Rattle.mrd_stream.specs.StepLaws.{from, Passes, On, on-start, on-next, on-end}
-use Rattle.mrd_index.specs.Entries.{entryAt, passes-entry}
+use Rattle.mrd_index.specs.Entries.{entryAt, passes-number, passes-entry}
 use Rattle.mrd_index.specs.File.{entryField}
 
 -- the walk over s stands at c; out, which was o, holds the entries of what was passed from byte 16 on
@@ -48,14 +48,11 @@ module _ {s o out : List ℕ} {c d : Cursor} {l : Located} (h : Filling s o c ou
       on-next (λ r. a ++ entryFields (entriesOf r)) s (λ r. (a ++ n) ++ entryFields (entriesOf r)) (h .whole) p
       (λ r. ap (λ (es : List Entry). a ++ entryFields es) (passes-entry p r) ∙ sym (append-assoc a n (entryFields (entriesOf r))))
 
-  numbered : l .number ≡ c .number
-  numbered = ap (λ (l : Located). l .number) (p .place)
-
   -- its entry has room in the output
   pub room : 16 + 17 * l .number + 17 ≤ length out
   room =
       let all = simp length-append at (ap length (more .kept)) in
-      omega (arith, all, numbered, h .long, h .room, same-size h)
+      omega (arith, all, passes-number p, h .long, h .room, same-size h)
 
   -- and is written there, into the part of the output from its place on
   pub next : {e : Entry} {x : List ℕ} → e ≡ entryAt s l → x ≡ entryField e ++ drop 17 (lentFrom (16 + 17 * l .number) out) →
@@ -65,8 +62,8 @@ module _ {s o out : List ℕ} {c d : Cursor} {l : Located} (h : Filling s o c ou
       let n = entryField (entryAt s l) in
       let here : x ≡ n ++ drop (length n) (lentFrom (16 + 17 * l .number) out) =
       q ∙ ap (λ (e : Entry). entryField e ++ drop 17 (lentFrom (16 + 17 * l .number) out)) same in
-      let fits : 16 + length a ≤ length o = omega (arith, room, numbered, h .long, same-size h) in
-      let place : 16 + 17 * l .number ≡ 16 + length a = omega (arith, numbered, h .long) in
+      let fits : 16 + length a ≤ length o = omega (arith, room, passes-number p, h .long, same-size h) in
+      let place : 16 + 17 * l .number ≡ 16 + length a = omega (arith, passes-number p, h .long) in
       record {
         room = h .room;
         ready = a ++ n;

@@ -3,3 +3,9 @@ pub mod Counted
 pub mod File
 pub mod FileLaws
 pub mod Filling
+pub mod Same
+pub mod Compare
+pub mod FieldLaws
+pub mod Comparing
+pub mod CompareLaws
+pub mod Exactly

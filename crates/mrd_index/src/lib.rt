@@ -1,8 +1,12 @@
-// The index of an accepted stream, written as a file.
+// The index of an accepted stream: written as a file, and compared with a lent one, a file or columns.
 //
 // No public function here has a `requires`: any bytes and any output get an answer. The stream is checked
-// first, and a refusal writes no byte. Assumes nothing.
+// first, and a refusal writes no byte. A comparison is one walk and keeps nothing. Assumes nothing.
+mod compare;
 mod entry;
 mod file;
 
+pub use compare::Matched;
+pub use compare::columns_match;
+pub use compare::index_matches;
 pub use file::write_index;

@@ -18,7 +18,7 @@ add-if1 c = search needs
 returns : tie.Need-returns
 returns c =
     let a = c .before .before .args in
-    sym (rest-other (now (a .file)) (endField (a .count)) (a .at) (omega arith) (c .if1 .taken))
+    sym (rest-other (now (a .file)) (endField (a .count)) (a .at) (omega arith) (λ e. omega (arith, c .if1 .taken, e)))
 
 tag-same-requires : tie.Need-tag-same-requires
 tag-same-requires c κs = search needs
@@ -27,7 +27,7 @@ returns-2 : tie.Need-returns-2
 returns-2 c =
     let a = c .before .before .before .before .args in
     two-first (now (a .file)) (tagField 4 4) (toBytes 4 (a .count)) (a .at) (a .at + 3) refl (sym (c .before .tag-same .ensures) ∙ not-true _ (c .if2 .taken)) ∙
-    sym (rest-long (now (a .file)) (endField (a .count)) (a .at) (omega arith) (c .before .before .if1 .left))
+    sym (rest-long (now (a .file)) (endField (a .count)) (a .at) (omega arith) (omega (arith, c .before .before .if1 .left)))
 
 add-u32-same : tie.Need-add-u32-same
 add-u32-same c = search needs
@@ -40,7 +40,7 @@ returns-3 c =
     let a = c .before .before .before .before .before .args in
     c .u32-same .ensures ∙
     two-last (now (a .file)) (tagField 4 4) (toBytes 4 (a .count)) (a .at) (a .at + 3) refl (sym (c .before .before .tag-same .ensures) ∙ not-false _ (c .before .if2 .left)) ∙
-    sym (rest-long (now (a .file)) (endField (a .count)) (a .at) (omega arith) (c .before .before .before .if1 .left))
+    sym (rest-long (now (a .file)) (endField (a .count)) (a .at) (omega arith) (omega (arith, c .before .before .before .if1 .left)))
 
 pub file-end-same-spec : {M : Type 1} → statement M
 file-end-same-spec =

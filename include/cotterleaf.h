@@ -1,0 +1,277 @@
+/* Cotterleaf: MRD message streams, read, checked, indexed and written.
+ *
+ * Link with libcotterleaf.a (`rt staticlib cotterleaf`). Every function takes any bytes and any numbers and
+ * ends with an answer; none asks its caller to check first, allocates, or keeps what it is lent. Each answer
+ * is a struct whose `refusal` is 0 or the number of refusal. `record` and `byte` say where a stream is
+ * refused (refusals 1 to 13 and 19) and are 0 otherwise; what an answer lacks is 0. Only the outputs named
+ * `out`, `starts`, `ids` and `counters` of the writing functions are written to, and a refusal writes none.
+ *
+ * A slice is a pointer and the number of its elements. An empty slice may have any pointer. */
+#ifndef COTTERLEAF_H
+#define COTTERLEAF_H
+
+#include <stdbool.h>
+#include <stddef.h>
+#include <stdint.h>
+#include <string.h>
+
+#ifdef __cplusplus
+extern "C" {
+#endif
+
+/* The numbers of refusal. */
+enum {
+    MRD_OK = 0,
+    MRD_ID_CUT = 1,          /* one byte remains where an id is due */
+    MRD_UNKNOWN_ID = 2,      /* the id names no kind of message */
+    MRD_FIXED_PART_CUT = 3,  /* the fixed part does not fit in what remains; writer: header of another length */
+    MRD_VERSION = 4,         /* version is not 1 */
+    MRD_NAME = 5,            /* a name without a zero; writer: too long, or holding one */
+    MRD_CHANNELS = 6,        /* active above available channels, or a mask with another count of ones */
+    MRD_DISCARD = 7,         /* discard pre and post above the number of samples */
+    MRD_DATA_TYPE = 8,       /* image data type not 1 to 8 */
+    MRD_ATTRIBUTE_LENGTH = 9, /* the two attribute lengths differ */
+    MRD_TOO_LARGE = 10,      /* a message of over 268,435,456 bytes */
+    MRD_MESSAGE_CUT = 11,    /* the message does not fit in what remains */
+    MRD_ORDER = 12,          /* the order of messages is broken */
+    MRD_NO_CLOSE = 13,       /* the stream ends without a close */
+    MRD_OUTPUT = 14,         /* output too short, or position past its end */
+    MRD_INDEX = 15,          /* the lent index is not the one that the stream yields */
+    MRD_NO_RECORD = 16,      /* no such record */
+    MRD_NO_PART = 17,        /* the record has no such part or channel */
+    MRD_BODY = 18,           /* writer: a body's length is not what its header says */
+    MRD_TOO_MANY = 19,       /* a message begins after 1,000,000 messages */
+    MRD_NO_FIELD = 20        /* no header element starts at that offset */
+};
+
+/* The kinds of message, by id. */
+enum {
+    MRD_ID_CONFIGURATION_NAME = 1,
+    MRD_ID_CONFIGURATION_TEXT = 2,
+    MRD_ID_HEADER_TEXT = 3,
+    MRD_ID_CLOSE = 4,
+    MRD_ID_TEXT = 5,
+    MRD_ID_ACQUISITION = 1008,
+    MRD_ID_IMAGE = 1022,
+    MRD_ID_WAVEFORM = 1026
+};
+
+/* ---- Is it a stream, and where are its records? ---- */
+
+/* A stream's answer: with refusal 0 it is accepted and has `count` records. */
+typedef struct {
+    uint32_t refusal;
+    size_t record, byte;
+    size_t count;
+} mrd_checked;
+
+mrd_checked mrd_check(const uint8_t *stream, size_t stream_length);
+
+/* A record: its number from 0, first byte, size with the id, id, and the numbers of its kind. */
+typedef struct {
+    uint32_t refusal;
+    size_t record, byte;
+    size_t number, start, size;
+    size_t length;              /* of a name or text */
+    uint64_t attribute_length;  /* of an image */
+    uint16_t id;
+    uint16_t samples;           /* of an acquisition or waveform */
+    uint16_t channels;          /* active, of an acquisition; of an image or waveform */
+    uint16_t dimensions;        /* of an acquisition's trajectory */
+    uint16_t matrix_x, matrix_y, matrix_z, data_type; /* of an image */
+} mrd_placed;
+
+mrd_placed mrd_place(const uint8_t *stream, size_t stream_length, size_t n);
+
+/* A walk: from mrd_beginning() on, each mrd_next hands out one record and the cursor of what follows,
+ * at a cost that does not grow with the stream; at the end it hands out the stream's answer. Any cursor
+ * gets an answer; a phase over 3 is taken as 3. */
+typedef struct {
+    size_t number, start;
+    uint32_t phase; /* 0 texts at most, 1 after a configuration, 2 after the header, 3 after the close */
+} mrd_cursor;
+
+typedef struct {
+    bool ended;         /* false: `here` and `next`; true: `answer` */
+    mrd_placed here;
+    mrd_cursor next;
+    mrd_checked answer;
+} mrd_step;
+
+mrd_cursor mrd_beginning(void);
+mrd_step mrd_next(const uint8_t *stream, size_t stream_length, mrd_cursor cursor);
+
+/* The answer of the rest of a stream, from a cursor on. */
+mrd_checked mrd_check_from(const uint8_t *stream, size_t stream_length, mrd_cursor cursor);
+
+/* ---- What does a record hold? ---- */
+
+/* A part of a record. Any other number is a part that no record has. */
+enum {
+    MRD_PART_NAME = 1,
+    MRD_PART_TEXT = 2,
+    MRD_PART_ATTRIBUTES = 3,
+    MRD_PART_TRAJECTORY = 4,
+    MRD_PART_CHANNEL = 5, /* one channel's samples, by its number from 0 */
+    MRD_PART_PIXELS = 6,
+    MRD_PART_WAVEFORM = 7
+};
+
+/* Where a part lies in the stream: the view is stream + start, `length` bytes. `channel` is looked at for
+ * MRD_PART_CHANNEL alone. */
+typedef struct {
+    uint32_t refusal;
+    size_t record, byte;
+    size_t start, length;
+} mrd_view_place;
+
+mrd_view_place mrd_view(const uint8_t *stream, size_t stream_length, size_t n, uint32_t part, size_t channel);
+
+/* The header element that starts at an offset: its type, and its value in the member for that type. */
+enum { MRD_WHOLE = 1, MRD_SIGNED = 2, MRD_FLOAT = 3 };
+
+typedef struct {
+    uint32_t refusal;
+    size_t record, byte;
+    uint32_t type;
+    uint64_t whole;
+    int32_t integer;
+    uint32_t float_bits; /* kept by its bits, a NaN's too: mrd_float_of gives the float */
+} mrd_field_answer;
+
+mrd_field_answer mrd_field(const uint8_t *stream, size_t stream_length, size_t n, size_t offset);
+
+/* The number of the first acquisition from record n on with these seventeen counters; else 16. */
+typedef struct {
+    uint32_t refusal;
+    size_t record, byte;
+    size_t number;
+} mrd_found;
+
+mrd_found mrd_find(const uint8_t *stream, size_t stream_length, size_t n, const uint16_t counters[17]);
+
+/* ---- The same questions with an index lent: 15 where it is not the stream's own ---- */
+
+mrd_placed mrd_place_with_file(const uint8_t *stream, size_t stream_length, size_t n,
+                               const uint8_t *file, size_t file_length);
+mrd_view_place mrd_view_with_file(const uint8_t *stream, size_t stream_length, size_t n, uint32_t part,
+                                  size_t channel, const uint8_t *file, size_t file_length);
+mrd_field_answer mrd_field_with_file(const uint8_t *stream, size_t stream_length, size_t n, size_t offset,
+                                     const uint8_t *file, size_t file_length);
+mrd_found mrd_find_with_file(const uint8_t *stream, size_t stream_length, size_t n,
+                             const uint16_t counters_asked[17], const uint8_t *file, size_t file_length);
+
+mrd_placed mrd_place_with_columns(const uint8_t *stream, size_t stream_length, size_t n,
+                                  const uint64_t *starts, size_t starts_length, const uint16_t *ids,
+                                  size_t ids_length, const uint32_t *counters, size_t counters_length);
+mrd_view_place mrd_view_with_columns(const uint8_t *stream, size_t stream_length, size_t n, uint32_t part,
+                                     size_t channel, const uint64_t *starts, size_t starts_length,
+                                     const uint16_t *ids, size_t ids_length, const uint32_t *counters,
+                                     size_t counters_length);
+mrd_field_answer mrd_field_with_columns(const uint8_t *stream, size_t stream_length, size_t n, size_t offset,
+                                        const uint64_t *starts, size_t starts_length, const uint16_t *ids,
+                                        size_t ids_length, const uint32_t *counters, size_t counters_length);
+mrd_found mrd_find_with_columns(const uint8_t *stream, size_t stream_length, size_t n,
+                                const uint16_t counters_asked[17], const uint64_t *starts,
+                                size_t starts_length, const uint16_t *ids, size_t ids_length,
+                                const uint32_t *counters, size_t counters_length);
+
+/* ---- Flags and scan counters ---- */
+
+/* Flag n, 1 to 64, is bit n - 1. Any other n is false, and gives the flags back. */
+bool mrd_flag_test(uint64_t flags, uint32_t n);
+uint64_t mrd_flag_set(uint64_t flags, uint32_t n);
+uint64_t mrd_flag_clear(uint64_t flags, uint32_t n);
+
+/* Later minus earlier around the 32-bit wrap: 1 next, above 1 a gap of one less, 0 a repeat, below 0 back. */
+int32_t mrd_counter_step(uint32_t earlier, uint32_t later);
+
+/* ---- Writing ---- */
+
+/* What stands at the front of the output: so many bytes, or, of columns, so many places. */
+typedef struct {
+    uint32_t refusal;
+    size_t record, byte;
+    size_t length;
+} mrd_written;
+
+/* The normal form: two streams with the same records have the same. */
+mrd_written mrd_normal_form(const uint8_t *stream, size_t stream_length, uint8_t *out, size_t out_length);
+
+/* The index of a stream, as a file: 23 bytes, and 17 for each record. */
+mrd_written mrd_write_index(const uint8_t *stream, size_t stream_length, uint8_t *out, size_t out_length);
+
+/* The same index as three columns, one place for each record. */
+mrd_written mrd_fill_columns(const uint8_t *stream, size_t stream_length, uint64_t *starts,
+                             size_t starts_length, uint16_t *ids, size_t ids_length, uint32_t *counters,
+                             size_t counters_length);
+
+/* Whether a lent index is the stream's own: refusal 0, else 15, or the stream's refusal first. */
+typedef struct {
+    uint32_t refusal;
+    size_t record, byte;
+} mrd_matched;
+
+mrd_matched mrd_index_matches(const uint8_t *stream, size_t stream_length, const uint8_t *file,
+                              size_t file_length);
+mrd_matched mrd_columns_match(const uint8_t *stream, size_t stream_length, const uint64_t *starts,
+                              size_t starts_length, const uint16_t *ids, size_t ids_length,
+                              const uint32_t *counters, size_t counters_length);
+
+/* Writes one message into `out` from `position` on, and answers the position after it. The header is that
+ * of the kind, 340, 198 or 32 bytes, or empty; parts that the kind lacks are lent empty. Order and count
+ * are not judged: mrd_check judges the whole stream. */
+typedef struct {
+    uint32_t refusal;
+    size_t position;
+} mrd_put;
+
+mrd_put mrd_write(uint16_t id, const uint8_t *header, size_t header_length, const uint8_t *name,
+                  size_t name_length, const uint8_t *text, size_t text_length, const uint8_t *trajectory,
+                  size_t trajectory_length, const uint8_t *samples, size_t samples_length,
+                  const uint8_t *attributes, size_t attributes_length, const uint8_t *pixels,
+                  size_t pixels_length, const uint8_t *waveform, size_t waveform_length, uint8_t *out,
+                  size_t out_length, size_t position);
+
+/* The same with the parts in one struct: set what the kind has and leave the rest {0}. */
+typedef struct {
+    const uint8_t *header;
+    size_t header_length;
+    const uint8_t *name;
+    size_t name_length;
+    const uint8_t *text;
+    size_t text_length;
+    const uint8_t *trajectory;
+    size_t trajectory_length;
+    const uint8_t *samples;
+    size_t samples_length;
+    const uint8_t *attributes;
+    size_t attributes_length;
+    const uint8_t *pixels;
+    size_t pixels_length;
+    const uint8_t *waveform;
+    size_t waveform_length;
+} mrd_parts;
+
+static inline mrd_put mrd_write_parts(uint16_t id, const mrd_parts *p, uint8_t *out, size_t out_length,
+                                      size_t position)
+{
+    return mrd_write(id, p->header, p->header_length, p->name, p->name_length, p->text, p->text_length,
+                     p->trajectory, p->trajectory_length, p->samples, p->samples_length, p->attributes,
+                     p->attributes_length, p->pixels, p->pixels_length, p->waveform, p->waveform_length,
+                     out, out_length, position);
+}
+
+/* The float with these bits. */
+static inline float mrd_float_of(uint32_t bits)
+{
+    float f;
+    memcpy(&f, &bits, sizeof f);
+    return f;
+}
+
+#ifdef __cplusplus
+}
+#endif
+
+#endif

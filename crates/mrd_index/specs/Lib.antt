@@ -3,6 +3,7 @@ pub mod Counted
 pub mod File
 pub mod FileLaws
 pub mod Filling
+pub mod Columns
 pub mod Same
 pub mod Compare
 pub mod FieldLaws

@@ -71,6 +71,24 @@ equal-same (y ∷ t) (x ∷ m) e = by (equal-same t m) (eqb y x) refl e
     by rest true q e = let head : y ≡ x = eqb-true y x q in let tail : t ≡ m = rest e in cc
     by rest false q e = absurd (true≢false (sym e))
 
+-- a list begins with m exactly when its first elements, as many as m has, are m
+pub begins-take : (m t : List ℕ) → begins m t ≡ true → take (length m) t ≡ m
+begins-take [] t e = refl
+begins-take (x ∷ m) [] e = absurd (true≢false (sym e))
+begins-take (x ∷ m) (y ∷ t) e = by (begins-take m t) (eqb y x) refl e
+  where
+    by : (begins m t ≡ true → take (length m) t ≡ m) → (b : Bool) → eqb y x ≡ b → (b && begins m t) ≡ true → y ∷ take (length m) t ≡ x ∷ m
+    by rest true q e = let head : y ≡ x = eqb-true y x q in let tail : take (length m) t ≡ m = rest e in cc
+    by rest false q e = absurd (true≢false (sym e))
+
+pub take-begins : (m t : List ℕ) → take (length m) t ≡ m → begins m t ≡ true
+take-begins [] t e = refl
+take-begins (x ∷ m) [] e = let z : _≡_ {A = ℕ} 0 1 = cc in absurd (omega arith)
+take-begins (x ∷ m) (y ∷ t) e =
+    let head : y ≡ x = cc in
+    let tail : take (length m) t ≡ m = cc in
+    rw (eq-eqb y x head) (take-begins m t tail)
+
 -- the elements of a slice of bytes are bytes
 pub all-bytes : (f : List ℕ) → ((i : ℕ) → Fits w8 (getD f i 0)) → Bytes f
 all-bytes [] h = tt

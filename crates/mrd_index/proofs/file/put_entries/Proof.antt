@@ -6,18 +6,20 @@ use native.Mathlib.Omega.{arith}
 use mathlib.Core.Path.{sym, ap, _∙_}
 use borrow.Author.Needs.{needs}
 use denote.Ref.{now}
-use lib.ListN.{length-drop}
-use lib.ListN.{length}
-use Rattle.mrd_numbers.specs.Stored.{lent-is}
+use mathlib.Core.List.{_++_}
+use lib.ListN.{length, drop, length-drop}
+use Rattle.mrd_numbers.specs.Stored.{stored-lent, lent-is, lentFrom}
+use Rattle.mrd_stream.specs.Index.{Entry}
 use Rattle.mrd_stream.specs.StepLaws.{Passes, step-handed, on-less}
 use Rattle.mrd_stream.specs.Told.{toldRecord, toldStep}
-use Rattle.mrd_index.specs.Entries.{passes-within}
-use Rattle.mrd_index.specs.Filling.{Filling, start, same-size, room, next, finish}
+use Rattle.mrd_index.specs.Entries.{entryAt, passes-within}
+use Rattle.mrd_index.specs.File.{entryField}
+use Rattle.mrd_index.specs.Filling.{inFile, Filling, start, same-size, room, next, finish}
 use Rattle.mrd_index.proofs.file.put_entries.Statement.{statement}
 use Rattle.mrd_index.proofs.file.put_entries.Tie as tie
 
 abbrev Inv-loop : tie.InvT-loop
-Inv-loop s out₀ c₀ out c = Filling s out₀ c out
+Inv-loop s out₀ c₀ out c = Filling inFile s out₀ c out
 
 abbrev μ-loop : tie.MeasureT-loop
 μ-loop s out₀ c₀ out c = length s - c .start
@@ -26,7 +28,7 @@ beginning-requires : tie.Need-beginning-requires Inv-loop μ-loop
 beginning-requires c κs = search needs
 
 loop-holds : tie.Need-loop-holds Inv-loop μ-loop
-loop-holds c = rw (c .beginning .ensures) (start (c .before .before .before .pre))
+loop-holds c = rw (c .beginning .ensures) (start {f = inFile} (c .before .before .before .pre))
 
 next-requires : tie.Need-next-requires Inv-loop μ-loop
 next-requires c κs = search needs
@@ -73,7 +75,12 @@ loop-less c =
 loop-again : tie.Need-loop-again Inv-loop μ-loop
 loop-again c =
     let step = c .before .before .before .before .before .before .before .before in
-    next (step .before .before .before .loop .inv) (passed step) (c .before .before .before .before .before .entry-of .ensures) (c .before .before .put-entry .ensures)
+    let s = now (step .before .before .before .before .before .before .before .args .s) in
+    let at = 16 + 17 * step .step .given .0 .0 .place .number in
+    let out = step .before .before .before .loop .out in
+    next (step .before .before .before .loop .inv) (passed step)
+    (stored-lent at out (entryField (entryAt s (toldRecord (step .step .given .0 .0)))) _ (c .before .before .put-entry .ensures ∙
+    ap (λ (e : Entry). entryField e ++ drop 17 (lentFrom at out)) (c .before .before .before .before .before .entry-of .ensures)))
 
 enum-told : tie.Need-enum-told Inv-loop μ-loop
 enum-told c = search needs

@@ -1,0 +1,85 @@
+// The index in memory: three lent columns, start, id and counter, with one place for each record.
+ghost use mathlib.Core.Path.{_≡_};
+ghost use lib.ListN.{length};
+ghost use Rattle.mrd_numbers.specs.Stored.{front};
+ghost use Rattle.mrd_stream.specs.Walk.{accepted, answer};
+ghost use Rattle.mrd_stream.specs.Index.{startColumn, idColumn, counterColumn};
+ghost use Rattle.mrd_stream.specs.Output.{toldWritten, outputBy};
+ghost use Rattle.mrd_index.specs.Columns.{columnsAnswer, Rooms};
+use crate::entry::entry_of;
+use mrd_format::refusal;
+use mrd_stream::Checked;
+use mrd_stream::Cursor;
+use mrd_stream::Step;
+use mrd_stream::Written;
+use mrd_stream::check;
+
+// Fills the columns with the index of the stream s, place n for record n, and answers the number of records;
+// else answers the stream's refusal, or 14 where any column is shorter than that. Later places keep their
+// content, and a refusal changes none.
+pub fn fill_columns(s: &[u8], starts: &mut [u64], ids: &mut [u16], counters: &mut [u32]) -> Written
+    ensures { λ r. ⌜ toldWritten r ≡ columnsAnswer (now (s .entry)) (length (now (starts .entry))) (length (now (ids .entry))) (length (now (counters .entry))) ⌝ }
+    ensures { λ r. ⌜ now (starts .exit) ≡ outputBy (toldWritten r) (startColumn (now (s .entry))) (now (starts .entry)) ⌝ }
+    ensures { λ r. ⌜ now (ids .exit) ≡ outputBy (toldWritten r) (idColumn (now (s .entry))) (now (ids .entry)) ⌝ }
+    ensures { λ r. ⌜ now (counters .exit) ≡ outputBy (toldWritten r) (counterColumn (now (s .entry))) (now (counters .entry)) ⌝ }
+{
+    let checked = check(s);
+    match checked {
+        Checked::Accepted(count) => fill(s, count, starts, ids, counters),
+        Checked::Refused(refusal) => Written::Stream(refusal),
+    }
+}
+
+// The same for an accepted stream of so many records.
+fn fill(
+    s: &[u8],
+    count: usize,
+    starts: &mut [u64],
+    ids: &mut [u16],
+    counters: &mut [u32],
+) -> Written
+    requires { ⌜ answer (now s) ≡ accepted count ⌝ }
+    ensures { λ r. ⌜ toldWritten r ≡ columnsAnswer (now (s .entry)) (length (now (starts .entry))) (length (now (ids .entry))) (length (now (counters .entry))) ⌝ }
+    ensures { λ r. ⌜ now (starts .exit) ≡ outputBy (toldWritten r) (startColumn (now (s .entry))) (now (starts .entry)) ⌝ }
+    ensures { λ r. ⌜ now (ids .exit) ≡ outputBy (toldWritten r) (idColumn (now (s .entry))) (now (ids .entry)) ⌝ }
+    ensures { λ r. ⌜ now (counters .exit) ≡ outputBy (toldWritten r) (counterColumn (now (s .entry))) (now (counters .entry)) ⌝ }
+{
+    if starts.len() < count {
+        return Written::Refused(refusal::OUTPUT);
+    }
+    if ids.len() < count {
+        return Written::Refused(refusal::OUTPUT);
+    }
+    if counters.len() < count {
+        return Written::Refused(refusal::OUTPUT);
+    }
+    put_places(s, starts, ids, counters);
+    Written::Length(count)
+}
+
+// Writes the entry of each record of s to its place in the columns: one step for each record.
+fn put_places(s: &[u8], starts: &mut [u64], ids: &mut [u16], counters: &mut [u32])
+    requires { ⌜ Rooms (now s) (length (now starts)) (length (now ids)) (length (now counters)) ⌝ }
+    ensures { λ _. ⌜ now (starts .exit) ≡ front (startColumn (now (s .entry))) (now (starts .entry)) ⌝ }
+    ensures { λ _. ⌜ now (ids .exit) ≡ front (idColumn (now (s .entry))) (now (ids .entry)) ⌝ }
+    ensures { λ _. ⌜ now (counters .exit) ≡ front (counterColumn (now (s .entry))) (now (counters .entry)) ⌝ }
+{
+    let mut c = Cursor::beginning();
+    loop {
+        let step = c.next(s);
+        match step {
+            Step::Message(record, next) => {
+                let place = record.place;
+                let entry = entry_of(s, record);
+                let n = place.number;
+                starts[n] = entry.start;
+                ids[n] = entry.id;
+                counters[n] = entry.counter;
+                c = next;
+            }
+            Step::End(_) => {
+                return;
+            }
+        }
+    }
+}

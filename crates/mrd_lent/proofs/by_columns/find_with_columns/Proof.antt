@@ -1,0 +1,17 @@
+-- `mrd_lent::find_with_columns` meets its contract: the index is compared, and the question goes by that.
+-- Assumes nothing.
+use borrow.Author.Needs.{needs}
+use Rattle.mrd_lent.proofs.by_columns.find_with_columns.Statement.{statement}
+use Rattle.mrd_lent.proofs.by_columns.find_with_columns.Tie as tie
+
+columns-match-requires : tie.Need-columns-match-requires
+columns-match-requires c κs = search needs
+
+find-if-requires : tie.Need-find-if-requires
+find-if-requires c κs = search needs
+
+returns : tie.Need-returns
+returns c = rw (← c .before .columns-match .ensures) (c .find-if .ensures)
+
+pub find-with-columns-spec : {M : Type 1} → statement M
+find-with-columns-spec = tie.close (tie.spec columns-match-requires find-if-requires returns)

@@ -1,0 +1,17 @@
+-- `mrd_lent::find_with_file` meets its contract: the index is compared, and the question goes by that.
+-- Assumes nothing.
+use borrow.Author.Needs.{needs}
+use Rattle.mrd_lent.proofs.by_file.find_with_file.Statement.{statement}
+use Rattle.mrd_lent.proofs.by_file.find_with_file.Tie as tie
+
+index-matches-requires : tie.Need-index-matches-requires
+index-matches-requires c κs = search needs
+
+find-if-requires : tie.Need-find-if-requires
+find-if-requires c κs = search needs
+
+returns : tie.Need-returns
+returns c = rw (← c .before .index-matches .ensures) (c .find-if .ensures)
+
+pub find-with-file-spec : {M : Type 1} → statement M
+find-with-file-spec = tie.close (tie.spec index-matches-requires find-if-requires returns)

@@ -1,0 +1,18 @@
+-- `mrd_lent::view_place_with_file` meets its contract: the index is compared, and the question goes by that.
+-- Assumes nothing.
+use borrow.Author.Needs.{needs}
+use Rattle.mrd_lent.proofs.by_file.view_place_with_file.Statement.{statement}
+use Rattle.mrd_lent.proofs.by_file.view_place_with_file.Tie as tie
+
+index-matches-requires : tie.Need-index-matches-requires
+index-matches-requires c κs = search needs
+
+view-place-if-requires : tie.Need-view-place-if-requires
+view-place-if-requires c κs = search needs
+
+returns : tie.Need-returns
+returns c = rw (← c .before .index-matches .ensures) (c .view-place-if .ensures)
+
+pub view-place-with-file-spec : {M : Type 1} → statement M
+view-place-with-file-spec =
+    tie.close (tie.spec index-matches-requires view-place-if-requires returns)

@@ -1,27 +1,13 @@
 -- The answers of the rules as the C structs: `refusal`, `record` and `byte` say what is refused and where, and what an answer lacks is 0.
 -- Assumes nothing.
 use Prim.Native.Nat.{ℕ}
-use mathlib.Core.Bool.{true, false}
-use mathlib.Core.List.{List}
 use lib.IntN.{ℤ, pos}
-use lib.ListN.{getD}
-use Rattle.mrd_format.specs.declared.kind.Kind.{Kind}
-use Rattle.mrd_format.specs.declared.kind.Kind.the-variants.{ConfigurationName, ConfigurationText, HeaderText, Close, Text, Acquisition, Image, Waveform}
-use Rattle.mrd_format.specs.Kinds.{idOf}
-use Rattle.mrd_format.specs.declared.shape.Shape.{Shape}
 use Rattle.mrd_field.specs.Field as header
 use Rattle.mrd_find.specs.Find as find
 use Rattle.mrd_index.specs.Compare as compare
 use Rattle.mrd_record.specs.Fields as fields
 use Rattle.mrd_record.specs.Views as views
-use Rattle.mrd_stream.specs.declared.answer.Place.{Place}
-use Rattle.mrd_stream.specs.declared.cursor.Phase.{Phase}
-use Rattle.mrd_stream.specs.declared.cursor.Phase.the-variants.{Start, Configured, Headed, Closed}
-use Rattle.mrd_stream.specs.declared.cursor.Cursor as walk
 use Rattle.mrd_stream.specs.Output as output
-use Rattle.mrd_stream.specs.Places as places
-use Rattle.mrd_stream.specs.Places.{Located}
-use Rattle.mrd_stream.specs.Told.{toldRecord}
 use Rattle.mrd_stream.specs.Walk.{Verdict, accepted, refused}
 use Rattle.mrd_writer.specs.Refusals as writer
 use Rattle.cotterleaf.specs.declared.answers.Checked.{Checked}
@@ -31,9 +17,6 @@ use Rattle.cotterleaf.specs.declared.answers.Found.{Found}
 use Rattle.cotterleaf.specs.declared.answers.Written.{Written}
 use Rattle.cotterleaf.specs.declared.answers.Matched.{Matched}
 use Rattle.cotterleaf.specs.declared.answers.Put.{Put}
-use Rattle.cotterleaf.specs.declared.placed.Placed.{Placed}
-use Rattle.cotterleaf.specs.declared.walk.Cursor.{Cursor}
-use Rattle.cotterleaf.specs.declared.walk.Step.{Step}
 
 -- the stream's answer
 abbrev pub checkedAs : (refusal r byte count : ℕ) → Checked
@@ -42,98 +25,6 @@ checkedAs f r b n = record { refusal = f; «record» = r; byte = b; count = n }
 abbrev pub faceChecked : Verdict → Checked
 faceChecked (accepted n) = checkedAs 0 0 0 n
 faceChecked (refused f r b) = checkedAs f r b 0
-
--- a record that is found, with the numbers of its kind
-abbrev pub placeAs : Place → (id length attributes samples channels dimensions x y z type : ℕ) → Placed
-placeAs p id n a s c d x y z t =
-    record {
-      refusal = 0;
-      «record» = 0;
-      byte = 0;
-      number = p .number;
-      start = p .start;
-      size = p .size;
-      length = n;
-      «attribute_length» = a;
-      id = id;
-      samples = s;
-      channels = c;
-      dimensions = d;
-      «matrix_x» = x;
-      «matrix_y» = y;
-      «matrix_z» = z;
-      «data_type» = t;
-    }
-
-abbrev pub refusedPlace : (refusal r byte : ℕ) → Placed
-refusedPlace f r b =
-    record {
-      refusal = f;
-      «record» = r;
-      byte = b;
-      number = 0;
-      start = 0;
-      size = 0;
-      length = 0;
-      «attribute_length» = 0;
-      id = 0;
-      samples = 0;
-      channels = 0;
-      dimensions = 0;
-      «matrix_x» = 0;
-      «matrix_y» = 0;
-      «matrix_z» = 0;
-      «data_type» = 0;
-    }
-
-abbrev pub placeOf : Located → Place
-placeOf l = record { number = l .number; start = l .start; size = l .size }
-
--- number i of the kind's own, in the paper's order
-abbrev pub own : Located → ℕ → ℕ
-own l i = getD (l .numbers) i 0
-
--- the members that each kind's own numbers stand in
-abbrev pub recordAs : Kind → Located → Placed
-recordAs ConfigurationName l = placeAs (placeOf l) 1 (own l 0) 0 0 0 0 0 0 0 0
-recordAs ConfigurationText l = placeAs (placeOf l) 2 (own l 0) 0 0 0 0 0 0 0 0
-recordAs HeaderText l = placeAs (placeOf l) 3 (own l 0) 0 0 0 0 0 0 0 0
-recordAs Close l = placeAs (placeOf l) 4 0 0 0 0 0 0 0 0 0
-recordAs Text l = placeAs (placeOf l) 5 (own l 0) 0 0 0 0 0 0 0 0
-recordAs Acquisition l = placeAs (placeOf l) 1008 0 0 (own l 0) (own l 1) (own l 2) 0 0 0 0
-recordAs Image l = placeAs (placeOf l) 1022 0 (own l 5) 0 (own l 3) 0 (own l 0) (own l 1) (own l 2) (own l 4)
-recordAs Waveform l = placeAs (placeOf l) 1026 0 0 (own l 0) (own l 1) 0 0 0 0 0
-
-abbrev pub faceRecord : Located → Placed
-faceRecord l = recordAs (l .kind) l
-
--- the same of a place and a shape
-abbrev pub shapeFace : Place → Shape → Placed
-shapeFace p h = faceRecord (toldRecord (record { place = p; shape = h }))
-
-abbrev pub facePlaced : places.Answer → Placed
-facePlaced (places.found l) = faceRecord l
-facePlaced (places.stream f r b) = refusedPlace f r b
-facePlaced (places.number n) = refusedPlace n 0 0
-
--- a walk's cursor and its steps
-abbrev pub phaseNumber : Phase → ℕ
-phaseNumber Start = 0
-phaseNumber Configured = 1
-phaseNumber Headed = 2
-phaseNumber Closed = 3
-
-abbrev pub faceCursor : walk.Cursor → Cursor
-faceCursor c = record { number = c .number; start = c .start; phase = phaseNumber (c .phase) }
-
-abbrev pub noCursor : Cursor
-noCursor = record { number = 0; start = 0; phase = 0 }
-
-abbrev pub faceStep : places.Stepped → Step
-faceStep (places.handed l c) =
-    record { ended = false; here = faceRecord l; next = faceCursor c; answer = checkedAs 0 0 0 0 }
-faceStep (places.over v) =
-    record { ended = true; here = refusedPlace 0 0 0; next = noCursor; answer = faceChecked v }
 
 -- a view's place
 abbrev pub viewAs : (refusal r byte start length : ℕ) → ViewPlace

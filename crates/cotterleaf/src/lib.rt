@@ -5,8 +5,8 @@
 // with the definition that the inner function's contract cites, so nothing is decided here but the layout.
 // Assumes nothing.
 mod answers;
-mod asked;
 mod index;
+mod parts;
 mod placed;
 mod record;
 mod scalars;

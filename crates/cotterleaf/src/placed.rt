@@ -1,7 +1,7 @@
 // A record's place and kind as a C struct: the numbers of its kind in the members for them.
 ghost use mathlib.Core.Path.{_≡_};
 ghost use Rattle.mrd_stream.specs.Told.{toldPlaced, toldRecord};
-ghost use Rattle.cotterleaf.specs.Answers.{refusedPlace, placeAs, faceRecord, facePlaced};
+ghost use Rattle.cotterleaf.specs.Placed.{refusedPlace, placeAs, faceRecord, facePlaced};
 use mrd_format::AcquisitionShape;
 use mrd_format::ImageShape;
 use mrd_format::Kind;

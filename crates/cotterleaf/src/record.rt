@@ -4,11 +4,11 @@ ghost use Rattle.mrd_find.specs.Find.{findOf};
 ghost use Rattle.mrd_record.specs.Fields.{fieldOf};
 ghost use Rattle.mrd_record.specs.Views.{viewOf};
 ghost use Rattle.cotterleaf.specs.Answers.{faceView, faceField, faceFound};
-ghost use Rattle.cotterleaf.specs.Asked.{partOf};
+ghost use Rattle.cotterleaf.specs.Parts.{partOf};
 use crate::answers::FieldAnswer;
 use crate::answers::Found;
 use crate::answers::ViewPlace;
-use crate::asked::part_of;
+use crate::parts::part_of;
 
 // Where a part of record n lies; `channel` is looked at for a channel alone.
 #[no_mangle]

@@ -3,12 +3,14 @@ ghost use mathlib.Core.Path.{_≡_};
 ghost use Rattle.mrd_stream.specs.Places.{place, step};
 ghost use Rattle.mrd_stream.specs.StepLaws.{from};
 ghost use Rattle.mrd_stream.specs.Walk.{verdict, answer, beginning};
-ghost use Rattle.cotterleaf.specs.Answers.{faceChecked, facePlaced, faceCursor, faceStep};
-ghost use Rattle.cotterleaf.specs.Asked.{cursorOf};
+ghost use Rattle.cotterleaf.specs.Answers.{faceChecked};
+ghost use Rattle.cotterleaf.specs.Placed.{facePlaced};
+ghost use Rattle.cotterleaf.specs.Walk.{cursorOf, faceCursor, faceStep};
 use crate::answers::Checked;
 use crate::placed::Placed;
 use crate::walk::Cursor;
 use crate::walk::Step;
+use crate::walk::cursor_of;
 
 // Checks a whole stream.
 #[no_mangle]
@@ -39,7 +41,7 @@ pub extern "C" fn mrd_beginning() -> Cursor
 pub extern "C" fn mrd_next(stream: &[u8], cursor: Cursor) -> Step
     ensures { λ r. ⌜ r ≡ faceStep (step (cursorOf cursor) (now (stream .entry))) ⌝ }
 {
-    Step::of(cursor.told().next(stream))
+    Step::of(cursor_of(cursor).next(stream))
 }
 
 // The answer of what a walk still has before it.
@@ -47,5 +49,5 @@ pub extern "C" fn mrd_next(stream: &[u8], cursor: Cursor) -> Step
 pub extern "C" fn mrd_check_from(stream: &[u8], cursor: Cursor) -> Checked
     ensures { λ r. ⌜ r ≡ faceChecked (verdict (from (cursorOf cursor) (now (stream .entry)))) ⌝ }
 {
-    Checked::of(mrd_stream::check_from(cursor.told(), stream))
+    Checked::of(mrd_stream::check_from(cursor_of(cursor), stream))
 }

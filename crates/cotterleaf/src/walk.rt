@@ -1,8 +1,7 @@
 // A walk's cursor and steps as C structs.
 ghost use mathlib.Core.Path.{_≡_};
 ghost use Rattle.mrd_stream.specs.Told.{toldStep};
-ghost use Rattle.cotterleaf.specs.Asked.{phaseOf, cursorOf};
-ghost use Rattle.cotterleaf.specs.Answers.{phaseNumber, faceCursor, faceStep};
+ghost use Rattle.cotterleaf.specs.Walk.{phaseOf, cursorOf, phaseNumber, faceCursor, faceStep};
 use crate::answers::Checked;
 use crate::placed::Placed;
 use mrd_stream::Phase;
@@ -32,7 +31,7 @@ const HEADED: u32 = 2;
 
 const CLOSED: u32 = 3;
 
-// The phase with this number; of any other it is closed.
+// The phase with this number; any other number is closed.
 fn phase_of(number: u32) -> Phase
     ensures { λ r. ⌜ r ≡ phaseOf number ⌝ }
 {
@@ -55,6 +54,17 @@ fn phase_number(phase: Phase) -> u32
     }
 }
 
+// The cursor that a walk goes by.
+pub(crate) fn cursor_of(cursor: Cursor) -> mrd_stream::Cursor
+    ensures { λ r. ⌜ r ≡ cursorOf cursor ⌝ }
+{
+    mrd_stream::Cursor {
+        number: cursor.number,
+        start: cursor.start,
+        phase: phase_of(cursor.phase),
+    }
+}
+
 impl Cursor {
     pub(crate) fn of(cursor: mrd_stream::Cursor) -> Cursor
         ensures { λ r. ⌜ r ≡ faceCursor cursor ⌝ }
@@ -64,17 +74,6 @@ impl Cursor {
             number: cursor.number,
             start: cursor.start,
             phase: phase_number(phase),
-        }
-    }
-
-    // The walk's own cursor.
-    pub(crate) fn told(self) -> mrd_stream::Cursor
-        ensures { λ r. ⌜ r ≡ cursorOf self ⌝ }
-    {
-        mrd_stream::Cursor {
-            number: self.number,
-            start: self.start,
-            phase: phase_of(self.phase),
         }
     }
 }

@@ -1,4 +1,4 @@
--- `cotterleaf::mrd_view` meets its contract: the inner function meets the same, for the part that is told.
+-- `cotterleaf::mrd_view` meets its contract: the inner function meets the same, for the part with the number.
 -- Assumes nothing.
 use mathlib.Core.Path.{ap, _∙_}
 use denote.Ref.{now}

@@ -1,7 +1,7 @@
 -- `cotterleaf::mrd_beginning` meets its contract: the inner function meets the same.
 -- Assumes nothing.
 use mathlib.Core.Path.{ap, _∙_}
-use Rattle.cotterleaf.specs.Answers.{faceCursor}
+use Rattle.cotterleaf.specs.Walk.{faceCursor}
 use borrow.Author.Needs.{needs}
 use Rattle.cotterleaf.proofs.stream.mrd_beginning.Statement.{statement}
 use Rattle.cotterleaf.proofs.stream.mrd_beginning.Tie as tie

@@ -1,7 +1,7 @@
 -- `cotterleaf::mrd_place` meets its contract: the inner function meets the same.
 -- Assumes nothing.
 use mathlib.Core.Path.{ap, _∙_}
-use Rattle.cotterleaf.specs.Answers.{facePlaced}
+use Rattle.cotterleaf.specs.Placed.{facePlaced}
 use borrow.Author.Needs.{needs}
 use Rattle.cotterleaf.proofs.stream.mrd_place.Statement.{statement}
 use Rattle.cotterleaf.proofs.stream.mrd_place.Tie as tie

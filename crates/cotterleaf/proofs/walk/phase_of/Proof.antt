@@ -1,7 +1,7 @@
 -- `cotterleaf::walk::phase_of` meets its contract: the cases are the list's.
 -- Assumes nothing.
 use borrow.Author.Tests.{ne-eqb}
-use Rattle.cotterleaf.specs.Asked.{phaseOf}
+use Rattle.cotterleaf.specs.Walk.{phaseOf}
 use Rattle.cotterleaf.proofs.walk.phase_of.Statement.{statement}
 use Rattle.cotterleaf.proofs.walk.phase_of.Tie as tie
 

@@ -1,7 +1,7 @@
 -- `cotterleaf::placed::Placed::found` meets its contract: it goes by the shape.
 -- Assumes nothing.
 use mathlib.Core.Path.{sym, ap, _∙_}
-use Rattle.cotterleaf.specs.Answers.{shapeFace}
+use Rattle.cotterleaf.specs.Placed.{shapeFace}
 use borrow.Author.Needs.{needs}
 use Rattle.cotterleaf.proofs.placed.Placed.found.Statement.{statement}
 use Rattle.cotterleaf.proofs.placed.Placed.found.Tie as tie

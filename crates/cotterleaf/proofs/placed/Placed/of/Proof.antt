@@ -2,7 +2,7 @@
 -- Assumes nothing.
 use mathlib.Core.Path.{sym, ap, _∙_}
 use Rattle.mrd_stream.specs.Told.{toldPlaced}
-use Rattle.cotterleaf.specs.Answers.{facePlaced}
+use Rattle.cotterleaf.specs.Placed.{facePlaced}
 use borrow.Author.Needs.{needs}
 use Rattle.cotterleaf.proofs.placed.Placed.of.Statement.{statement}
 use Rattle.cotterleaf.proofs.placed.Placed.of.Tie as tie

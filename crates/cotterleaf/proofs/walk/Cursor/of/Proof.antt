@@ -1,4 +1,4 @@
--- `cotterleaf::walk::Cursor::of` meets its contract.
+-- `cotterleaf::walk::Cursor::of` meets its contract: the phase goes by its number.
 -- Assumes nothing.
 use borrow.Author.Needs.{needs}
 use Rattle.cotterleaf.proofs.walk.Cursor.of.Statement.{statement}

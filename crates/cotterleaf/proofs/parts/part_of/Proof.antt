@@ -1,9 +1,9 @@
--- `cotterleaf::asked::part_of` meets its contract: the cases are the list's.
+-- `cotterleaf::parts::part_of` meets its contract: the cases are the list's.
 -- Assumes nothing.
 use borrow.Author.Tests.{ne-eqb}
-use Rattle.cotterleaf.specs.Asked.{partOf}
-use Rattle.cotterleaf.proofs.asked.part_of.Statement.{statement}
-use Rattle.cotterleaf.proofs.asked.part_of.Tie as tie
+use Rattle.cotterleaf.specs.Parts.{partOf}
+use Rattle.cotterleaf.proofs.parts.part_of.Statement.{statement}
+use Rattle.cotterleaf.proofs.parts.part_of.Tie as tie
 
 returns : tie.Need-returns
 unfolding partOf

@@ -1,6 +1,6 @@
-// What is asked for by a number.
+// The parts of a record by number.
 ghost use mathlib.Core.Path.{_≡_};
-ghost use Rattle.cotterleaf.specs.Asked.{partOf};
+ghost use Rattle.cotterleaf.specs.Parts.{partOf};
 use mrd_record::Part;
 
 // A channel that no acquisition has.

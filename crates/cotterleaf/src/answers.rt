@@ -9,7 +9,7 @@ ghost use Rattle.mrd_record.specs.Told.{toldView, toldField, fieldApart};
 ghost use Rattle.mrd_stream.specs.Output.{toldWritten};
 ghost use Rattle.mrd_stream.specs.Told.{toldChecked};
 ghost use Rattle.mrd_writer.specs.Write.{told as toldPut};
-ghost use Rattle.cotterleaf.specs.Answers.{faceChecked, faceView, refusedField, faceValue, faceField, faceFound, faceWritten, faceMatched, facePut};
+ghost use Rattle.cotterleaf.specs.Answers.{checkedAs, faceChecked, viewAs, faceView, refusedField, faceValue, faceField, foundAs, faceFound, writtenAs, faceWritten, matchedAs, faceMatched, facePut};
 use mrd_field::Value;
 use mrd_format::refusal;
 
@@ -84,52 +84,58 @@ const SIGNED: u32 = 2;
 const FLOAT: u32 = 3;
 
 impl Checked {
+    pub(crate) fn new(refusal: u32, record: usize, byte: usize, count: usize) -> Checked
+        ensures { λ r. ⌜ r ≡ checkedAs refusal «record» byte count ⌝ }
+    {
+        Checked {
+            refusal: refusal,
+            record: record,
+            byte: byte,
+            count: count,
+        }
+    }
+
     pub(crate) fn of(answer: mrd_stream::Checked) -> Checked
         ensures { λ r. ⌜ r ≡ faceChecked (toldChecked answer) ⌝ }
     {
         match answer {
-            mrd_stream::Checked::Accepted(count) => Checked {
-                refusal: 0,
-                record: 0,
-                byte: 0,
-                count: count,
-            },
-            mrd_stream::Checked::Refused(refusal) => Checked {
-                refusal: refusal.number as u32,
-                record: refusal.record,
-                byte: refusal.byte,
-                count: 0,
-            },
+            mrd_stream::Checked::Accepted(count) => Checked::new(0, 0, 0, count),
+            mrd_stream::Checked::Refused(at) => Checked::new(
+                at.number as u32,
+                at.record,
+                at.byte,
+                0,
+            ),
         }
     }
 }
 
 impl ViewPlace {
+    fn new(refusal: u32, record: usize, byte: usize, start: usize, length: usize) -> ViewPlace
+        ensures { λ r. ⌜ r ≡ viewAs refusal «record» byte start length ⌝ }
+    {
+        ViewPlace {
+            refusal: refusal,
+            record: record,
+            byte: byte,
+            start: start,
+            length: length,
+        }
+    }
+
     pub(crate) fn of(answer: mrd_record::ViewPlace) -> ViewPlace
         ensures { λ r. ⌜ r ≡ faceView (toldView answer) ⌝ }
     {
         match answer {
-            mrd_record::ViewPlace::At(span) => ViewPlace {
-                refusal: 0,
-                record: 0,
-                byte: 0,
-                start: span.start,
-                length: span.length,
-            },
-            mrd_record::ViewPlace::Stream(refusal) => ViewPlace {
-                refusal: refusal.number as u32,
-                record: refusal.record,
-                byte: refusal.byte,
-                start: 0,
-                length: 0,
-            },
-            mrd_record::ViewPlace::Refused(number) => ViewPlace {
-                refusal: number as u32,
-                record: 0,
-                byte: 0,
-                start: 0,
-                length: 0,
-            },
+            mrd_record::ViewPlace::At(span) => ViewPlace::new(0, 0, 0, span.start, span.length),
+            mrd_record::ViewPlace::Stream(at) => ViewPlace::new(
+                at.number as u32,
+                at.record,
+                at.byte,
+                0,
+                0,
+            ),
+            mrd_record::ViewPlace::Refused(number) => ViewPlace::new(number as u32, 0, 0, 0, 0),
         }
     }
 }
@@ -187,88 +193,85 @@ impl FieldAnswer {
     {
         match answer {
             mrd_record::FieldAnswer::Value(value) => FieldAnswer::value(value),
-            mrd_record::FieldAnswer::Stream(refusal) => {
-                FieldAnswer::refused(refusal.number as u32, refusal.record, refusal.byte)
-            }
+            mrd_record::FieldAnswer::Stream(at) => FieldAnswer::refused(
+                at.number as u32,
+                at.record,
+                at.byte,
+            ),
             mrd_record::FieldAnswer::Refused(number) => FieldAnswer::refused(number as u32, 0, 0),
         }
     }
 }
 
 impl Found {
+    fn new(refusal: u32, record: usize, byte: usize, number: usize) -> Found
+        ensures { λ r. ⌜ r ≡ foundAs refusal «record» byte number ⌝ }
+    {
+        Found {
+            refusal: refusal,
+            record: record,
+            byte: byte,
+            number: number,
+        }
+    }
+
     pub(crate) fn of(answer: mrd_find::Found) -> Found
         ensures { λ r. ⌜ r ≡ faceFound (toldFound answer) ⌝ }
     {
         match answer {
-            mrd_find::Found::Record(number) => Found {
-                refusal: 0,
-                record: 0,
-                byte: 0,
-                number: number,
-            },
-            mrd_find::Found::Stream(refusal) => Found {
-                refusal: refusal.number as u32,
-                record: refusal.record,
-                byte: refusal.byte,
-                number: 0,
-            },
-            mrd_find::Found::Refused(number) => Found {
-                refusal: number as u32,
-                record: 0,
-                byte: 0,
-                number: 0,
-            },
+            mrd_find::Found::Record(number) => Found::new(0, 0, 0, number),
+            mrd_find::Found::Stream(at) => Found::new(at.number as u32, at.record, at.byte, 0),
+            mrd_find::Found::Refused(number) => Found::new(number as u32, 0, 0, 0),
         }
     }
 }
 
 impl Written {
+    fn new(refusal: u32, record: usize, byte: usize, length: usize) -> Written
+        ensures { λ r. ⌜ r ≡ writtenAs refusal «record» byte length ⌝ }
+    {
+        Written {
+            refusal: refusal,
+            record: record,
+            byte: byte,
+            length: length,
+        }
+    }
+
     pub(crate) fn of(answer: mrd_stream::Written) -> Written
         ensures { λ r. ⌜ r ≡ faceWritten (toldWritten answer) ⌝ }
     {
         match answer {
-            mrd_stream::Written::Length(length) => Written {
-                refusal: 0,
-                record: 0,
-                byte: 0,
-                length: length,
-            },
-            mrd_stream::Written::Stream(refusal) => Written {
-                refusal: refusal.number as u32,
-                record: refusal.record,
-                byte: refusal.byte,
-                length: 0,
-            },
-            mrd_stream::Written::Refused(number) => Written {
-                refusal: number as u32,
-                record: 0,
-                byte: 0,
-                length: 0,
-            },
+            mrd_stream::Written::Length(length) => Written::new(0, 0, 0, length),
+            mrd_stream::Written::Stream(at) => Written::new(
+                at.number as u32,
+                at.record,
+                at.byte,
+                0,
+            ),
+            mrd_stream::Written::Refused(number) => Written::new(number as u32, 0, 0, 0),
         }
     }
 }
 
 impl Matched {
+    fn new(refusal: u32, record: usize, byte: usize) -> Matched
+        ensures { λ r. ⌜ r ≡ matchedAs refusal «record» byte ⌝ }
+    {
+        Matched {
+            refusal: refusal,
+            record: record,
+            byte: byte,
+        }
+    }
+
     pub(crate) fn of(answer: mrd_index::Matched) -> Matched
         ensures { λ r. ⌜ r ≡ faceMatched (toldMatched answer) ⌝ }
     {
         match answer {
-            mrd_index::Matched::Same => Matched {
-                refusal: 0,
-                record: 0,
-                byte: 0,
-            },
-            mrd_index::Matched::Differs => Matched {
-                refusal: refusal::INDEX as u32,
-                record: 0,
-                byte: 0,
-            },
-            mrd_index::Matched::Stream(refusal) => Matched {
-                refusal: refusal.number as u32,
-                record: refusal.record,
-                byte: refusal.byte,
-            },
+            mrd_index::Matched::Same => Matched::new(0, 0, 0),
+            mrd_index::Matched::Differs => Matched::new(refusal::INDEX as u32, 0, 0),
+            mrd_index::Matched::Stream(at) => Matched::new(at.number as u32, at.record, at.byte),
         }
     }
 }

@@ -131,9 +131,7 @@ impl Placed {
     {
         match answer {
             mrd_stream::Placed::Found(here) => Placed::found(here),
-            mrd_stream::Placed::Stream(refusal) => {
-                Placed::refused(refusal.number as u32, refusal.record, refusal.byte)
-            }
+            mrd_stream::Placed::Stream(at) => Placed::refused(at.number as u32, at.record, at.byte),
             mrd_stream::Placed::Refused(number) => Placed::refused(number as u32, 0, 0),
         }
     }

@@ -87,12 +87,7 @@ impl Step {
                 ended: false,
                 here: Placed::found(here),
                 next: Cursor::of(next),
-                answer: Checked {
-                    refusal: 0,
-                    record: 0,
-                    byte: 0,
-                    count: 0,
-                },
+                answer: Checked::new(0, 0, 0, 0),
             },
             mrd_stream::Step::End(answer) => Step {
                 ended: true,

@@ -13,6 +13,9 @@ found-requires c κs = search needs
 of-requires : tie.Need-of-requires
 of-requires c κs = search needs
 
+new-requires : tie.Need-new-requires
+new-requires c κs = search needs
+
 enum-known-step-2 : tie.Need-enum-known-step-2
 enum-known-step-2 c = search needs
 
@@ -23,7 +26,7 @@ of-requires-2 : tie.Need-of-requires-2
 of-requires-2 c κs = search needs
 
 returns : tie.Need-returns
-returns c = rw (c .before .found .ensures, c .of .ensures, c .before .before .before .step .given .1)
+returns c = rw (c .before .before .found .ensures, c .before .of .ensures, c .new .ensures, c .before .before .before .before .step .given .1)
 
 returns-2 : tie.Need-returns-2
 returns-2 c = rw (c .before .refused .ensures, c .of2 .ensures, c .before .before .before .step2 .given .1)
@@ -35,6 +38,7 @@ of-spec =
     enum-known-step
     found-requires
     of-requires
+    new-requires
     enum-known-step-2
     refused-requires
     of-requires-2

@@ -84,11 +84,11 @@ const SIGNED: u32 = 2;
 const FLOAT: u32 = 3;
 
 impl Checked {
-    pub(crate) fn new(refusal: u32, record: usize, byte: usize, count: usize) -> Checked
+    pub(crate) fn new(refusal: u8, record: usize, byte: usize, count: usize) -> Checked
         ensures { λ r. ⌜ r ≡ checkedAs refusal «record» byte count ⌝ }
     {
         Checked {
-            refusal: refusal,
+            refusal: refusal as u32,
             record: record,
             byte: byte,
             count: count,
@@ -100,22 +100,17 @@ impl Checked {
     {
         match answer {
             mrd_stream::Checked::Accepted(count) => Checked::new(0, 0, 0, count),
-            mrd_stream::Checked::Refused(at) => Checked::new(
-                at.number as u32,
-                at.record,
-                at.byte,
-                0,
-            ),
+            mrd_stream::Checked::Refused(r) => Checked::new(r.number, r.record, r.byte, 0),
         }
     }
 }
 
 impl ViewPlace {
-    fn new(refusal: u32, record: usize, byte: usize, start: usize, length: usize) -> ViewPlace
+    fn new(refusal: u8, record: usize, byte: usize, start: usize, length: usize) -> ViewPlace
         ensures { λ r. ⌜ r ≡ viewAs refusal «record» byte start length ⌝ }
     {
         ViewPlace {
-            refusal: refusal,
+            refusal: refusal as u32,
             record: record,
             byte: byte,
             start: start,
@@ -128,25 +123,19 @@ impl ViewPlace {
     {
         match answer {
             mrd_record::ViewPlace::At(span) => ViewPlace::new(0, 0, 0, span.start, span.length),
-            mrd_record::ViewPlace::Stream(at) => ViewPlace::new(
-                at.number as u32,
-                at.record,
-                at.byte,
-                0,
-                0,
-            ),
-            mrd_record::ViewPlace::Refused(number) => ViewPlace::new(number as u32, 0, 0, 0, 0),
+            mrd_record::ViewPlace::Stream(r) => ViewPlace::new(r.number, r.record, r.byte, 0, 0),
+            mrd_record::ViewPlace::Refused(number) => ViewPlace::new(number, 0, 0, 0, 0),
         }
     }
 }
 
 impl FieldAnswer {
     // An answer without a value.
-    fn refused(number: u32, record: usize, byte: usize) -> FieldAnswer
+    fn refused(number: u8, record: usize, byte: usize) -> FieldAnswer
         ensures { λ r. ⌜ r ≡ refusedField number «record» byte ⌝ }
     {
         FieldAnswer {
-            refusal: number,
+            refusal: number as u32,
             record: record,
             byte: byte,
             value_type: 0,
@@ -183,7 +172,7 @@ impl FieldAnswer {
                 r.float_bits = bits;
                 r
             }
-            Value::Absent => FieldAnswer::refused(refusal::NO_FIELD as u32, 0, 0),
+            Value::Absent => FieldAnswer::refused(refusal::NO_FIELD, 0, 0),
         }
     }
 
@@ -193,22 +182,18 @@ impl FieldAnswer {
     {
         match answer {
             mrd_record::FieldAnswer::Value(value) => FieldAnswer::value(value),
-            mrd_record::FieldAnswer::Stream(at) => FieldAnswer::refused(
-                at.number as u32,
-                at.record,
-                at.byte,
-            ),
-            mrd_record::FieldAnswer::Refused(number) => FieldAnswer::refused(number as u32, 0, 0),
+            mrd_record::FieldAnswer::Stream(r) => FieldAnswer::refused(r.number, r.record, r.byte),
+            mrd_record::FieldAnswer::Refused(number) => FieldAnswer::refused(number, 0, 0),
         }
     }
 }
 
 impl Found {
-    fn new(refusal: u32, record: usize, byte: usize, number: usize) -> Found
+    fn new(refusal: u8, record: usize, byte: usize, number: usize) -> Found
         ensures { λ r. ⌜ r ≡ foundAs refusal «record» byte number ⌝ }
     {
         Found {
-            refusal: refusal,
+            refusal: refusal as u32,
             record: record,
             byte: byte,
             number: number,
@@ -220,18 +205,18 @@ impl Found {
     {
         match answer {
             mrd_find::Found::Record(number) => Found::new(0, 0, 0, number),
-            mrd_find::Found::Stream(at) => Found::new(at.number as u32, at.record, at.byte, 0),
-            mrd_find::Found::Refused(number) => Found::new(number as u32, 0, 0, 0),
+            mrd_find::Found::Stream(r) => Found::new(r.number, r.record, r.byte, 0),
+            mrd_find::Found::Refused(number) => Found::new(number, 0, 0, 0),
         }
     }
 }
 
 impl Written {
-    fn new(refusal: u32, record: usize, byte: usize, length: usize) -> Written
+    fn new(refusal: u8, record: usize, byte: usize, length: usize) -> Written
         ensures { λ r. ⌜ r ≡ writtenAs refusal «record» byte length ⌝ }
     {
         Written {
-            refusal: refusal,
+            refusal: refusal as u32,
             record: record,
             byte: byte,
             length: length,
@@ -243,23 +228,18 @@ impl Written {
     {
         match answer {
             mrd_stream::Written::Length(length) => Written::new(0, 0, 0, length),
-            mrd_stream::Written::Stream(at) => Written::new(
-                at.number as u32,
-                at.record,
-                at.byte,
-                0,
-            ),
-            mrd_stream::Written::Refused(number) => Written::new(number as u32, 0, 0, 0),
+            mrd_stream::Written::Stream(r) => Written::new(r.number, r.record, r.byte, 0),
+            mrd_stream::Written::Refused(number) => Written::new(number, 0, 0, 0),
         }
     }
 }
 
 impl Matched {
-    fn new(refusal: u32, record: usize, byte: usize) -> Matched
+    fn new(refusal: u8, record: usize, byte: usize) -> Matched
         ensures { λ r. ⌜ r ≡ matchedAs refusal «record» byte ⌝ }
     {
         Matched {
-            refusal: refusal,
+            refusal: refusal as u32,
             record: record,
             byte: byte,
         }
@@ -270,8 +250,8 @@ impl Matched {
     {
         match answer {
             mrd_index::Matched::Same => Matched::new(0, 0, 0),
-            mrd_index::Matched::Differs => Matched::new(refusal::INDEX as u32, 0, 0),
-            mrd_index::Matched::Stream(at) => Matched::new(at.number as u32, at.record, at.byte),
+            mrd_index::Matched::Differs => Matched::new(refusal::INDEX, 0, 0),
+            mrd_index::Matched::Stream(r) => Matched::new(r.number, r.record, r.byte),
         }
     }
 }

@@ -34,11 +34,11 @@ pub struct Placed {
 
 impl Placed {
     // An answer without a record.
-    pub(crate) fn refused(number: u32, record: usize, byte: usize) -> Placed
+    pub(crate) fn refused(number: u8, record: usize, byte: usize) -> Placed
         ensures { λ r. ⌜ r ≡ refusedPlace number «record» byte ⌝ }
     {
         Placed {
-            refusal: number,
+            refusal: number as u32,
             record: record,
             byte: byte,
             number: 0,
@@ -131,8 +131,8 @@ impl Placed {
     {
         match answer {
             mrd_stream::Placed::Found(here) => Placed::found(here),
-            mrd_stream::Placed::Stream(at) => Placed::refused(at.number as u32, at.record, at.byte),
-            mrd_stream::Placed::Refused(number) => Placed::refused(number as u32, 0, 0),
+            mrd_stream::Placed::Stream(r) => Placed::refused(r.number, r.record, r.byte),
+            mrd_stream::Placed::Refused(number) => Placed::refused(number, 0, 0),
         }
     }
 }

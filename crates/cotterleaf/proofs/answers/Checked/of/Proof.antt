@@ -16,9 +16,6 @@ new-requires c κs = search needs
 enum-known-answer-2 : tie.Need-enum-known-answer-2
 enum-known-answer-2 c = search needs
 
-cast-new : tie.Need-cast-new
-cast-new c = search needs
-
 new-requires-2 : tie.Need-new-requires-2
 new-requires-2 c κs = search needs
 
@@ -26,7 +23,7 @@ returns : tie.Need-returns
 returns c = c .new .ensures ∙ sym (ap (λ a. faceChecked (toldChecked a)) (c .before .before .answer .given .1))
 
 returns-2 : tie.Need-returns-2
-returns-2 c = c .new2 .ensures ∙ sym (ap (λ a. faceChecked (toldChecked a)) (c .before .before .before .answer2 .given .1))
+returns-2 c = c .new2 .ensures ∙ sym (ap (λ a. faceChecked (toldChecked a)) (c .before .before .answer2 .given .1))
 
 pub of-spec : {M : Type 1} → statement M
 of-spec =
@@ -35,7 +32,6 @@ of-spec =
     enum-known-answer
     new-requires
     enum-known-answer-2
-    cast-new
     new-requires-2
     returns
     returns-2)

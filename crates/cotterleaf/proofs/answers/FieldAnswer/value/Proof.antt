@@ -30,9 +30,6 @@ enum-known-value-4 c = search needs
 enum-told : tie.Need-enum-told
 enum-told c = search needs
 
-cast-refused : tie.Need-cast-refused
-cast-refused c = search needs
-
 refused-requires-2 : tie.Need-refused-requires-2
 refused-requires-2 c κs = search needs
 
@@ -64,7 +61,6 @@ value-spec =
     float-to-bits-r
     enum-known-value-4
     enum-told
-    cast-refused
     refused-requires-2
     returns
     returns-2

@@ -16,17 +16,11 @@ new-requires c κs = search needs
 enum-told-2 : tie.Need-enum-told-2
 enum-told-2 c = search needs
 
-cast-new : tie.Need-cast-new
-cast-new c = search needs
-
 new-requires-2 : tie.Need-new-requires-2
 new-requires-2 c κs = search needs
 
 enum-known-answer : tie.Need-enum-known-answer
 enum-known-answer c = search needs
-
-cast-new-2 : tie.Need-cast-new-2
-cast-new-2 c = search needs
 
 new-requires-3 : tie.Need-new-requires-3
 new-requires-3 c κs = search needs
@@ -38,7 +32,7 @@ returns-2 : tie.Need-returns-2
 returns-2 c = c .new2 .ensures ∙ sym (ap (λ a. faceMatched (toldMatched a)) (c .before .enum-told2 .given .1))
 
 returns-3 : tie.Need-returns-3
-returns-3 c = c .new3 .ensures ∙ sym (ap (λ a. faceMatched (toldMatched a)) (c .before .before .before .answer .given .1))
+returns-3 c = c .new3 .ensures ∙ sym (ap (λ a. faceMatched (toldMatched a)) (c .before .before .answer .given .1))
 
 pub of-spec : {M : Type 1} → statement M
 of-spec =
@@ -47,10 +41,8 @@ of-spec =
     enum-told
     new-requires
     enum-told-2
-    cast-new
     new-requires-2
     enum-known-answer
-    cast-new-2
     new-requires-3
     returns
     returns-2

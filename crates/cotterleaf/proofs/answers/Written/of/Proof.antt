@@ -16,17 +16,11 @@ new-requires c κs = search needs
 enum-known-answer-2 : tie.Need-enum-known-answer-2
 enum-known-answer-2 c = search needs
 
-cast-new : tie.Need-cast-new
-cast-new c = search needs
-
 new-requires-2 : tie.Need-new-requires-2
 new-requires-2 c κs = search needs
 
 enum-known-answer-3 : tie.Need-enum-known-answer-3
 enum-known-answer-3 c = search needs
-
-cast-new-2 : tie.Need-cast-new-2
-cast-new-2 c = search needs
 
 new-requires-3 : tie.Need-new-requires-3
 new-requires-3 c κs = search needs
@@ -35,7 +29,7 @@ returns : tie.Need-returns
 returns c = c .new .ensures ∙ sym (ap (λ a. faceWritten (toldWritten a)) (c .before .before .answer .given .1))
 
 returns-2 : tie.Need-returns-2
-returns-2 c = c .new2 .ensures ∙ sym (ap (λ a. faceWritten (toldWritten a)) (c .before .before .before .answer2 .given .1))
+returns-2 c = c .new2 .ensures ∙ sym (ap (λ a. faceWritten (toldWritten a)) (c .before .before .answer2 .given .1))
 
 returns-3 : tie.Need-returns-3
 returns-3 c = c .new3 .ensures ∙ sym (ap (λ a. faceWritten (toldWritten a)) (c .before .before .answer3 .given .1))
@@ -47,10 +41,8 @@ of-spec =
     enum-known-answer
     new-requires
     enum-known-answer-2
-    cast-new
     new-requires-2
     enum-known-answer-3
-    cast-new-2
     new-requires-3
     returns
     returns-2

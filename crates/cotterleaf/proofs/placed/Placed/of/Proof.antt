@@ -16,17 +16,11 @@ found-requires c κs = search needs
 enum-known-answer-2 : tie.Need-enum-known-answer-2
 enum-known-answer-2 c = search needs
 
-cast-refused : tie.Need-cast-refused
-cast-refused c = search needs
-
 refused-requires : tie.Need-refused-requires
 refused-requires c κs = search needs
 
 enum-known-answer-3 : tie.Need-enum-known-answer-3
 enum-known-answer-3 c = search needs
-
-cast-refused-2 : tie.Need-cast-refused-2
-cast-refused-2 c = search needs
 
 refused-requires-2 : tie.Need-refused-requires-2
 refused-requires-2 c κs = search needs
@@ -35,7 +29,7 @@ returns : tie.Need-returns
 returns c = c .found .ensures ∙ sym (ap (λ a. facePlaced (toldPlaced a)) (c .before .before .answer .given .1))
 
 returns-2 : tie.Need-returns-2
-returns-2 c = c .refused .ensures ∙ sym (ap (λ a. facePlaced (toldPlaced a)) (c .before .before .before .answer2 .given .1))
+returns-2 c = c .refused .ensures ∙ sym (ap (λ a. facePlaced (toldPlaced a)) (c .before .before .answer2 .given .1))
 
 returns-3 : tie.Need-returns-3
 returns-3 c = c .refused2 .ensures ∙ sym (ap (λ a. facePlaced (toldPlaced a)) (c .before .before .answer3 .given .1))
@@ -47,10 +41,8 @@ of-spec =
     enum-known-answer
     found-requires
     enum-known-answer-2
-    cast-refused
     refused-requires
     enum-known-answer-3
-    cast-refused-2
     refused-requires-2
     returns
     returns-2

@@ -41,8 +41,8 @@ compared s x to from =
       own-same = λ e o. rw (e, from o);
       differs-15 = λ d. rw (d .passed, is-false x (λ e. d .other (to e)));
       number-differs = λ e.
-      let d = number-false (answer s) x e in
-      record { count = d .0; passed = d .1 .0; other = λ o. true≢false (sym (from o) ∙ d .1 .1) };
+          let d = number-false (answer s) x e in
+          record { count = d .0; passed = d .1 .0; other = λ o. true≢false (sym (from o) ∙ d .1 .1) };
     }
 
 -- a file is the index byte for byte, none short and none over

@@ -1,0 +1,19 @@
+-- `cotterleaf::mrd_columns_match` meets its contract: the inner function meets the same.
+-- Assumes nothing.
+use mathlib.Core.Path.{ap, _∙_}
+use Rattle.cotterleaf.specs.Answers.{faceMatched}
+use borrow.Author.Needs.{needs}
+use Rattle.cotterleaf.proofs.index.mrd_columns_match.Statement.{statement}
+use Rattle.cotterleaf.proofs.index.mrd_columns_match.Tie as tie
+
+columns-match-requires : tie.Need-columns-match-requires
+columns-match-requires c κs = search needs
+
+of-requires : tie.Need-of-requires
+of-requires c κs = search needs
+
+returns : tie.Need-returns
+returns c = c .of .ensures ∙ ap faceMatched (c .before .columns-match .ensures)
+
+pub mrd-columns-match-spec : {M : Type 1} → statement M
+mrd-columns-match-spec = tie.close (tie.spec columns-match-requires of-requires returns)

@@ -1,0 +1,45 @@
+-- `cotterleaf::mrd_fill_columns` meets its contract: the inner function meets the same.
+-- Assumes nothing.
+use mathlib.Core.Path.{_≡_, ap, _∙_}
+use mathlib.Core.List.{List}
+use Prim.Native.Nat.{ℕ}
+use denote.Ref.{now}
+use Rattle.mrd_stream.specs.Index.{startColumn, idColumn, counterColumn}
+use Rattle.mrd_stream.specs.Output.{OutputAnswer, outputBy}
+use Rattle.cotterleaf.specs.Answers.{faceWritten}
+use borrow.Author.Needs.{needs}
+use Rattle.cotterleaf.proofs.index.mrd_fill_columns.Statement.{statement}
+use Rattle.cotterleaf.proofs.index.mrd_fill_columns.Tie as tie
+
+-- a column by an answer that is another's
+by : {x y : OutputAnswer} → x ≡ y → (w o : List ℕ) → outputBy x w o ≡ outputBy y w o
+by e w o = ap (λ (x : OutputAnswer). outputBy x w o) e
+
+fill-columns-requires : tie.Need-fill-columns-requires
+fill-columns-requires c κs = search needs
+
+of-requires : tie.Need-of-requires
+of-requires c κs = search needs
+
+same-length : tie.Need-same-length
+same-length c = search needs
+
+same-length-2 : tie.Need-same-length-2
+same-length-2 c = search needs
+
+same-length-3 : tie.Need-same-length-3
+same-length-3 c = search needs
+
+returns : tie.Need-returns
+returns c =
+    let call = c .before .before .before .before .before .before .before in
+    let inner = call .fill-columns .ensures in
+    let a = call .before .before .before .before .before .before .before .before .args in
+    let s = now (a .stream) in
+    (c .of .ensures ∙ ap faceWritten (inner .0),
+    (inner .1 .0 ∙ by (inner .0) (startColumn s) (now (a .starts)), (inner .1 .1 .0 ∙ by (inner .0) (idColumn s) (now (a .ids)), inner .1 .1 .1 ∙ by (inner .0) (counterColumn s) (now (a .counters)))))
+
+pub mrd-fill-columns-spec : {M : Type 1} → statement M
+mrd-fill-columns-spec =
+    tie.close
+    (tie.spec fill-columns-requires of-requires same-length same-length-2 same-length-3 returns)

@@ -1,0 +1,19 @@
+-- `cotterleaf::mrd_index_matches` meets its contract: the inner function meets the same.
+-- Assumes nothing.
+use mathlib.Core.Path.{ap, _∙_}
+use Rattle.cotterleaf.specs.Answers.{faceMatched}
+use borrow.Author.Needs.{needs}
+use Rattle.cotterleaf.proofs.index.mrd_index_matches.Statement.{statement}
+use Rattle.cotterleaf.proofs.index.mrd_index_matches.Tie as tie
+
+index-matches-requires : tie.Need-index-matches-requires
+index-matches-requires c κs = search needs
+
+of-requires : tie.Need-of-requires
+of-requires c κs = search needs
+
+returns : tie.Need-returns
+returns c = c .of .ensures ∙ ap faceMatched (c .before .index-matches .ensures)
+
+pub mrd-index-matches-spec : {M : Type 1} → statement M
+mrd-index-matches-spec = tie.close (tie.spec index-matches-requires of-requires returns)

@@ -1,0 +1,19 @@
+-- `cotterleaf::mrd_check` meets its contract: the inner function meets the same.
+-- Assumes nothing.
+use mathlib.Core.Path.{ap, _∙_}
+use Rattle.cotterleaf.specs.Answers.{faceChecked}
+use borrow.Author.Needs.{needs}
+use Rattle.cotterleaf.proofs.stream.mrd_check.Statement.{statement}
+use Rattle.cotterleaf.proofs.stream.mrd_check.Tie as tie
+
+check-requires : tie.Need-check-requires
+check-requires c κs = search needs
+
+of-requires : tie.Need-of-requires
+of-requires c κs = search needs
+
+returns : tie.Need-returns
+returns c = c .of .ensures ∙ ap faceChecked (c .before .check .ensures)
+
+pub mrd-check-spec : {M : Type 1} → statement M
+mrd-check-spec = tie.close (tie.spec check-requires of-requires returns)

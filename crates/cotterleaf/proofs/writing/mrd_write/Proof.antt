@@ -1,0 +1,24 @@
+-- `cotterleaf::mrd_write` meets its contract: the inner function meets the same.
+-- Assumes nothing.
+use mathlib.Core.Path.{ap, _∙_}
+use Rattle.cotterleaf.specs.Answers.{facePut}
+use borrow.Author.Needs.{needs}
+use Rattle.cotterleaf.proofs.writing.mrd_write.Statement.{statement}
+use Rattle.cotterleaf.proofs.writing.mrd_write.Tie as tie
+
+write-requires : tie.Need-write-requires
+write-requires c κs = search needs
+
+of-requires : tie.Need-of-requires
+of-requires c κs = search needs
+
+same-length : tie.Need-same-length
+same-length c = search needs
+
+returns : tie.Need-returns
+returns c =
+    let inner = c .before .before .before .write .ensures in
+    (c .of .ensures ∙ ap facePut (inner .0), inner .1)
+
+pub mrd-write-spec : {M : Type 1} → statement M
+mrd-write-spec = tie.close (tie.spec write-requires of-requires same-length returns)

@@ -1,0 +1,89 @@
+-- The answers of the rules as the C structs: `refusal`, `record` and `byte` say what is refused and where, and what an answer lacks is 0.
+-- Assumes nothing.
+use Prim.Native.Nat.{ℕ}
+use lib.IntN.{ℤ, pos}
+use Rattle.mrd_field.specs.Field as header
+use Rattle.mrd_find.specs.Find as find
+use Rattle.mrd_index.specs.Compare as compare
+use Rattle.mrd_record.specs.Fields as fields
+use Rattle.mrd_record.specs.Views as views
+use Rattle.mrd_stream.specs.Output as output
+use Rattle.mrd_stream.specs.Walk.{Verdict, accepted, refused}
+use Rattle.mrd_writer.specs.Refusals as writer
+use Rattle.cotterleaf.specs.declared.answers.Checked.{Checked}
+use Rattle.cotterleaf.specs.declared.answers.ViewPlace.{ViewPlace}
+use Rattle.cotterleaf.specs.declared.answers.FieldAnswer.{FieldAnswer}
+use Rattle.cotterleaf.specs.declared.answers.Found.{Found}
+use Rattle.cotterleaf.specs.declared.answers.Written.{Written}
+use Rattle.cotterleaf.specs.declared.answers.Matched.{Matched}
+use Rattle.cotterleaf.specs.declared.answers.Put.{Put}
+
+-- the stream's answer
+abbrev pub checkedAs : (refusal r byte count : ℕ) → Checked
+checkedAs f r b n = record { refusal = f; «record» = r; byte = b; count = n }
+
+abbrev pub faceChecked : Verdict → Checked
+faceChecked (accepted n) = checkedAs 0 0 0 n
+faceChecked (refused f r b) = checkedAs f r b 0
+
+-- a view's place
+abbrev pub viewAs : (refusal r byte start length : ℕ) → ViewPlace
+viewAs f r b i z = record { refusal = f; «record» = r; byte = b; start = i; length = z }
+
+abbrev pub faceView : views.Shown → ViewPlace
+faceView (views.at i z) = viewAs 0 0 0 i z
+faceView (views.faulty f r b) = viewAs f r b 0 0
+faceView (views.refusal n) = viewAs n 0 0 0 0
+
+-- a field, its type by number: 1 whole, 2 signed, 3 float
+abbrev pub fieldAs : (refusal r byte type whole : ℕ) → (integer : ℤ) → (float : ℕ) → FieldAnswer
+fieldAs f r b t w i x =
+    record { refusal = f; «record» = r; byte = b; «value_type» = t; whole = w; integer = i; «float_bits» = x }
+
+abbrev pub refusedField : (refusal r byte : ℕ) → FieldAnswer
+refusedField f r b = fieldAs f r b 0 0 (pos 0) 0
+
+abbrev pub faceValue : header.FieldAnswer → FieldAnswer
+faceValue (header.whole n) = fieldAs 0 0 0 1 n (pos 0) 0
+faceValue (header.signed z) = fieldAs 0 0 0 2 0 z 0
+faceValue (header.float n) = fieldAs 0 0 0 3 0 (pos 0) n
+faceValue (header.number n) = refusedField n 0 0
+
+abbrev pub faceField : fields.Fielded → FieldAnswer
+faceField (fields.answered v) = faceValue v
+faceField (fields.faulty f r b) = refusedField f r b
+
+-- what was looked for
+abbrev pub foundAs : (refusal r byte number : ℕ) → Found
+foundAs f r b n = record { refusal = f; «record» = r; byte = b; number = n }
+
+abbrev pub faceFound : find.Sought → Found
+faceFound (find.found i) = foundAs 0 0 0 i
+faceFound (find.stream f r b) = foundAs f r b 0
+faceFound (find.number n) = foundAs n 0 0 0
+
+-- what was written to the front of an output
+abbrev pub writtenAs : (refusal r byte length : ℕ) → Written
+writtenAs f r b n = record { refusal = f; «record» = r; byte = b; length = n }
+
+abbrev pub faceWritten : output.OutputAnswer → Written
+faceWritten (output.written n) = writtenAs 0 0 0 n
+faceWritten (output.stream f r b) = writtenAs f r b 0
+faceWritten (output.number n) = writtenAs n 0 0 0
+
+-- a lent index compared
+abbrev pub matchedAs : (refusal r byte : ℕ) → Matched
+matchedAs f r b = record { refusal = f; «record» = r; byte = b }
+
+abbrev pub faceMatched : compare.MatchAnswer → Matched
+faceMatched compare.same = matchedAs 0 0 0
+faceMatched (compare.stream f r b) = matchedAs f r b
+faceMatched (compare.number n) = matchedAs n 0 0
+
+-- the writer's answer
+abbrev pub putAs : (refusal position : ℕ) → Put
+putAs f p = record { refusal = f; position = p }
+
+abbrev pub facePut : writer.Answer → Put
+facePut (writer.done p) = putAs 0 p
+facePut (writer.refused n) = putAs n 0

@@ -1,0 +1,53 @@
+// Is it a stream, and where are its records?
+ghost use mathlib.Core.Path.{_≡_};
+ghost use Rattle.mrd_stream.specs.Places.{place, step};
+ghost use Rattle.mrd_stream.specs.StepLaws.{from};
+ghost use Rattle.mrd_stream.specs.Walk.{verdict, answer, beginning};
+ghost use Rattle.cotterleaf.specs.Answers.{faceChecked};
+ghost use Rattle.cotterleaf.specs.Placed.{facePlaced};
+ghost use Rattle.cotterleaf.specs.Walk.{cursorOf, faceCursor, faceStep};
+use crate::answers::Checked;
+use crate::placed::Placed;
+use crate::walk::Cursor;
+use crate::walk::Step;
+use crate::walk::cursor_of;
+
+// Checks a whole stream.
+#[no_mangle]
+pub extern "C" fn mrd_check(stream: &[u8]) -> Checked
+    ensures { λ r. ⌜ r ≡ faceChecked (answer (now (stream .entry))) ⌝ }
+{
+    Checked::of(mrd_stream::check(stream))
+}
+
+// The place and kind of record n.
+#[no_mangle]
+pub extern "C" fn mrd_place(stream: &[u8], n: usize) -> Placed
+    ensures { λ r. ⌜ r ≡ facePlaced (place (now (stream .entry)) n) ⌝ }
+{
+    Placed::of(mrd_stream::place(stream, n))
+}
+
+// Where each walk begins.
+#[no_mangle]
+pub extern "C" fn mrd_beginning() -> Cursor
+    ensures { λ r. ⌜ r ≡ faceCursor beginning ⌝ }
+{
+    Cursor::of(mrd_stream::Cursor::beginning())
+}
+
+// One step of a walk.
+#[no_mangle]
+pub extern "C" fn mrd_next(stream: &[u8], cursor: Cursor) -> Step
+    ensures { λ r. ⌜ r ≡ faceStep (step (cursorOf cursor) (now (stream .entry))) ⌝ }
+{
+    Step::of(cursor_of(cursor).next(stream))
+}
+
+// The answer of what a walk still has before it.
+#[no_mangle]
+pub extern "C" fn mrd_check_from(stream: &[u8], cursor: Cursor) -> Checked
+    ensures { λ r. ⌜ r ≡ faceChecked (verdict (from (cursorOf cursor) (now (stream .entry)))) ⌝ }
+{
+    Checked::of(mrd_stream::check_from(cursor_of(cursor), stream))
+}

@@ -40,9 +40,9 @@ fn rng_of(seed: u64, number: u64) -> Rng {
 /// Most streams are short, so that many are tried; a long one comes now and then.
 fn drawn(rng: &mut Rng, number: u64) -> (String, Vec<u8>) {
     let limit = match rng.below(200) {
-        0 => 65_536,
-        1..=20 => 8_000,
-        21..=60 => 200,
+        0 | 1 => 65_536,
+        2..=29 => 8_000,
+        30..=69 => 200,
         _ => 2_000,
     };
     streams::drawn(rng, number, limit)
@@ -71,7 +71,7 @@ fn report(where_: &str, bytes: &[u8], difference: &Difference) {
 }
 
 fn main() -> ExitCode {
-    let count = number_argument(1, 200_000);
+    let count = number_argument(1, 300_000);
     let seed = number_argument(2, 1);
     let first = number_argument(3, 0);
     let begun = Instant::now();

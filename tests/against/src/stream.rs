@@ -6,7 +6,7 @@ use crate::tally::{Family, Outcome, Tally};
 use crate::walk::{self, Read};
 use crate::{plain, written};
 use cotterleaf::Part;
-use second_reader::Detail;
+use second_reader::{Detail, Table, Type};
 use streams::{counters, field_offset, lent_columns, lent_files, record_number};
 use streams::{LentColumns, LentFile, Rng};
 
@@ -16,23 +16,20 @@ pub fn ask(tally: &mut Tally, rng: &mut Rng, bytes: &[u8]) -> Outcome {
     let read = Read::of(bytes);
     walk::walk(tally, rng, bytes, &read)?;
     each_family(tally, rng, bytes, &read)?;
-    if rng.one_in(2) {
-        walk::made_up_cursor(tally, rng, bytes, &read)?;
-    }
+    walk::made_up_cursor(tally, rng, bytes, &read)?;
     if rng.one_in(4) {
         plain::questions(tally, rng, bytes, read.count())?;
         plain::steps(tally, bytes, &read)?;
         plain::refused_outputs(tally, bytes)?;
     }
     if read.answer.is_ok() && read.count() <= 12 {
-        if rng.one_in(10) {
+        each_family(tally, rng, bytes, &read)?;
+        if rng.one_in(2) {
             all_views(tally, bytes, &read)?;
-        }
-        if rng.one_in(60) {
-            all_fields(tally, rng, bytes, &read)?;
-        }
-        if rng.one_in(10) {
             written::same_meaning(tally, bytes)?;
+        }
+        if rng.one_in(8) {
+            all_fields(tally, rng, bytes, &read)?;
         }
     }
     let question = || "the lent stream after all calls".to_string();
@@ -53,7 +50,8 @@ pub fn each_family(tally: &mut Tally, rng: &mut Rng, bytes: &[u8], read: &Read) 
         asked.place(tally, record_number(rng, count))?;
         let (n, part) = drawn_view(rng, read);
         asked.view(tally, n, part)?;
-        asked.field(tally, record_number(rng, count), field_offset(rng))?;
+        let (n, offset) = drawn_field(rng, read);
+        asked.field(tally, n, offset)?;
         // A list of another length cannot be lent.
         if let Ok(counters) = counters(rng, bytes).try_into() {
             let from = match rng.below(2) {
@@ -145,6 +143,31 @@ fn drawn_view(rng: &mut Rng, read: &Read) -> (u64, Part) {
     (n, part)
 }
 
+/// A record and an offset: mostly an element of that record's header, else any.
+fn drawn_field(rng: &mut Rng, read: &Read) -> (u64, u64) {
+    let n = match header_record(rng, read) {
+        Some(n) if !rng.one_in(3) => n,
+        _ => record_number(rng, read.count()),
+    };
+    let record = read.records.get(n as usize);
+    let table = record.and_then(|record| record.detail.kind().table());
+    match table {
+        Some(table) if !rng.one_in(3) => (n, rng.pick(&table.elements()).0 as u64),
+        _ => (n, field_offset(rng)),
+    }
+}
+
+/// The number of a record that has a header, if the stream has such.
+fn header_record(rng: &mut Rng, read: &Read) -> Option<u64> {
+    // Drawn among all records, a few times: a list of them would cost more than it gives.
+    let count = read.count();
+    let drawn = (0..4).map(|_| rng.below(count.max(1)));
+    drawn.into_iter().find(|&n| {
+        let record = read.records.get(n as usize);
+        record.is_some_and(|record| record.detail.kind().table().is_some())
+    })
+}
+
 /// Channel numbers whose product with 8 or more wraps, and others that few records have.
 fn far_channel(rng: &mut Rng) -> usize {
     rng.pick(&[0, 1, 2, 8, 65_535, 65_536, 1 << 32, 1 << 61, usize::MAX])
@@ -175,15 +198,36 @@ fn all_views(tally: &mut Tally, bytes: &[u8], read: &Read) -> Outcome {
     Ok(())
 }
 
-/// Every offset of one record, past its header too.
+/// Floats that a copy through a float register, or a comparison of values, would change or confuse.
+const FLOATS: [u32; 8] = [
+    0x7F80_0001, // a signalling NaN
+    0xFFBF_FFFF, // another, negative
+    0x7FC0_0000, // a quiet NaN
+    0xFFC1_2345, // another, with a payload
+    0x8000_0000, // -0
+    0x7F80_0000, // infinity
+    0x0000_0001, // the smallest above 0
+    0x3F80_0000, // 1
+];
+
+/// Every offset of one record, past its header too, with such floats in it.
 fn all_fields(tally: &mut Tally, rng: &mut Rng, bytes: &[u8], read: &Read) -> Outcome {
+    let n = header_record(rng, read).unwrap_or(0);
+    let record = &read.records[n as usize];
+    let header = record.start as usize + 2;
+    let mut bytes = bytes.to_vec();
+    let table = record.detail.kind().table();
+    for (offset, element) in table.map_or(vec![], Table::elements) {
+        if element == Type::F32 {
+            let float = rng.pick(&FLOATS).to_le_bytes();
+            bytes[header + offset..][..4].copy_from_slice(&float);
+        }
+    }
     let asked = Asked {
-        bytes,
+        bytes: &bytes,
         lent: &Lent::None,
     };
-    let n = rng.below(read.count());
-    let header = read.records[n as usize].detail.kind().header_size() as u64;
-    for offset in 0..header + 9 {
+    for offset in 0..table.map_or(0, |table| table.size as u64) + 9 {
         asked.field(tally, n, offset)?;
     }
     Ok(())

@@ -8,6 +8,7 @@ ghost use Rattle.mrd_format.specs.Elements.{elements};
 ghost use Rattle.mrd_format.specs.Acquisition.{layout, get, checks, channelsDiffer, discardsExceed, maskDiffers, onesOf, trajectorySize, channelSize, bodySize, numbers};
 ghost use Rattle.mrd_format.specs.Acquisition.{«channel-mask», «active-channels»};
 ghost use Rattle.mrd_format.specs.Shapes.{acquisitionNumbers};
+use crate::checks::first_fault;
 use crate::refusal;
 use crate::shape::AcquisitionShape;
 use crate::size::product;
@@ -37,16 +38,16 @@ pub(crate) fn fault(h: &[u8]) -> u8
     requires { ⌜ length (now h) ≡ 340 ⌝ }
     ensures { λ r. ⌜ r ≡ first (checks (now (h .entry))) ⌝ }
 {
-    if read_u16(h, VERSION) != 1 {
-        return refusal::VERSION;
-    }
-    if channels_differ(h) {
-        return refusal::CHANNELS;
-    }
-    if discards_exceed(h) {
-        return refusal::DISCARD;
-    }
-    0
+    let version = read_u16(h, VERSION);
+    let channels = channels_differ(h);
+    let discards = discards_exceed(h);
+    first_fault(
+        version,
+        refusal::CHANNELS,
+        channels,
+        refusal::DISCARD,
+        discards,
+    )
 }
 
 // Whether more channels are active than available, or the mask does not agree.

@@ -7,6 +7,7 @@ ghost use Rattle.mrd_format.specs.Checks.{first};
 ghost use Rattle.mrd_format.specs.Image.{checks, typeUnknown, lengthsDiffer, attributeLength, elementSize, pixelCount, bodySize, numbers};
 ghost use Rattle.mrd_format.specs.Sizes.{capped};
 ghost use Rattle.mrd_format.specs.Shapes.{imageNumbers};
+use crate::checks::first_fault;
 use crate::refusal;
 use crate::shape::ImageShape;
 use crate::size::cap;
@@ -39,16 +40,16 @@ pub(crate) fn fault(h: &[u8]) -> u8
     requires { ⌜ length (now h) ≡ 206 ⌝ }
     ensures { λ r. ⌜ r ≡ first (checks (now (h .entry))) ⌝ }
 {
-    if read_u16(h, VERSION) != 1 {
-        return refusal::VERSION;
-    }
-    if type_unknown(h) {
-        return refusal::DATA_TYPE;
-    }
-    if lengths_differ(h) {
-        return refusal::ATTRIBUTE_LENGTH;
-    }
-    0
+    let version = read_u16(h, VERSION);
+    let unknown = type_unknown(h);
+    let lengths = lengths_differ(h);
+    first_fault(
+        version,
+        refusal::DATA_TYPE,
+        unknown,
+        refusal::ATTRIBUTE_LENGTH,
+        lengths,
+    )
 }
 
 // Whether the data type is not one of 1 to 8.

@@ -4,6 +4,7 @@
 // The functions on a fixed part ask that it has its kind's length; the callers, all proved, lend it so.
 // Assumes nothing.
 pub mod acquisition;
+mod checks;
 pub mod image;
 mod kind;
 pub mod message;

@@ -105,7 +105,8 @@ fn store(
         waveform,
         &mut out[content..],
     );
-    Written::To(position + size)
+    let end = position + size;
+    Written::To(end)
 }
 
 // The lengths of the six parts that may follow a fixed part.

@@ -80,8 +80,8 @@ put-content-requires c κs =
       ),
     )
 
-add-t14 : tie.Need-add-t14
-add-t14 c =
+add-end : tie.Need-add-end
+add-end c =
     let start = c .before .before .before .before .before .before .before .before .before .before .before .before .before .before .before .before .before .before .before .before in
     omega (
       arith,
@@ -125,6 +125,6 @@ store-spec =
     part-put-content-start
     part-put-content-end
     put-content-requires
-    add-t14
+    add-end
     same-length
     returns-3)

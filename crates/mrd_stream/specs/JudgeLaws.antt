@@ -8,7 +8,7 @@ use mathlib.Core.Bool.{Bool, true, false, not}
 use mathlib.Core.List.{List, [], _∷_, _++_}
 use borrow.Author.Tests.{ne-eqb, eq-eqb, lt-ltb, le-ltb, le-leb, lt-leb}
 use lib.Dec.{ltb}
-use lib.ListN.{length, take, drop, length-drop}
+use lib.ListN.{length, take, drop, length-drop, drop-of-length-le}
 use lib.Seq.{length-take-le}
 use Rattle.mrd_format.specs.declared.kind.Kind.{Kind}
 use Rattle.mrd_format.specs.declared.kind.Identified.the-variants.{Known, Unknown}
@@ -20,8 +20,9 @@ use Rattle.mrd_format.specs.MessageLaws.{size-least, fixed-take}
 use Rattle.mrd_format.specs.Sizes.{capped}
 use Rattle.mrd_stream.specs.declared.cursor.Cursor.{Cursor}
 use Rattle.mrd_stream.specs.Order.{allowed, isClosed}
-use Rattle.mrd_stream.specs.Walk.{messageLimit, earlyChecks, sizeChecks, lateChecks, checksAs, Judged, faulty, whole, unless, judgeAs, judge, after}
-use Rattle.mrd_stream.specs.Places.{located, Stepped, handed, stepBy, stepAt}
+use Rattle.mrd_stream.specs.Walk.{messageLimit, earlyChecks, sizeChecks, lateChecks, checksAs, Judged, faulty, whole, unless, judgeAs, judge, refused, ended, after}
+use Rattle.mrd_stream.specs.Judged.{WholeAt, judge-whole}
+use Rattle.mrd_stream.specs.Places.{located, Stepped, handed, over, stepBy, stepAt, step}
 
 -- the checks before the id passed
 pub record Early (c : Cursor) (t : List ℕ) : Type 0 where
@@ -36,8 +37,8 @@ early c t cs e =
     simp (e .unclosed, lt-leb _ _ (e .few), ne-eqb _ _ other)
 
 -- the step where bytes are left
-pub step-front : (c : Cursor) (t : List ℕ) → 0 < length t → stepAt c t ≡ stepBy (judgeAs (identified (idAt t)) c t) c t
-unfolding stepAt judge
+step-front : (c : Cursor) (t : List ℕ) → 0 < length t → stepAt c t ≡ stepBy (judge c t) c t
+unfolding stepAt
 step-front c [] h = absurd (not-suc-le-zero h)
 step-front c (b ∷ t) h = refl
 
@@ -89,22 +90,14 @@ module _ (k : Kind) (c : Cursor) (t : List ℕ) where
   unfolding lateChecks
   judge-fixed e a h = known 3 e (simp (a, lt-ltb _ _ h))
 
--- a message of kind k and size z handed out, by its fixed part h
-abbrev pub handedOut : Cursor → Kind → List ℕ → ℕ → Stepped
-handedOut c k h z =
-    handed (record { number = c .number; start = c .start; size = z; kind = k; numbers = numbersOf k h }) (after c k z)
-
--- what is handed out by the fixed part is what the bytes of the message give
-handed-out : (k : Kind) (c : Cursor) (t : List ℕ) (z : ℕ) → 2 + fixedSize k ≤ z → z ≤ length t →
-    handedOut c k (fixedPart k t) z ≡ handed (located c k (take z t)) (after c k z)
-handed-out k c t z least fits = rw (fixed-take k z t least fits, length-take-le z t fits)
+-- a fixed part that fits is as long as its kind's
+fixed-long : (k : Kind) (t : List ℕ) → 2 + fixedSize k ≤ length t → length (fixedPart k t) ≡ fixedSize k
+unfolding fixedPart
+fixed-long k t h = length-take-le (fixedSize k) (drop 2 t) (simp length-drop (omega arith))
 
 module _ (k : Kind) (c : Cursor) (t h : List ℕ) (x : Fixed k c t h) where
   pub fixed-length : length h ≡ fixedSize k
-  unfolding fixedPart
-  fixed-length =
-      let room : fixedSize k ≤ length (drop 2 t) = simp length-drop (omega (arith, x .fits)) in
-      ap length (x .part) ∙ length-take-le (fixedSize k) (drop 2 t) room
+  fixed-length = ap length (x .part) ∙ fixed-long k t (x .fits)
 
   -- one of checks 4 to 9 refuses
   pub judge-own : (f : ℕ) → first (ownChecks k h) ≡ f → (f ≡ 0 → ⊥) → judgeAs (Known k) c t ≡ faulty f
@@ -137,12 +130,61 @@ module _ (k : Kind) (c : Cursor) (t h : List ℕ) (x : Fixed k c t h) where
           let same : sizeOf k h ≡ z = omega arith in
           known k c t 11 (x .early) (last ∙ simp (← x .part, same, le-ltb _ _ g, lt-ltb _ _ l))
 
-      -- every check passed, and the message is handed out
-      pub step-whole : z ≤ limit → z ≤ length t → stepBy (judgeAs (Known k) c t) c t ≡ handedOut c k h z
-      step-whole g l =
+      -- every check passed
+      pub judge-passed : z ≤ limit → z ≤ length t → judgeAs (Known k) c t ≡ whole k z
+      judge-passed g l =
           let same : sizeOf k (fixedPart k t) ≡ z = rw (x .part) at sized in
-          let least : 2 + fixedSize k ≤ z = omega (arith, size-least k h) in
-          rw (known k c t 0 (x .early) (last ∙ simp (same, le-ltb _ _ g, le-ltb _ _ l)), same, x .part) (sym (handed-out k c t z least l))
+          rw (known k c t 0 (x .early) (last ∙ simp (same, le-ltb _ _ g, le-ltb _ _ l)), same)
         where
           sized : sizeOf k h ≡ z
           sized = omega arith
+
+-- a message of kind k and size z handed out, by its fixed part h
+abbrev pub handedOut : Cursor → Kind → List ℕ → ℕ → Stepped
+handedOut c k h z =
+    handed (record { number = c .number; start = c .start; size = z; kind = k; numbers = numbersOf k h }) (after c k z)
+
+-- what is handed out by the fixed part is what the bytes of the message give
+handed-out : (k : Kind) (c : Cursor) (t : List ℕ) (z : ℕ) → 2 + fixedSize k ≤ z → z ≤ length t →
+    handedOut c k (fixedPart k t) z ≡ handed (located c k (take z t)) (after c k z)
+handed-out k c t z least fits = rw (fixed-take k z t least fits, length-take-le z t fits)
+
+-- the step from c over s, where no bytes are left
+pub step-ended : (c : Cursor) (s : List ℕ) → length s ≤ c .start → step c s ≡ over (ended c)
+unfolding step stepAt
+step-ended c s h = rw (drop-of-length-le s h)
+
+-- and where bytes are left: by what judging them finds
+module _ (c : Cursor) (s : List ℕ) (h : c .start < length s) where
+  front : step c s ≡ stepBy (judge c (drop (c .start) s)) c (drop (c .start) s)
+  unfolding step
+  front = step-front c (drop (c .start) s) (simp length-drop (omega arith))
+
+  pub step-faulty : {f : ℕ} → judge c (drop (c .start) s) ≡ faulty f → step c s ≡ over (refused f (c .number) (c .start))
+  step-faulty e = front ∙ ap (λ (j : Judged). stepBy j c (drop (c .start) s)) e
+
+  module _ {k : Kind} {z : ℕ} (e : judge c (drop (c .start) s) ≡ whole k z) where
+    pub step-whole : step c s ≡ handed (located c k (take z (drop (c .start) s))) (after c k z)
+    step-whole = front ∙ ap (λ (j : Judged). stepBy j c (drop (c .start) s)) e
+
+    judged : WholeAt c (drop (c .start) s) k z
+    judged = judge-whole c (drop (c .start) s) e
+
+    least : 2 + fixedSize k ≤ z
+    least = omega (arith, size-least k (fixedPart k (drop (c .start) s)), judged .size)
+
+    -- the fixed part is there, the count is not yet reached, and the message ends in the stream
+    pub whole-fixed : 2 + fixedSize k ≤ length (drop (c .start) s)
+    whole-fixed = omega (arith, least, judged .fits)
+
+    pub whole-long : length (fixedPart k (drop (c .start) s)) ≡ fixedSize k
+    whole-long = fixed-long k (drop (c .start) s) whole-fixed
+
+    pub whole-counted : c .number < messageLimit
+    whole-counted = judged .counted
+
+    pub whole-ends : c .start + z ≤ length s
+    whole-ends = omega (arith, judged .fits, length-drop (c .start) s)
+
+    pub step-handed-out : handedOut c k (fixedPart k (drop (c .start) s)) z ≡ step c s
+    step-handed-out = handed-out k c (drop (c .start) s) z least (judged .fits) ∙ sym step-whole

@@ -9,13 +9,20 @@ use Rattle.mrd_stream.specs.declared.answer.Placed
 use Rattle.mrd_stream.specs.declared.answer.Step.{Step}
 use Rattle.mrd_stream.specs.declared.answer.Step
 use Rattle.mrd_stream.specs.declared.answer.Record.{Record}
-use Rattle.mrd_stream.specs.Walk.{Verdict, accepted, refused}
+use Rattle.mrd_stream.specs.declared.judge.Judgement.{Judgement}
+use Rattle.mrd_stream.specs.declared.judge.Judgement
+use Rattle.mrd_stream.specs.Walk.{Judged, whole, faulty, Verdict, accepted, refused}
 use Rattle.mrd_stream.specs.Places.{Located, Answer, found, stream, number, Stepped, handed, over}
 
 -- the stream's answer
 abbrev pub toldChecked : Checked → Verdict
 toldChecked (Checked.Accepted n) = accepted n
 toldChecked (Checked.Refused r) = refused (r .number) (r .record) (r .byte)
+
+-- what judging a message finds
+abbrev pub toldJudgement : Judgement → Judged
+toldJudgement (Judgement.Whole k z) = whole k z
+toldJudgement (Judgement.Faulty n) = faulty n
 
 -- a record's place and kind
 abbrev pub toldRecord : Record → Located

@@ -3,11 +3,9 @@ ghost use mathlib.Core.Path.{_≡_};
 ghost use Prim.Native.Nat.{_+_, _<_, _^_};
 ghost use Rattle.mrd_stream.specs.Order.{isStart, isBeforeHeader, isHeaded, isOpen, isClosed, allowed, nextPhase};
 ghost use Rattle.mrd_stream.specs.Walk.{messageLimit, refused, ended, after, beginning};
-ghost use Rattle.mrd_stream.specs.Places.{over};
-ghost use Rattle.mrd_stream.specs.Told.{toldChecked, toldStep};
+ghost use Rattle.mrd_stream.specs.Told.{toldChecked};
 use crate::answer::Checked;
 use crate::answer::Refusal;
-use crate::answer::Step;
 use mrd_format::Kind;
 use mrd_format::refusal;
 
@@ -160,13 +158,13 @@ impl Cursor {
     }
 
     // The answer where the message that is due is refused with this number.
-    pub(crate) fn refused(self, number: u8) -> Step
-        ensures { λ r. ⌜ toldStep r ≡ over (refused number (self .number) (self .start)) ⌝ }
+    pub(crate) fn refused(self, number: u8) -> Checked
+        ensures { λ r. ⌜ toldChecked r ≡ refused number (self .number) (self .start) ⌝ }
     {
-        Step::End(Checked::Refused(Refusal {
+        Checked::Refused(Refusal {
             number: number,
             record: self.number,
             byte: self.start,
-        }))
+        })
     }
 }

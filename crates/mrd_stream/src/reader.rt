@@ -1,16 +1,25 @@
 // The reader: a whole stream checked, walked record by record, and asked for a record's place and kind.
 ghost use mathlib.Core.Path.{_≡_};
-ghost use Rattle.mrd_stream.specs.Walk.{verdict, answer};
+ghost use Prim.Native.Nat.{_+_, _<_, _^_};
+ghost use lib.ListN.{length};
+ghost use Rattle.mrd_format.specs.Kinds.{fixedSize};
+ghost use Rattle.mrd_stream.specs.Walk.{messageLimit, verdict, answer};
 ghost use Rattle.mrd_stream.specs.Places.{place, step};
+ghost use Rattle.mrd_stream.specs.JudgeLaws.{handedOut};
 ghost use Rattle.mrd_stream.specs.StepLaws.{from};
 ghost use Rattle.mrd_stream.specs.Seek.{concluded, keptBy};
 ghost use Rattle.mrd_stream.specs.Told.{toldChecked, toldPlaced, toldRecord, toldStep};
 use crate::answer::Checked;
+use crate::answer::Place;
 use crate::answer::Placed;
 use crate::answer::Record;
 use crate::answer::Step;
 use crate::cursor::Cursor;
+use crate::judge::Judgement;
+use crate::judge::fixed_part;
 use crate::judge::judge;
+use mrd_format::Kind;
+use mrd_format::message;
 use mrd_format::refusal;
 
 impl Cursor {
@@ -25,8 +34,31 @@ impl Cursor {
         if s.len() <= start {
             return Step::End(self.ended());
         }
-        judge(self, &s[start..])
+        let judgement = judge(self, &s[start..]);
+        match judgement {
+            Judgement::Whole(kind, size) => {
+                handed(self, kind, fixed_part(kind, &s[start..]), size)
+            }
+            Judgement::Faulty(number) => Step::End(self.refused(number)),
+        }
     }
+}
+
+// A message that passed every check, handed out.
+fn handed(c: Cursor, kind: Kind, h: &[u8], size: usize) -> Step
+    requires { ⌜ (length (now h) ≡ fixedSize kind) × (c .number < messageLimit) × (c .start + size < 2 ^ 64) ⌝ }
+    ensures { λ r. ⌜ toldStep r ≡ handedOut c kind (now (h .entry)) size ⌝ }
+{
+    let place = Place {
+        number: c.number,
+        start: c.start,
+        size: size,
+    };
+    let record = Record {
+        place: place,
+        shape: message::shape(kind, h),
+    };
+    Step::Message(record, c.after(kind, size))
 }
 
 // Checks a whole stream: accepted with the number of its records, or the refusal of its first faulty
@@ -44,13 +76,17 @@ pub fn check_from(c: Cursor, s: &[u8]) -> Checked
 {
     let mut c = c;
     loop {
-        let step = c.next(s);
-        match step {
-            Step::Message(_, next) => {
-                c = next;
+        let start = c.start;
+        if s.len() <= start {
+            return c.ended();
+        }
+        let judgement = judge(c, &s[start..]);
+        match judgement {
+            Judgement::Whole(kind, size) => {
+                c = c.after(kind, size);
             }
-            Step::End(answer) => {
-                return answer;
+            Judgement::Faulty(number) => {
+                return c.refused(number);
             }
         }
     }

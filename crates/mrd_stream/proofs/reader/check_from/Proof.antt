@@ -5,10 +5,13 @@ use Prim.Native.Nat.{_-_}
 use mathlib.Core.Path.{_≡_, refl, sym, ap, _∙_}
 use borrow.Author.Needs.{needs}
 use denote.Ref.{now}
-use lib.ListN.{length}
+use lib.ListN.{length, drop}
+use Rattle.mrd_numbers.specs.Stored.{lent-is}
+use Rattle.mrd_stream.specs.declared.cursor.Cursor.{Cursor}
+use Rattle.mrd_stream.specs.JudgeLaws as laws
 use Rattle.mrd_stream.specs.StepLaws.{from, kept-next, kept-end, on-less, step-handed}
-use Rattle.mrd_stream.specs.Told.{toldStep}
-use Rattle.mrd_stream.specs.Walk.{verdict}
+use Rattle.mrd_stream.specs.Told.{toldJudgement}
+use Rattle.mrd_stream.specs.Walk.{verdict, judge, whole, faulty}
 use Rattle.mrd_stream.proofs.reader.check_from.Statement.{statement}
 use Rattle.mrd_stream.proofs.reader.check_from.Tie as tie
 
@@ -21,35 +24,80 @@ abbrev μ-loop : tie.MeasureT-loop
 loop-holds : tie.Need-loop-holds Inv-loop μ-loop
 loop-holds c = refl
 
-next-requires : tie.Need-next-requires Inv-loop μ-loop
-next-requires c κs = search needs
-
-enum-known-step : tie.Need-enum-known-step Inv-loop μ-loop
-enum-known-step c = search needs
-
-loop-less : tie.Need-loop-less Inv-loop μ-loop
-loop-less c =
-    let s = now (c .before .before .before .before .before .before .args .s) in
-    let loop = c .before .before .before .before .loop in
-    let handed = sym (c .before .before .before .next .ensures) ∙ ap toldStep (c .before .step .given .1) in
-    on-less s (step-handed (loop .c) s handed)
-
-loop-again : tie.Need-loop-again Inv-loop μ-loop
-loop-again c =
-    let s = now (c .before .before .before .before .before .before .args .s) in
-    let loop = c .before .before .before .before .loop in
-    let handed = sym (c .before .before .before .next .ensures) ∙ ap toldStep (c .before .step .given .1) in
-    kept-next verdict s verdict (loop .inv) (step-handed (loop .c) s handed) (λ r. refl)
-
-enum-known-step-2 : tie.Need-enum-known-step-2 Inv-loop μ-loop
-enum-known-step-2 c = search needs
+ended-requires : tie.Need-ended-requires Inv-loop μ-loop
+ended-requires c κs = search needs
 
 returns : tie.Need-returns Inv-loop μ-loop
 returns c =
-    let s = now (c .before .before .before .before .before .before .args .s) in
-    let loop = c .before .before .before .before .loop in
-    let over = sym (c .before .before .before .next .ensures) ∙ ap toldStep (c .before .step2 .given .1) in
-    kept-end verdict s (loop .c) (loop .inv) over
+    let loop = c .before .before .loop in
+    let s = now (c .before .before .before .before .args .s) in
+    c .ended .ensures ∙ kept-end verdict s (loop .c) (loop .inv) (laws.step-ended (loop .c) s (c .before .if1 .taken))
+
+sub-judge : tie.Need-sub-judge Inv-loop μ-loop
+sub-judge c = search needs
+
+part-judge-start : tie.Need-part-judge-start Inv-loop μ-loop
+part-judge-start c = search needs
+
+part-judge-end : tie.Need-part-judge-end Inv-loop μ-loop
+part-judge-end c = search needs
+
+judge-requires : tie.Need-judge-requires Inv-loop μ-loop
+judge-requires c κs = search needs
+
+enum-known-judgement : tie.Need-enum-known-judgement Inv-loop μ-loop
+enum-known-judgement c = search needs
+
+-- the message that is due is whole
+found-whole : (c : tie.After-known-told Inv-loop μ-loop) →
+    let loop = c .before .before .before .before .before .before .loop in
+    let s = now (c .before .before .before .before .before .before .before .before .args .s) in
+    let given = c .before .judgement .given .0 in
+    judge (loop .c) (drop (loop .c .start) s) ≡ whole (given .0) (given .1 .0)
+found-whole c =
+    let loop = c .before .before .before .before .before .before .loop in
+    let s = now (c .before .before .before .before .before .before .before .before .args .s) in
+    ap (judge (loop .c)) (sym (lent-is (loop .c .start) s)) ∙ sym (c .before .before .before .judge .ensures) ∙
+    ap toldJudgement (c .before .judgement .given .1)
+
+after-requires : tie.Need-after-requires Inv-loop μ-loop
+after-requires c κs =
+    let test = c .before .before .before .before .before in
+    let loop = test .before .loop in
+    let s = now (test .before .before .before .args .s) in
+    let size = laws.whole-ends (loop .c) s (test .if1 .left) (found-whole c) in
+    (laws.whole-counted (loop .c) s (test .if1 .left) (found-whole c), search needs)
+
+loop-less : tie.Need-loop-less Inv-loop μ-loop
+loop-less c =
+    let test = c .before .before .before .before .before .before in
+    let loop = test .before .loop in
+    let s = now (test .before .before .before .args .s) in
+    rw (c .after .ensures) (on-less s (step-handed (loop .c) s (laws.step-whole (loop .c) s (test .if1 .left) (found-whole (c .before)))))
+
+loop-again : tie.Need-loop-again Inv-loop μ-loop
+loop-again c =
+    let test = c .before .before .before .before .before .before in
+    let loop = test .before .loop in
+    let s = now (test .before .before .before .args .s) in
+    rw (c .after .ensures)
+    (kept-next verdict s verdict (loop .inv) (step-handed (loop .c) s (laws.step-whole (loop .c) s (test .if1 .left) (found-whole (c .before)))) (λ r. refl))
+
+enum-known-judgement-2 : tie.Need-enum-known-judgement-2 Inv-loop μ-loop
+enum-known-judgement-2 c = search needs
+
+refused-requires : tie.Need-refused-requires Inv-loop μ-loop
+refused-requires c κs = search needs
+
+returns-2 : tie.Need-returns-2 Inv-loop μ-loop
+returns-2 c =
+    let judged = c .before .before .before .before in
+    let test = judged .before .before in
+    let loop = test .before .loop in
+    let s = now (test .before .before .before .args .s) in
+    let due : judge (loop .c) (drop (loop .c .start) s) ≡ faulty (c .before .before .judgement2 .given .0 .0) =
+    ap (judge (loop .c)) (sym (lent-is (loop .c .start) s)) ∙ sym (judged .judge .ensures) ∙ ap toldJudgement (c .before .before .judgement2 .given .1) in
+    c .refused .ensures ∙ kept-end verdict s (loop .c) (loop .inv) (laws.step-faulty (loop .c) s (test .if1 .left) due)
 
 pub check-from-spec : {M : Type 1} → statement M
 check-from-spec =
@@ -58,9 +106,16 @@ check-from-spec =
     Inv-loop
     μ-loop
     loop-holds
-    next-requires
-    enum-known-step
+    ended-requires
+    returns
+    sub-judge
+    part-judge-start
+    part-judge-end
+    judge-requires
+    enum-known-judgement
+    after-requires
     loop-less
     loop-again
-    enum-known-step-2
-    returns)
+    enum-known-judgement-2
+    refused-requires
+    returns-2)

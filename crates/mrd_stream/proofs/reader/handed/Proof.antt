@@ -1,8 +1,8 @@
--- `mrd_stream::judge::handed` meets its contract: each number is the definition's.
+-- `mrd_stream::reader::handed` meets its contract: each number is the definition's.
 -- Assumes nothing.
 use borrow.Author.Needs.{needs}
-use Rattle.mrd_stream.proofs.judge.handed.Statement.{statement}
-use Rattle.mrd_stream.proofs.judge.handed.Tie as tie
+use Rattle.mrd_stream.proofs.reader.handed.Statement.{statement}
+use Rattle.mrd_stream.proofs.reader.handed.Tie as tie
 
 shape-requires : tie.Need-shape-requires
 shape-requires c κs = search needs

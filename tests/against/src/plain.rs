@@ -3,7 +3,7 @@
 
 use crate::tally::{Outcome, Tally};
 use cotterleaf::raw;
-use second_reader::{self as second, Detail, Field, Lent, Refused};
+use second_reader::{self as second, Detail, Field, Kind, Lent, Refused};
 use streams::Rng;
 
 /// Number, record and byte of a refusal as the C face gives them.
@@ -166,18 +166,24 @@ fn unknown_part(tally: &Tally, rng: &mut Rng, bytes: &[u8], n: u64) -> Outcome {
 pub fn steps(tally: &Tally, bytes: &[u8], read: &crate::walk::Read) -> Outcome {
     let mut cursor = raw::beginning();
     for (i, record) in read.records.iter().enumerate() {
-        let step = raw::next(bytes, cursor);
+        let phase = match record.detail.kind() {
+            Kind::ConfigurationName | Kind::ConfigurationText => 1,
+            Kind::HeaderText => 2,
+            Kind::Close => 3,
+            _ => cursor.phase,
+        };
         let next = raw::mrd_cursor {
             number: i + 1,
             start: (record.start + record.size) as usize,
-            phase: step.next.phase,
+            phase,
         };
         let expected = raw::mrd_step {
             here: placed(Ok(*record)),
             next,
             ..raw::mrd_step::default()
         };
-        tally.same_value(|| format!("mrd_next at {cursor:?}"), step, expected)?;
+        let question = || format!("mrd_next at {cursor:?}");
+        tally.same_value(question, raw::next(bytes, cursor), expected)?;
         cursor = next;
     }
     let (refusal, record, byte) = refusal_of(&read.answer.map_err(Refused::from));

@@ -53,14 +53,13 @@ pub fn each_family(tally: &mut Tally, rng: &mut Rng, bytes: &[u8], read: &Read) 
         asked.view(tally, n, part)?;
         let (n, offset) = drawn_field(rng, read);
         asked.field(tally, n, offset)?;
-        // A list of another length cannot be lent.
-        if let Ok(counters) = counters(rng, bytes).try_into() {
-            let from = match rng.below(2) {
-                0 => 0,
-                _ => record_number(rng, count),
-            };
-            asked.find(tally, from, &counters)?;
-        }
+        // A list of another length cannot be lent: zeros stand for it.
+        let counters = counters(rng, bytes).try_into().unwrap_or([0; 17]);
+        let from = match rng.below(2) {
+            0 => 0,
+            _ => record_number(rng, count),
+        };
+        asked.find(tally, from, &counters)?;
         asked.matches(tally)?;
     }
     written::bytes_written(tally, rng, Family::NormalForm, bytes, bytes.len())?;

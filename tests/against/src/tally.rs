@@ -157,8 +157,13 @@ impl Tally {
     ) -> Outcome {
         let number = second.as_ref().err().map_or(0, |refused| refused.number());
         self.same_value(question, library, second)?;
-        *self.answers.entry((family, number)).or_default() += 1;
+        self.count(family, number);
         Ok(())
+    }
+
+    /// Counts a number, 0 for an answer, that both readers give.
+    pub fn count(&mut self, family: Family, number: u32) {
+        *self.answers.entry((family, number)).or_default() += 1;
     }
 
     /// Compares two values that are no answers, or parts of some.

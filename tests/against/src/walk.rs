@@ -1,9 +1,9 @@
 //! The check and the walk: every step over a stream, the answer from each cursor on, and made-up cursors.
 
-use crate::tally::{Family, Outcome, Tally};
-use crate::told;
+use crate::tally::{Difference, Family, Outcome, Tally};
+use crate::told::{self, Told};
 use cotterleaf::{Cursor, Step, Stream};
-use second_reader::{self as second, Kind, Record, Refusal, MOST_MESSAGES};
+use second_reader::{self as second, Kind, Record, Refusal, Refused, MOST_MESSAGES};
 use streams::Rng;
 
 /// What the second reader says of a stream: the records before any fault, and the answer.
@@ -63,43 +63,57 @@ fn before_last(front: &[u8]) -> Vec<Record> {
     records
 }
 
+/// What a step meets, in the second reader's words.
+#[derive(Debug, PartialEq)]
+enum Met {
+    Record(Record),
+    End(Told<u64>),
+}
+
+/// Compares one step of the library and gives the cursor after it, where it hands out a record.
+fn same_step(
+    tally: &mut Tally,
+    stream: &Stream,
+    cursor: Cursor,
+    expected: Met,
+) -> Result<Option<Cursor>, Difference> {
+    let (met, next) = match stream.step(cursor) {
+        Step::Record(here, next) => (Met::Record(told::record(here)), Some(next)),
+        Step::End(end) => (Met::End(told::number(end)), None),
+    };
+    let number = match expected {
+        Met::End(Err(refused)) => refused.number(),
+        _ => 0,
+    };
+    tally.same_value(|| format!("step at {cursor:?}"), met, expected)?;
+    tally.count(Family::Walk, number);
+    Ok(next)
+}
+
+/// Compares the answer of the rest from a cursor on.
+fn same_rest(tally: &mut Tally, stream: &Stream, cursor: Cursor, answer: Told<u64>) -> Outcome {
+    let rest = told::number(stream.check_from(cursor));
+    let question = || format!("check from {cursor:?}");
+    tally.same(Family::Walk, question, rest, answer)
+}
+
 /// The stream's answer, and each step of the walk over it. From some of the cursors the rest is checked too,
 /// whose answer is the stream's.
 pub fn walk(tally: &mut Tally, rng: &mut Rng, bytes: &[u8], read: &Read) -> Outcome {
     let stream = Stream::new(bytes);
-    let answer = read.answer.map_err(second::Refused::from);
-    let question = || "check".to_string();
-    tally.same(
-        Family::Check,
-        question,
-        told::number(stream.check()),
-        answer,
-    )?;
+    let answer = read.answer.map_err(Refused::from);
+    let checked = told::number(stream.check());
+    tally.same(Family::Check, || "check".to_string(), checked, answer)?;
     let mut cursor = Cursor::beginning();
     for record in &read.records {
-        let question = || format!("step at {cursor:?}");
-        match stream.step(cursor) {
-            Step::Record(here, next) => {
-                tally.same(Family::Walk, question, Ok(told::record(here)), Ok(*record))?;
-                cursor = next;
-            }
-            Step::End(end) => {
-                return tally.same(Family::Walk, question, told::number(end), Ok(record.number))
-            }
-        }
+        let next = same_step(tally, &stream, cursor, Met::Record(*record))?;
+        cursor = next.expect("a record comes with the cursor after it");
         tally.note_kind(record.detail.kind());
         if rng.one_in(4 + read.count() / 4) {
-            let question = || format!("check from {cursor:?}");
-            let rest = told::number(stream.check_from(cursor));
-            tally.same(Family::Walk, question, rest, answer)?;
+            same_rest(tally, &stream, cursor, answer)?;
         }
     }
-    let question = || format!("end of the walk at {cursor:?}");
-    let end = match stream.step(cursor) {
-        Step::End(end) => told::number(end),
-        Step::Record(here, _) => Ok(here.number as u64),
-    };
-    tally.same(Family::Walk, question, end, answer)?;
+    same_step(tally, &stream, cursor, Met::End(answer))?;
     let handed_out = stream.records().filter(|step| step.is_ok()).count();
     let question = || "records that the iterator hands out".to_string();
     tally.same_value(question, handed_out, read.records.len())
@@ -180,23 +194,19 @@ fn count_to_the_limit(read: &mut Read, cursor: Cursor, closed: bool) {
     });
 }
 
-/// The step at a made-up cursor, and the answer from it on.
+/// The step at a made-up cursor, and the answer from it and from the next on.
 pub fn made_up_cursor(tally: &mut Tally, rng: &mut Rng, bytes: &[u8], read: &Read) -> Outcome {
     let stream = Stream::new(bytes);
     let cursor = drawn_cursor(rng, bytes, read);
     let expected = read_from(bytes, cursor);
-    let answer = expected.answer.map_err(second::Refused::from);
-    let question = || format!("check from the made-up {cursor:?}");
-    let rest = told::number(stream.check_from(cursor));
-    tally.same(Family::Walk, question, rest, answer)?;
-    let question = || format!("step at the made-up {cursor:?}");
-    match (stream.step(cursor), expected.records.first()) {
-        (Step::Record(here, next), Some(&record)) => {
-            tally.same(Family::Walk, question, Ok(told::record(here)), Ok(record))?;
-            let rest = told::number(stream.check_from(next));
-            tally.same(Family::Walk, question, rest, answer)
-        }
-        (Step::End(end), None) => tally.same(Family::Walk, question, told::number(end), answer),
-        (step, record) => tally.same_value(question, format!("{step:?}"), format!("{record:?}")),
+    let answer = expected.answer.map_err(Refused::from);
+    same_rest(tally, &stream, cursor, answer)?;
+    let met = match expected.records.first() {
+        Some(&record) => Met::Record(record),
+        None => Met::End(answer),
+    };
+    match same_step(tally, &stream, cursor, met)? {
+        Some(next) => same_rest(tally, &stream, next, answer),
+        None => Ok(()),
     }
 }

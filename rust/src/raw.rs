@@ -1,0 +1,589 @@
+//! The C face as include/cotterleaf.h declares it, and each of its functions with slices in place of pointers.
+//! All of this crate's unsafe code is here. The functions take any numbers, so that each of them is safe.
+
+#![allow(non_camel_case_types, clippy::too_many_arguments)]
+
+#[repr(C)]
+#[derive(Clone, Copy, Debug)]
+pub struct mrd_checked {
+    pub refusal: u32,
+    pub record: usize,
+    pub byte: usize,
+    pub count: usize,
+}
+
+#[repr(C)]
+#[derive(Clone, Copy, Debug)]
+pub struct mrd_placed {
+    pub refusal: u32,
+    pub record: usize,
+    pub byte: usize,
+    pub number: usize,
+    pub start: usize,
+    pub size: usize,
+    pub length: usize,
+    pub attribute_length: u64,
+    pub id: u16,
+    pub samples: u16,
+    pub channels: u16,
+    pub dimensions: u16,
+    pub matrix_x: u16,
+    pub matrix_y: u16,
+    pub matrix_z: u16,
+    pub data_type: u16,
+}
+
+#[repr(C)]
+#[derive(Clone, Copy, Debug)]
+pub struct mrd_cursor {
+    pub number: usize,
+    pub start: usize,
+    pub phase: u32,
+}
+
+#[repr(C)]
+#[derive(Clone, Copy, Debug)]
+pub struct mrd_step {
+    pub ended: bool,
+    pub here: mrd_placed,
+    pub next: mrd_cursor,
+    pub answer: mrd_checked,
+}
+
+#[repr(C)]
+#[derive(Clone, Copy, Debug)]
+pub struct mrd_view_place {
+    pub refusal: u32,
+    pub record: usize,
+    pub byte: usize,
+    pub start: usize,
+    pub length: usize,
+}
+
+#[repr(C)]
+#[derive(Clone, Copy, Debug)]
+pub struct mrd_field_answer {
+    pub refusal: u32,
+    pub record: usize,
+    pub byte: usize,
+    pub r#type: u32,
+    pub whole: u64,
+    pub integer: i32,
+    pub float_bits: u32,
+}
+
+#[repr(C)]
+#[derive(Clone, Copy, Debug)]
+pub struct mrd_found {
+    pub refusal: u32,
+    pub record: usize,
+    pub byte: usize,
+    pub number: usize,
+}
+
+#[repr(C)]
+#[derive(Clone, Copy, Debug)]
+pub struct mrd_written {
+    pub refusal: u32,
+    pub record: usize,
+    pub byte: usize,
+    pub length: usize,
+}
+
+#[repr(C)]
+#[derive(Clone, Copy, Debug)]
+pub struct mrd_matched {
+    pub refusal: u32,
+    pub record: usize,
+    pub byte: usize,
+}
+
+#[repr(C)]
+#[derive(Clone, Copy, Debug)]
+pub struct mrd_put {
+    pub refusal: u32,
+    pub position: usize,
+}
+
+/// The numbers of `mrd_field_answer::type`.
+pub const MRD_WHOLE: u32 = 1;
+pub const MRD_SIGNED: u32 = 2;
+pub const MRD_FLOAT: u32 = 3;
+
+extern "C" {
+    fn mrd_check(stream: *const u8, stream_length: usize) -> mrd_checked;
+    fn mrd_place(stream: *const u8, stream_length: usize, n: usize) -> mrd_placed;
+    fn mrd_beginning() -> mrd_cursor;
+    fn mrd_next(stream: *const u8, stream_length: usize, cursor: mrd_cursor) -> mrd_step;
+    fn mrd_check_from(stream: *const u8, stream_length: usize, cursor: mrd_cursor) -> mrd_checked;
+    fn mrd_view(
+        stream: *const u8,
+        stream_length: usize,
+        n: usize,
+        part: u32,
+        channel: usize,
+    ) -> mrd_view_place;
+    fn mrd_field(
+        stream: *const u8,
+        stream_length: usize,
+        n: usize,
+        offset: usize,
+    ) -> mrd_field_answer;
+    fn mrd_find(
+        stream: *const u8,
+        stream_length: usize,
+        n: usize,
+        counters: *const u16,
+    ) -> mrd_found;
+
+    fn mrd_place_with_file(
+        stream: *const u8,
+        stream_length: usize,
+        n: usize,
+        file: *const u8,
+        file_length: usize,
+    ) -> mrd_placed;
+    fn mrd_view_with_file(
+        stream: *const u8,
+        stream_length: usize,
+        n: usize,
+        part: u32,
+        channel: usize,
+        file: *const u8,
+        file_length: usize,
+    ) -> mrd_view_place;
+    fn mrd_field_with_file(
+        stream: *const u8,
+        stream_length: usize,
+        n: usize,
+        offset: usize,
+        file: *const u8,
+        file_length: usize,
+    ) -> mrd_field_answer;
+    fn mrd_find_with_file(
+        stream: *const u8,
+        stream_length: usize,
+        n: usize,
+        counters_asked: *const u16,
+        file: *const u8,
+        file_length: usize,
+    ) -> mrd_found;
+
+    fn mrd_place_with_columns(
+        stream: *const u8,
+        stream_length: usize,
+        n: usize,
+        starts: *const u64,
+        starts_length: usize,
+        ids: *const u16,
+        ids_length: usize,
+        counters: *const u32,
+        counters_length: usize,
+    ) -> mrd_placed;
+    fn mrd_view_with_columns(
+        stream: *const u8,
+        stream_length: usize,
+        n: usize,
+        part: u32,
+        channel: usize,
+        starts: *const u64,
+        starts_length: usize,
+        ids: *const u16,
+        ids_length: usize,
+        counters: *const u32,
+        counters_length: usize,
+    ) -> mrd_view_place;
+    fn mrd_field_with_columns(
+        stream: *const u8,
+        stream_length: usize,
+        n: usize,
+        offset: usize,
+        starts: *const u64,
+        starts_length: usize,
+        ids: *const u16,
+        ids_length: usize,
+        counters: *const u32,
+        counters_length: usize,
+    ) -> mrd_field_answer;
+    fn mrd_find_with_columns(
+        stream: *const u8,
+        stream_length: usize,
+        n: usize,
+        counters_asked: *const u16,
+        starts: *const u64,
+        starts_length: usize,
+        ids: *const u16,
+        ids_length: usize,
+        counters: *const u32,
+        counters_length: usize,
+    ) -> mrd_found;
+
+    fn mrd_flag_test(flags: u64, n: u32) -> bool;
+    fn mrd_flag_set(flags: u64, n: u32) -> u64;
+    fn mrd_flag_clear(flags: u64, n: u32) -> u64;
+    fn mrd_counter_step(earlier: u32, later: u32) -> i32;
+
+    fn mrd_normal_form(
+        stream: *const u8,
+        stream_length: usize,
+        out: *mut u8,
+        out_length: usize,
+    ) -> mrd_written;
+    fn mrd_write_index(
+        stream: *const u8,
+        stream_length: usize,
+        out: *mut u8,
+        out_length: usize,
+    ) -> mrd_written;
+    fn mrd_fill_columns(
+        stream: *const u8,
+        stream_length: usize,
+        starts: *mut u64,
+        starts_length: usize,
+        ids: *mut u16,
+        ids_length: usize,
+        counters: *mut u32,
+        counters_length: usize,
+    ) -> mrd_written;
+    fn mrd_index_matches(
+        stream: *const u8,
+        stream_length: usize,
+        file: *const u8,
+        file_length: usize,
+    ) -> mrd_matched;
+    fn mrd_columns_match(
+        stream: *const u8,
+        stream_length: usize,
+        starts: *const u64,
+        starts_length: usize,
+        ids: *const u16,
+        ids_length: usize,
+        counters: *const u32,
+        counters_length: usize,
+    ) -> mrd_matched;
+    fn mrd_write(
+        id: u16,
+        header: *const u8,
+        header_length: usize,
+        name: *const u8,
+        name_length: usize,
+        text: *const u8,
+        text_length: usize,
+        trajectory: *const u8,
+        trajectory_length: usize,
+        samples: *const u8,
+        samples_length: usize,
+        attributes: *const u8,
+        attributes_length: usize,
+        pixels: *const u8,
+        pixels_length: usize,
+        waveform: *const u8,
+        waveform_length: usize,
+        out: *mut u8,
+        out_length: usize,
+        position: usize,
+    ) -> mrd_put;
+}
+
+pub fn check(stream: &[u8]) -> mrd_checked {
+    // SAFETY: the pointer and length are those of a slice that is borrowed for the call.
+    unsafe { mrd_check(stream.as_ptr(), stream.len()) }
+}
+
+pub fn place(stream: &[u8], n: usize) -> mrd_placed {
+    // SAFETY: the pointer and length are those of a slice that is borrowed for the call.
+    unsafe { mrd_place(stream.as_ptr(), stream.len(), n) }
+}
+
+pub fn beginning() -> mrd_cursor {
+    // SAFETY: it takes nothing.
+    unsafe { mrd_beginning() }
+}
+
+pub fn next(stream: &[u8], cursor: mrd_cursor) -> mrd_step {
+    // SAFETY: the pointer and length are those of a slice that is borrowed for the call; any cursor may be lent.
+    unsafe { mrd_next(stream.as_ptr(), stream.len(), cursor) }
+}
+
+pub fn check_from(stream: &[u8], cursor: mrd_cursor) -> mrd_checked {
+    // SAFETY: the pointer and length are those of a slice that is borrowed for the call; any cursor may be lent.
+    unsafe { mrd_check_from(stream.as_ptr(), stream.len(), cursor) }
+}
+
+pub fn view(stream: &[u8], n: usize, part: u32, channel: usize) -> mrd_view_place {
+    // SAFETY: the pointer and length are those of a slice that is borrowed for the call.
+    unsafe { mrd_view(stream.as_ptr(), stream.len(), n, part, channel) }
+}
+
+pub fn field(stream: &[u8], n: usize, offset: usize) -> mrd_field_answer {
+    // SAFETY: the pointer and length are those of a slice that is borrowed for the call.
+    unsafe { mrd_field(stream.as_ptr(), stream.len(), n, offset) }
+}
+
+pub fn find(stream: &[u8], n: usize, counters: &[u16; 17]) -> mrd_found {
+    // SAFETY: the slice is borrowed for the call, and the array has the seventeen numbers that are read.
+    unsafe { mrd_find(stream.as_ptr(), stream.len(), n, counters.as_ptr()) }
+}
+
+pub fn place_with_file(stream: &[u8], n: usize, file: &[u8]) -> mrd_placed {
+    // SAFETY: each pointer and length are those of a slice that is borrowed for the call.
+    unsafe { mrd_place_with_file(stream.as_ptr(), stream.len(), n, file.as_ptr(), file.len()) }
+}
+
+pub fn view_with_file(
+    stream: &[u8],
+    n: usize,
+    part: u32,
+    channel: usize,
+    file: &[u8],
+) -> mrd_view_place {
+    // SAFETY: each pointer and length are those of a slice that is borrowed for the call.
+    unsafe {
+        mrd_view_with_file(
+            stream.as_ptr(),
+            stream.len(),
+            n,
+            part,
+            channel,
+            file.as_ptr(),
+            file.len(),
+        )
+    }
+}
+
+pub fn field_with_file(stream: &[u8], n: usize, offset: usize, file: &[u8]) -> mrd_field_answer {
+    // SAFETY: each pointer and length are those of a slice that is borrowed for the call.
+    unsafe {
+        mrd_field_with_file(
+            stream.as_ptr(),
+            stream.len(),
+            n,
+            offset,
+            file.as_ptr(),
+            file.len(),
+        )
+    }
+}
+
+pub fn find_with_file(stream: &[u8], n: usize, asked: &[u16; 17], file: &[u8]) -> mrd_found {
+    // SAFETY: the slices are borrowed for the call, and the array has the seventeen numbers that are read.
+    unsafe {
+        mrd_find_with_file(
+            stream.as_ptr(),
+            stream.len(),
+            n,
+            asked.as_ptr(),
+            file.as_ptr(),
+            file.len(),
+        )
+    }
+}
+
+pub fn place_with_columns(
+    stream: &[u8],
+    n: usize,
+    starts: &[u64],
+    ids: &[u16],
+    counters: &[u32],
+) -> mrd_placed {
+    // SAFETY: each pointer and length are those of a slice that is borrowed for the call.
+    unsafe {
+        mrd_place_with_columns(
+            stream.as_ptr(),
+            stream.len(),
+            n,
+            starts.as_ptr(),
+            starts.len(),
+            ids.as_ptr(),
+            ids.len(),
+            counters.as_ptr(),
+            counters.len(),
+        )
+    }
+}
+
+pub fn view_with_columns(
+    stream: &[u8],
+    n: usize,
+    part: u32,
+    channel: usize,
+    starts: &[u64],
+    ids: &[u16],
+    counters: &[u32],
+) -> mrd_view_place {
+    // SAFETY: each pointer and length are those of a slice that is borrowed for the call.
+    unsafe {
+        mrd_view_with_columns(
+            stream.as_ptr(),
+            stream.len(),
+            n,
+            part,
+            channel,
+            starts.as_ptr(),
+            starts.len(),
+            ids.as_ptr(),
+            ids.len(),
+            counters.as_ptr(),
+            counters.len(),
+        )
+    }
+}
+
+pub fn field_with_columns(
+    stream: &[u8],
+    n: usize,
+    offset: usize,
+    starts: &[u64],
+    ids: &[u16],
+    counters: &[u32],
+) -> mrd_field_answer {
+    // SAFETY: each pointer and length are those of a slice that is borrowed for the call.
+    unsafe {
+        mrd_field_with_columns(
+            stream.as_ptr(),
+            stream.len(),
+            n,
+            offset,
+            starts.as_ptr(),
+            starts.len(),
+            ids.as_ptr(),
+            ids.len(),
+            counters.as_ptr(),
+            counters.len(),
+        )
+    }
+}
+
+pub fn find_with_columns(
+    stream: &[u8],
+    n: usize,
+    asked: &[u16; 17],
+    starts: &[u64],
+    ids: &[u16],
+    counters: &[u32],
+) -> mrd_found {
+    // SAFETY: the slices are borrowed for the call, and the array has the seventeen numbers that are read.
+    unsafe {
+        mrd_find_with_columns(
+            stream.as_ptr(),
+            stream.len(),
+            n,
+            asked.as_ptr(),
+            starts.as_ptr(),
+            starts.len(),
+            ids.as_ptr(),
+            ids.len(),
+            counters.as_ptr(),
+            counters.len(),
+        )
+    }
+}
+
+pub fn flag_test(flags: u64, n: u32) -> bool {
+    // SAFETY: numbers alone.
+    unsafe { mrd_flag_test(flags, n) }
+}
+
+pub fn flag_set(flags: u64, n: u32) -> u64 {
+    // SAFETY: numbers alone.
+    unsafe { mrd_flag_set(flags, n) }
+}
+
+pub fn flag_clear(flags: u64, n: u32) -> u64 {
+    // SAFETY: numbers alone.
+    unsafe { mrd_flag_clear(flags, n) }
+}
+
+pub fn counter_step(earlier: u32, later: u32) -> i32 {
+    // SAFETY: numbers alone.
+    unsafe { mrd_counter_step(earlier, later) }
+}
+
+pub fn normal_form(stream: &[u8], out: &mut [u8]) -> mrd_written {
+    // SAFETY: each pointer and length are those of a slice that is borrowed for the call, `out` by it alone.
+    unsafe { mrd_normal_form(stream.as_ptr(), stream.len(), out.as_mut_ptr(), out.len()) }
+}
+
+pub fn write_index(stream: &[u8], out: &mut [u8]) -> mrd_written {
+    // SAFETY: each pointer and length are those of a slice that is borrowed for the call, `out` by it alone.
+    unsafe { mrd_write_index(stream.as_ptr(), stream.len(), out.as_mut_ptr(), out.len()) }
+}
+
+pub fn fill_columns(
+    stream: &[u8],
+    starts: &mut [u64],
+    ids: &mut [u16],
+    counters: &mut [u32],
+) -> mrd_written {
+    // SAFETY: each pointer and length are those of a slice that is borrowed for the call, the columns by it alone.
+    unsafe {
+        mrd_fill_columns(
+            stream.as_ptr(),
+            stream.len(),
+            starts.as_mut_ptr(),
+            starts.len(),
+            ids.as_mut_ptr(),
+            ids.len(),
+            counters.as_mut_ptr(),
+            counters.len(),
+        )
+    }
+}
+
+pub fn index_matches(stream: &[u8], file: &[u8]) -> mrd_matched {
+    // SAFETY: each pointer and length are those of a slice that is borrowed for the call.
+    unsafe { mrd_index_matches(stream.as_ptr(), stream.len(), file.as_ptr(), file.len()) }
+}
+
+pub fn columns_match(stream: &[u8], starts: &[u64], ids: &[u16], counters: &[u32]) -> mrd_matched {
+    // SAFETY: each pointer and length are those of a slice that is borrowed for the call.
+    unsafe {
+        mrd_columns_match(
+            stream.as_ptr(),
+            stream.len(),
+            starts.as_ptr(),
+            starts.len(),
+            ids.as_ptr(),
+            ids.len(),
+            counters.as_ptr(),
+            counters.len(),
+        )
+    }
+}
+
+/// The seven variable parts in the order of `mrd_write`: name, text, trajectory, samples, attributes, pixels,
+/// waveform.
+pub fn write(
+    id: u16,
+    header: &[u8],
+    parts: [&[u8]; 7],
+    out: &mut [u8],
+    position: usize,
+) -> mrd_put {
+    let [name, text, trajectory, samples, attributes, pixels, waveform] = parts;
+    // SAFETY: each pointer and length are those of a slice that is borrowed for the call, `out` by it alone.
+    unsafe {
+        mrd_write(
+            id,
+            header.as_ptr(),
+            header.len(),
+            name.as_ptr(),
+            name.len(),
+            text.as_ptr(),
+            text.len(),
+            trajectory.as_ptr(),
+            trajectory.len(),
+            samples.as_ptr(),
+            samples.len(),
+            attributes.as_ptr(),
+            attributes.len(),
+            pixels.as_ptr(),
+            pixels.len(),
+            waveform.as_ptr(),
+            waveform.len(),
+            out.as_mut_ptr(),
+            out.len(),
+            position,
+        )
+    }
+}

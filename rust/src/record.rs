@@ -1,0 +1,189 @@
+//! What a record is told to be: its place, its kind with that kind's own numbers, its parts and fields.
+
+use crate::raw;
+use crate::refusal::Refusal;
+
+/// The ids of the eight kinds of message.
+pub mod id {
+    #![allow(missing_docs)]
+    pub const CONFIGURATION_NAME: u16 = 1;
+    pub const CONFIGURATION_TEXT: u16 = 2;
+    pub const HEADER_TEXT: u16 = 3;
+    pub const CLOSE: u16 = 4;
+    pub const TEXT: u16 = 5;
+    pub const ACQUISITION: u16 = 1008;
+    pub const IMAGE: u16 = 1022;
+    pub const WAVEFORM: u16 = 1026;
+}
+
+/// A record's place and kind.
+#[derive(Clone, Copy, Debug, PartialEq, Eq, Hash)]
+pub struct Record {
+    /// The record number, from 0.
+    pub number: usize,
+    /// Its first byte in the stream, that of its id.
+    pub start: usize,
+    /// Its bytes, the id included.
+    pub size: usize,
+    /// Its kind.
+    pub kind: Kind,
+}
+
+/// A kind of message with that kind's own numbers.
+#[derive(Clone, Copy, Debug, PartialEq, Eq, Hash)]
+#[allow(missing_docs)]
+pub enum Kind {
+    ConfigurationName {
+        length: usize,
+    },
+    ConfigurationText {
+        length: usize,
+    },
+    HeaderText {
+        length: usize,
+    },
+    Close,
+    Text {
+        length: usize,
+    },
+    Acquisition {
+        samples: u16,
+        active_channels: u16,
+        trajectory_dimensions: u16,
+    },
+    Image {
+        matrix_size: [u16; 3],
+        channels: u16,
+        data_type: u16,
+        attribute_length: u64,
+    },
+    Waveform {
+        samples: u16,
+        channels: u16,
+    },
+}
+
+impl Kind {
+    /// The id of messages of this kind.
+    pub fn id(&self) -> u16 {
+        match self {
+            Kind::ConfigurationName { .. } => id::CONFIGURATION_NAME,
+            Kind::ConfigurationText { .. } => id::CONFIGURATION_TEXT,
+            Kind::HeaderText { .. } => id::HEADER_TEXT,
+            Kind::Close => id::CLOSE,
+            Kind::Text { .. } => id::TEXT,
+            Kind::Acquisition { .. } => id::ACQUISITION,
+            Kind::Image { .. } => id::IMAGE,
+            Kind::Waveform { .. } => id::WAVEFORM,
+        }
+    }
+
+    fn of(placed: &raw::mrd_placed) -> Kind {
+        let length = placed.length;
+        match placed.id {
+            id::CONFIGURATION_NAME => Kind::ConfigurationName { length },
+            id::CONFIGURATION_TEXT => Kind::ConfigurationText { length },
+            id::HEADER_TEXT => Kind::HeaderText { length },
+            id::CLOSE => Kind::Close,
+            id::TEXT => Kind::Text { length },
+            id::ACQUISITION => Kind::Acquisition {
+                samples: placed.samples,
+                active_channels: placed.channels,
+                trajectory_dimensions: placed.dimensions,
+            },
+            id::IMAGE => Kind::Image {
+                matrix_size: [placed.matrix_x, placed.matrix_y, placed.matrix_z],
+                channels: placed.channels,
+                data_type: placed.data_type,
+                attribute_length: placed.attribute_length,
+            },
+            id::WAVEFORM => Kind::Waveform {
+                samples: placed.samples,
+                channels: placed.channels,
+            },
+            other => unreachable!("the library hands out records of the eight kinds, not {other}"),
+        }
+    }
+}
+
+impl Record {
+    pub(crate) fn told(placed: &raw::mrd_placed) -> Result<Record, Refusal> {
+        Refusal::in_answer(placed.refusal, placed.record, placed.byte)?;
+        Ok(Record {
+            number: placed.number,
+            start: placed.start,
+            size: placed.size,
+            kind: Kind::of(placed),
+        })
+    }
+}
+
+/// A part of a record that a view shows.
+#[derive(Clone, Copy, Debug, PartialEq, Eq, Hash)]
+pub enum Part {
+    /// A configuration name: the bytes before its zero.
+    Name,
+    /// The bytes of a configuration text, header text or text.
+    Text,
+    /// An image's attributes.
+    Attributes,
+    /// An acquisition's trajectory; empty with 0 dimensions.
+    Trajectory,
+    /// The samples of one of an acquisition's active channels, by its number from 0.
+    Channel(usize),
+    /// An image's pixels.
+    Pixels,
+    /// The data of a waveform, all channels.
+    Waveform,
+}
+
+impl Part {
+    /// The number that the library knows the part by, and the channel.
+    pub(crate) fn numbers(self) -> (u32, usize) {
+        match self {
+            Part::Name => (1, 0),
+            Part::Text => (2, 0),
+            Part::Attributes => (3, 0),
+            Part::Trajectory => (4, 0),
+            Part::Channel(channel) => (5, channel),
+            Part::Pixels => (6, 0),
+            Part::Waveform => (7, 0),
+        }
+    }
+}
+
+/// An element of a fixed header.
+#[derive(Clone, Copy, Debug, PartialEq, Eq, Hash)]
+pub enum Field {
+    /// An unsigned number of 16, 32 or 64 bits.
+    Whole(u64),
+    /// A signed number.
+    Signed(i32),
+    /// A float, kept by its bits, so that a NaN is the one that is stored.
+    Float {
+        /// The bits as stored.
+        bits: u32,
+    },
+}
+
+impl Field {
+    /// The float, if the element is one.
+    pub fn float(self) -> Option<f32> {
+        match self {
+            Field::Float { bits } => Some(f32::from_bits(bits)),
+            _ => None,
+        }
+    }
+
+    pub(crate) fn told(answer: &raw::mrd_field_answer) -> Result<Field, Refusal> {
+        Refusal::in_answer(answer.refusal, answer.record, answer.byte)?;
+        Ok(match answer.r#type {
+            raw::MRD_WHOLE => Field::Whole(answer.whole),
+            raw::MRD_SIGNED => Field::Signed(answer.integer),
+            raw::MRD_FLOAT => Field::Float {
+                bits: answer.float_bits,
+            },
+            other => unreachable!("the library knows three types of element, not {other}"),
+        })
+    }
+}

@@ -1,0 +1,158 @@
+//! A lent stream and the questions about it.
+
+use crate::index::Index;
+use crate::raw;
+use crate::record::{Field, Part, Record};
+use crate::refusal::Refusal;
+use std::ops::Range;
+
+/// A whole stream, borrowed, and the index lent with it, if any.
+///
+/// Each question gives the stream's refusal first. [`place`](Stream::place), [`view`](Stream::view),
+/// [`view_place`](Stream::view_place), [`field`](Stream::field) and [`find`](Stream::find) then give 15 where
+/// an index is lent that is not the stream's own; the other calls do not look at it.
+#[derive(Clone, Copy, Debug, PartialEq, Eq)]
+pub struct Stream<'a> {
+    bytes: &'a [u8],
+    index: Option<Index<'a>>,
+}
+
+/// The number of records in a stream's answer.
+pub(crate) fn counted(answer: &raw::mrd_checked) -> Result<usize, Refusal> {
+    Refusal::in_answer(answer.refusal, answer.record, answer.byte)?;
+    Ok(answer.count)
+}
+
+fn length_of(written: &raw::mrd_written) -> Result<usize, Refusal> {
+    Refusal::in_answer(written.refusal, written.record, written.byte)?;
+    Ok(written.length)
+}
+
+impl<'a> Stream<'a> {
+    /// A stream without an index. Any bytes may be lent.
+    pub fn new(bytes: &'a [u8]) -> Stream<'a> {
+        Stream { bytes, index: None }
+    }
+
+    /// The same stream with an index lent.
+    pub fn with(self, index: Index<'a>) -> Stream<'a> {
+        Stream {
+            index: Some(index),
+            ..self
+        }
+    }
+
+    /// The lent bytes.
+    pub fn bytes(&self) -> &'a [u8] {
+        self.bytes
+    }
+
+    /// The number of records of an accepted stream.
+    pub fn check(&self) -> Result<usize, Refusal> {
+        counted(&raw::check(self.bytes))
+    }
+
+    /// Place and kind of record `n`; 16 where there is none.
+    pub fn place(&self, n: usize) -> Result<Record, Refusal> {
+        let s = self.bytes;
+        Record::told(&match self.index {
+            None => raw::place(s, n),
+            Some(Index::File(file)) => raw::place_with_file(s, n, file),
+            Some(Index::Columns {
+                starts,
+                ids,
+                counters,
+            }) => raw::place_with_columns(s, n, starts, ids, counters),
+        })
+    }
+
+    /// A part of record `n`, as that part of the lent bytes; 16 where there is no such record, 17 where it has
+    /// no such part.
+    pub fn view(&self, n: usize, part: Part) -> Result<&'a [u8], Refusal> {
+        Ok(&self.bytes[self.view_place(n, part)?])
+    }
+
+    /// Where that part lies in the stream. An empty part still has its place.
+    pub fn view_place(&self, n: usize, part: Part) -> Result<Range<usize>, Refusal> {
+        let s = self.bytes;
+        let (part, channel) = part.numbers();
+        let place = match self.index {
+            None => raw::view(s, n, part, channel),
+            Some(Index::File(file)) => raw::view_with_file(s, n, part, channel, file),
+            Some(Index::Columns {
+                starts,
+                ids,
+                counters,
+            }) => raw::view_with_columns(s, n, part, channel, starts, ids, counters),
+        };
+        Refusal::in_answer(place.refusal, place.record, place.byte)?;
+        Ok(place.start..place.start + place.length)
+    }
+
+    /// The element of record `n`'s header that starts at `offset`, counted from the header's first byte; 16
+    /// where there is no such record, 20 where no element starts there.
+    pub fn field(&self, n: usize, offset: usize) -> Result<Field, Refusal> {
+        let s = self.bytes;
+        Field::told(&match self.index {
+            None => raw::field(s, n, offset),
+            Some(Index::File(file)) => raw::field_with_file(s, n, offset, file),
+            Some(Index::Columns {
+                starts,
+                ids,
+                counters,
+            }) => raw::field_with_columns(s, n, offset, starts, ids, counters),
+        })
+    }
+
+    /// The number of the first acquisition from record `n` on with these seventeen counters; else 16.
+    pub fn find(&self, n: usize, asked: &[u16; 17]) -> Result<usize, Refusal> {
+        let s = self.bytes;
+        let found = match self.index {
+            None => raw::find(s, n, asked),
+            Some(Index::File(file)) => raw::find_with_file(s, n, asked, file),
+            Some(Index::Columns {
+                starts,
+                ids,
+                counters,
+            }) => raw::find_with_columns(s, n, asked, starts, ids, counters),
+        };
+        Refusal::in_answer(found.refusal, found.record, found.byte)?;
+        Ok(found.number)
+    }
+
+    /// Whether an index is this stream's own; 15 where it is not.
+    pub fn matches(&self, index: Index<'_>) -> Result<(), Refusal> {
+        let matched = match index {
+            Index::File(file) => raw::index_matches(self.bytes, file),
+            Index::Columns {
+                starts,
+                ids,
+                counters,
+            } => raw::columns_match(self.bytes, starts, ids, counters),
+        };
+        Refusal::in_answer(matched.refusal, matched.record, matched.byte)
+    }
+
+    /// Writes the normal form to the front of `out` and gives its length, which is the stream's. Two streams
+    /// with the same records have the same normal form. 14 where `out` is too short.
+    pub fn normal_form(&self, out: &mut [u8]) -> Result<usize, Refusal> {
+        length_of(&raw::normal_form(self.bytes, out))
+    }
+
+    /// Writes the stream's index as a file to the front of `out` and gives its length: 23 bytes, and 17 for
+    /// each record. 14 where `out` is too short.
+    pub fn write_index(&self, out: &mut [u8]) -> Result<usize, Refusal> {
+        length_of(&raw::write_index(self.bytes, out))
+    }
+
+    /// Fills the front of three columns with the stream's index and gives the number of records. 14 where a
+    /// column is too short.
+    pub fn fill_columns(
+        &self,
+        starts: &mut [u64],
+        ids: &mut [u16],
+        counters: &mut [u32],
+    ) -> Result<usize, Refusal> {
+        length_of(&raw::fill_columns(self.bytes, starts, ids, counters))
+    }
+}

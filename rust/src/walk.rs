@@ -1,0 +1,110 @@
+//! The walk over a stream, one record at each step.
+
+use crate::raw;
+use crate::record::Record;
+use crate::refusal::Refusal;
+use crate::stream::{counted, Stream};
+
+/// A place in a walk. It may be kept and given back, also made up: any cursor gets some answer.
+#[derive(Clone, Copy, Debug, PartialEq, Eq, Hash)]
+pub struct Cursor {
+    /// The number of the next record.
+    pub number: usize,
+    /// Its first byte.
+    pub start: usize,
+    /// 0 where at most texts came before, 1 after a configuration, 2 after the header, 3 (or above) after the
+    /// close.
+    pub phase: u32,
+}
+
+impl Cursor {
+    /// The cursor before the first record.
+    pub fn beginning() -> Cursor {
+        Cursor::of(raw::beginning())
+    }
+
+    fn of(cursor: raw::mrd_cursor) -> Cursor {
+        Cursor {
+            number: cursor.number,
+            start: cursor.start,
+            phase: cursor.phase,
+        }
+    }
+
+    fn lent(self) -> raw::mrd_cursor {
+        raw::mrd_cursor {
+            number: self.number,
+            start: self.start,
+            phase: self.phase,
+        }
+    }
+}
+
+/// What a step of the walk meets.
+#[derive(Clone, Copy, Debug, PartialEq, Eq)]
+pub enum Step {
+    /// A record, and the cursor of what follows.
+    Record(Record, Cursor),
+    /// The end, with the stream's answer: its number of records, or its refusal.
+    End(Result<usize, Refusal>),
+}
+
+impl<'a> Stream<'a> {
+    /// All records in one walk, at a cost for each that does not grow with the stream.
+    pub fn records(&self) -> Records<'a> {
+        Records {
+            stream: *self,
+            cursor: Some(Cursor::beginning()),
+        }
+    }
+
+    /// One step of the walk.
+    pub fn step(&self, cursor: Cursor) -> Step {
+        let step = raw::next(self.bytes(), cursor.lent());
+        if step.ended {
+            return Step::End(counted(&step.answer));
+        }
+        let here = Record::told(&step.here).expect("a step hands out a record or ends");
+        Step::Record(here, Cursor::of(step.next))
+    }
+
+    /// The answer of the rest of the stream, from a cursor on: its number of records, those before the cursor
+    /// counted too, or its refusal.
+    pub fn check_from(&self, cursor: Cursor) -> Result<usize, Refusal> {
+        counted(&raw::check_from(self.bytes(), cursor.lent()))
+    }
+}
+
+/// The records of a stream in their order. A refused stream's records before the fault come first, then its
+/// refusal, then nothing.
+#[derive(Clone, Debug)]
+pub struct Records<'a> {
+    stream: Stream<'a>,
+    cursor: Option<Cursor>,
+}
+
+impl Records<'_> {
+    /// The cursor of the next step; none after the end.
+    pub fn cursor(&self) -> Option<Cursor> {
+        self.cursor
+    }
+}
+
+impl Iterator for Records<'_> {
+    type Item = Result<Record, Refusal>;
+
+    fn next(&mut self) -> Option<Self::Item> {
+        match self.stream.step(self.cursor?) {
+            Step::Record(record, next) => {
+                self.cursor = Some(next);
+                Some(Ok(record))
+            }
+            Step::End(answer) => {
+                self.cursor = None;
+                answer.err().map(Err)
+            }
+        }
+    }
+}
+
+impl std::iter::FusedIterator for Records<'_> {}

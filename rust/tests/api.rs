@@ -1,0 +1,241 @@
+//! The wrapper itself: that each call reaches the library's function with its arguments in place, and that
+//! refusals are told in full. Whether the answers are right for every stream is tested in tests/against.
+
+use cotterleaf::*;
+use std::collections::BTreeSet;
+
+const ALL_KINDS: &[u8] = include_bytes!("../../samples/all_kinds.mrd");
+
+/// A text of two bytes and the close.
+const SHORT: [u8; 10] = [5, 0, 2, 0, 0, 0, b'h', b'i', 4, 0];
+
+fn number_of<T: std::fmt::Debug>(answer: Result<T, Refusal>) -> u32 {
+    answer.expect_err("a refusal").number
+}
+
+/// The same index as a file and as columns.
+struct Kept {
+    file: Vec<u8>,
+    starts: Vec<u64>,
+    ids: Vec<u16>,
+    counters: Vec<u32>,
+}
+
+impl Kept {
+    fn of(stream: &Stream) -> Kept {
+        let count = stream.check().expect("an accepted stream");
+        let mut kept = Kept {
+            file: vec![0; 23 + 17 * count],
+            starts: vec![0; count],
+            ids: vec![0; count],
+            counters: vec![0; count],
+        };
+        assert_eq!(stream.write_index(&mut kept.file), Ok(kept.file.len()));
+        let filled = stream.fill_columns(&mut kept.starts, &mut kept.ids, &mut kept.counters);
+        assert_eq!(filled, Ok(count));
+        kept
+    }
+
+    fn forms(&self) -> [Index<'_>; 2] {
+        let columns = Index::Columns {
+            starts: &self.starts,
+            ids: &self.ids,
+            counters: &self.counters,
+        };
+        [Index::File(&self.file), columns]
+    }
+}
+
+#[test]
+fn records_come_once_each_and_then_the_refusal() {
+    let whole = Stream::new(ALL_KINDS);
+    let records: Vec<Record> = whole.records().map(|record| record.unwrap()).collect();
+    assert_eq!(records.len(), 9);
+    for record in &records {
+        assert_eq!(whole.place(record.number), Ok(*record));
+    }
+    assert_eq!(records[8].kind, Kind::Close);
+
+    let cut = Stream::new(&ALL_KINDS[..6_307]);
+    let fault = Fault {
+        record: 8,
+        byte: 6_307,
+    };
+    let refusal = Refusal {
+        number: 13,
+        place: Some(fault),
+    };
+    let mut walk = cut.records();
+    for record in &records[..8] {
+        assert_eq!(walk.next(), Some(Ok(*record)));
+        assert_eq!(cut.check_from(walk.cursor().unwrap()), Err(refusal));
+    }
+    assert_eq!(walk.next(), Some(Err(refusal)));
+    assert_eq!((walk.next(), walk.cursor()), (None, None));
+}
+
+#[test]
+fn a_view_is_the_very_part_of_the_lent_stream() {
+    let stream = Stream::new(ALL_KINDS);
+    let name = stream.view(0, Part::Name).unwrap();
+    assert_eq!(name, b"default.xml");
+    assert!(std::ptr::eq(name, &ALL_KINDS[2..13]));
+    // 2 of id, 340 of header, 32 x 2 x 4 of trajectory, and one channel of 32 x 8 before it.
+    let second = stream.view(3, Part::Channel(1)).unwrap();
+    assert!(std::ptr::eq(
+        second,
+        &ALL_KINDS[1_417 + 342 + 256 + 256..][..256]
+    ));
+    assert_eq!(number_of(stream.view(3, Part::Channel(2))), 17);
+    assert_eq!(number_of(stream.view_place(9, Part::Text)), 16);
+    let kept;
+    {
+        let stream = Stream::new(ALL_KINDS);
+        kept = stream.view(2, Part::Text).unwrap();
+    }
+    assert_eq!(kept, b"three radial readouts follow\n");
+}
+
+#[test]
+fn fields_keep_their_type_and_floats_their_bits() {
+    let mut bytes = ALL_KINDS.to_vec();
+    let sample_time = 1_417 + 2 + 178;
+    assert_eq!(
+        Stream::new(&bytes).field(3, 178).unwrap().float(),
+        Some(15.0)
+    );
+    // A signalling NaN: a float register on the way might set its quiet bit.
+    bytes[sample_time..sample_time + 4].copy_from_slice(&0x7F80_0001_u32.to_le_bytes());
+    let stream = Stream::new(&bytes);
+    assert_eq!(stream.field(3, 178), Ok(Field::Float { bits: 0x7F80_0001 }));
+    assert_eq!(stream.field(3, 34), Ok(Field::Whole(32)));
+    assert_eq!(stream.field(4, 276), Ok(Field::Signed(-2)));
+    assert_eq!(number_of(stream.field(3, 35)), 20);
+    assert_eq!(Field::Whole(1).float(), None);
+}
+
+#[test]
+fn find_begins_at_the_record_asked_for() {
+    let stream = Stream::new(ALL_KINDS);
+    let mut counters = [0; 17];
+    counters[0] = 1;
+    assert_eq!(stream.find(0, &counters), Ok(4));
+    assert_eq!(stream.find(4, &counters), Ok(4));
+    assert_eq!(number_of(stream.find(5, &counters)), 16);
+}
+
+#[test]
+fn an_index_is_believed_where_it_is_the_streams_own() {
+    let stream = Stream::new(ALL_KINDS);
+    let kept = Kept::of(&stream);
+    let another = Kept::of(&Stream::new(&SHORT));
+    for (own, other) in kept.forms().into_iter().zip(another.forms()) {
+        assert_eq!(stream.matches(own), Ok(()));
+        assert_eq!(number_of(stream.matches(other)), 15);
+        let trusting = stream.with(own);
+        assert_eq!(trusting.place(6), stream.place(6));
+        assert_eq!(trusting.view(1, Part::Text), stream.view(1, Part::Text));
+        assert_eq!(trusting.field(7, 14), Ok(Field::Whole(1)));
+        assert_eq!(trusting.find(4, &[0; 17]), stream.find(4, &[0; 17]));
+        let deceived = stream.with(other);
+        assert_eq!(number_of(deceived.place(6)), 15);
+        assert_eq!(number_of(deceived.view(1, Part::Text)), 15);
+        assert_eq!(number_of(deceived.field(7, 14)), 15);
+        assert_eq!(number_of(deceived.find(4, &[0; 17])), 15);
+        assert_eq!(deceived.check(), Ok(9));
+    }
+}
+
+#[test]
+fn each_part_of_a_message_goes_to_its_place() {
+    let stream = Stream::new(ALL_KINDS);
+    let mut out = vec![0xEE; ALL_KINDS.len()];
+    let mut position = 0;
+    for record in stream.records() {
+        let Record {
+            number: n,
+            start,
+            kind,
+            ..
+        } = record.unwrap();
+        let part = |part| stream.view(n, part).unwrap_or_default();
+        let header_length = match kind {
+            Kind::Acquisition { .. } => 340,
+            Kind::Image { .. } => 198,
+            Kind::Waveform { .. } => 32,
+            _ => 0,
+        };
+        let first = stream
+            .view_place(n, Part::Channel(0))
+            .map_or(0, |place| place.start);
+        let second = stream
+            .view_place(n, Part::Channel(1))
+            .map_or(0, |place| place.end);
+        let message = Message {
+            id: kind.id(),
+            header: &ALL_KINDS[start + 2..][..header_length],
+            name: part(Part::Name),
+            text: part(Part::Text),
+            trajectory: part(Part::Trajectory),
+            samples: &ALL_KINDS[first..second],
+            attributes: part(Part::Attributes),
+            pixels: part(Part::Pixels),
+            waveform: part(Part::Waveform),
+        };
+        position = message.write(&mut out, position).unwrap();
+    }
+    assert_eq!(position, ALL_KINDS.len());
+    let mut normal = vec![0; ALL_KINDS.len()];
+    assert_eq!(stream.normal_form(&mut normal), Ok(ALL_KINDS.len()));
+    assert!(out == normal, "what is written back is the normal form");
+
+    let refused = Message {
+        id: 6,
+        ..Message::default()
+    }
+    .write(&mut out, 0);
+    assert_eq!(
+        refused,
+        Err(Refusal {
+            number: 2,
+            place: None
+        })
+    );
+}
+
+#[test]
+fn flags_and_counters() {
+    let flags = flag_set(0, acquisition_flag::FIRST_IN_SLICE);
+    assert_eq!(flags, 64);
+    assert!(flag_test(flags, 7) && !flag_test(flags, 6) && !flag_test(flags, 71));
+    assert_eq!(flag_clear(flags, acquisition_flag::FIRST_IN_SLICE), 0);
+    assert_eq!(flag_set(0, acquisition_flag::USER8), 1 << 63);
+    assert_eq!(
+        (counter_step(u32::MAX, 0), counter_step(0, 1 << 31)),
+        (1, i32::MIN)
+    );
+}
+
+#[test]
+fn a_refusal_says_what_where_and_what_to_do() {
+    let refusal = Stream::new(&SHORT[..8]).check().unwrap_err();
+    assert_eq!(
+        refusal.to_string(),
+        "refused 13 at record 1, byte 8: the stream ends without a close; \
+         wait for the rest, or add a close (04 00) if the recording is over."
+    );
+    let unplaced = Stream::new(&SHORT).normal_form(&mut []).unwrap_err();
+    assert_eq!(
+        unplaced.to_string(),
+        "refused 14: the output is too short, or the position is past its end; lend a longer output."
+    );
+    let told = |number| Refusal {
+        number,
+        place: None,
+    };
+    let texts: BTreeSet<(&str, &str)> = (1..=20)
+        .map(|number| (told(number).what(), told(number).remedy()))
+        .collect();
+    assert_eq!(texts.len(), 20, "each number has a text of its own");
+    assert!(!texts.contains(&(told(21).what(), told(21).remedy())));
+}

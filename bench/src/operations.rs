@@ -5,7 +5,7 @@ use crate::baseline::{index, questions, reader, writer::Message};
 use crate::library;
 use crate::made;
 use crate::table::{Row, Unit};
-use crate::timing::{alternately, Effort, Times};
+use crate::timing::{alternately, Compared, Effort, Times};
 use std::cell::RefCell;
 use std::hint::black_box;
 
@@ -18,15 +18,14 @@ pub struct Measured<'a> {
 }
 
 impl Measured<'_> {
-    fn row(&self, operation: &'static str, unit: Unit, (library, baseline): (Times, Times)) -> Row {
+    fn row(&self, operation: &'static str, unit: Unit, times: Compared) -> Row {
         Row {
             operation,
             stream: self.name,
             bytes: self.stream.len(),
             messages: self.messages,
             unit,
-            library,
-            baseline,
+            times,
         }
     }
 
@@ -105,7 +104,7 @@ impl Measured<'_> {
         let times = alternately(
             self.effort,
             &mut || taken(library::normal_form(black_box(s), &mut out.borrow_mut())),
-            &mut || black_box(&mut **out.borrow_mut()).copy_from_slice(black_box(s)),
+            &mut || black_box(&mut out.borrow_mut()[..s.len()]).copy_from_slice(black_box(s)),
         );
         self.row("normal form (memcpy)", Unit::Bandwidth, times)
     }
@@ -168,7 +167,7 @@ fn taken<T>(answer: T) {
 /// The second reader's check, which is written for clarity and keeps a list of the records.
 pub fn second_reader_check(stream: &[u8], effort: Effort) -> Times {
     let check = &mut || taken(second_reader::check(black_box(stream)));
-    alternately(effort, check, &mut || {}).0
+    alternately(effort, check, &mut || {}).library
 }
 
 fn counter(stream: &[u8], n: usize, i: usize) -> u16 {

@@ -1,6 +1,6 @@
 //! The results as a markdown table.
 
-use crate::timing::Times;
+use crate::timing::{Compared, Times};
 
 #[derive(Clone, Copy, PartialEq, Eq)]
 pub enum Unit {
@@ -16,12 +16,11 @@ pub struct Row {
     pub bytes: usize,
     pub messages: usize,
     pub unit: Unit,
-    pub library: Times,
-    pub baseline: Times,
+    pub times: Compared,
 }
 
 pub const HEAD: &str = "\
-| operation | stream | MB | messages | library | baseline | library's speed / baseline's |
+| operation | stream | MB | messages | library | baseline | speed, baseline = 1 |
 |---|---|---|---|---|---|---|";
 
 impl Row {
@@ -46,9 +45,9 @@ impl Row {
             self.stream,
             megabytes(self.bytes),
             thousands(self.messages),
-            self.cell(self.library),
-            self.cell(self.baseline),
-            self.baseline.median / self.library.median,
+            self.cell(self.times.library),
+            self.cell(self.times.baseline),
+            self.times.speed,
         )
     }
 }

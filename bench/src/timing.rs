@@ -10,6 +10,15 @@ pub struct Times {
     pub most: f64,
 }
 
+/// The times of both, and the library's speed as a share of the baseline's: the median over the rounds, each
+/// of which has both under the same conditions.
+#[derive(Clone, Copy, Debug)]
+pub struct Compared {
+    pub library: Times,
+    pub baseline: Times,
+    pub speed: f64,
+}
+
 /// How long to measure.
 #[derive(Clone, Copy, Debug)]
 pub struct Effort {
@@ -43,21 +52,31 @@ fn repeats(call: &mut dyn FnMut(), round: Duration) -> usize {
     ((round.as_secs_f64() / once).ceil() as usize).max(1)
 }
 
-fn of_rounds(mut seconds: Vec<f64>) -> Times {
-    seconds.sort_by(f64::total_cmp);
+fn sorted(mut numbers: Vec<f64>) -> Vec<f64> {
+    numbers.sort_by(f64::total_cmp);
+    numbers
+}
+
+fn median(numbers: Vec<f64>) -> f64 {
+    let middle = numbers.len() / 2;
+    sorted(numbers)[middle]
+}
+
+fn of_rounds(seconds: Vec<f64>) -> Times {
+    let seconds = sorted(seconds);
     Times {
-        median: seconds[seconds.len() / 2],
         least: seconds[0],
         most: seconds[seconds.len() - 1],
+        median: median(seconds),
     }
 }
 
-/// The times of both calls. They take turns at going first, so that neither gains by its place.
+/// Times both calls. They take turns at going first, so that neither gains by its place.
 pub fn alternately(
     effort: Effort,
     library: &mut dyn FnMut(),
     baseline: &mut dyn FnMut(),
-) -> (Times, Times) {
+) -> Compared {
     let of_library = repeats(library, effort.round);
     let of_baseline = repeats(baseline, effort.round);
     let (mut ours, mut theirs) = (vec![], vec![]);
@@ -70,5 +89,10 @@ pub fn alternately(
             ours.push(timed(library, of_library));
         }
     }
-    (of_rounds(ours), of_rounds(theirs))
+    let speeds = theirs.iter().zip(&ours).map(|(their, our)| their / our);
+    Compared {
+        speed: median(speeds.collect()),
+        library: of_rounds(ours),
+        baseline: of_rounds(theirs),
+    }
 }

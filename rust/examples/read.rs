@@ -15,11 +15,7 @@ fn list(bytes: &[u8]) -> Result<(), Refusal> {
             "{} at byte {}: {:?}",
             record.number, record.start, record.kind
         );
-        if let Kind::Acquisition {
-            active_channels: 1..,
-            ..
-        } = record.kind
-        {
+        if matches!(record.kind, Kind::Acquisition { active_channels, .. } if active_channels > 0) {
             readout = readout.or(Some(record.number));
         }
     }

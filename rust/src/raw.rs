@@ -4,7 +4,7 @@
 #![allow(non_camel_case_types, clippy::too_many_arguments)]
 
 #[repr(C)]
-#[derive(Clone, Copy, Debug)]
+#[derive(Clone, Copy, Debug, Default, PartialEq, Eq)]
 pub struct mrd_checked {
     pub refusal: u32,
     pub record: usize,
@@ -13,7 +13,7 @@ pub struct mrd_checked {
 }
 
 #[repr(C)]
-#[derive(Clone, Copy, Debug)]
+#[derive(Clone, Copy, Debug, Default, PartialEq, Eq)]
 pub struct mrd_placed {
     pub refusal: u32,
     pub record: usize,
@@ -34,7 +34,7 @@ pub struct mrd_placed {
 }
 
 #[repr(C)]
-#[derive(Clone, Copy, Debug)]
+#[derive(Clone, Copy, Debug, Default, PartialEq, Eq)]
 pub struct mrd_cursor {
     pub number: usize,
     pub start: usize,
@@ -42,7 +42,7 @@ pub struct mrd_cursor {
 }
 
 #[repr(C)]
-#[derive(Clone, Copy, Debug)]
+#[derive(Clone, Copy, Debug, Default, PartialEq, Eq)]
 pub struct mrd_step {
     pub ended: bool,
     pub here: mrd_placed,
@@ -51,7 +51,7 @@ pub struct mrd_step {
 }
 
 #[repr(C)]
-#[derive(Clone, Copy, Debug)]
+#[derive(Clone, Copy, Debug, Default, PartialEq, Eq)]
 pub struct mrd_view_place {
     pub refusal: u32,
     pub record: usize,
@@ -61,7 +61,7 @@ pub struct mrd_view_place {
 }
 
 #[repr(C)]
-#[derive(Clone, Copy, Debug)]
+#[derive(Clone, Copy, Debug, Default, PartialEq, Eq)]
 pub struct mrd_field_answer {
     pub refusal: u32,
     pub record: usize,
@@ -73,7 +73,7 @@ pub struct mrd_field_answer {
 }
 
 #[repr(C)]
-#[derive(Clone, Copy, Debug)]
+#[derive(Clone, Copy, Debug, Default, PartialEq, Eq)]
 pub struct mrd_found {
     pub refusal: u32,
     pub record: usize,
@@ -82,7 +82,7 @@ pub struct mrd_found {
 }
 
 #[repr(C)]
-#[derive(Clone, Copy, Debug)]
+#[derive(Clone, Copy, Debug, Default, PartialEq, Eq)]
 pub struct mrd_written {
     pub refusal: u32,
     pub record: usize,
@@ -91,7 +91,7 @@ pub struct mrd_written {
 }
 
 #[repr(C)]
-#[derive(Clone, Copy, Debug)]
+#[derive(Clone, Copy, Debug, Default, PartialEq, Eq)]
 pub struct mrd_matched {
     pub refusal: u32,
     pub record: usize,
@@ -99,7 +99,7 @@ pub struct mrd_matched {
 }
 
 #[repr(C)]
-#[derive(Clone, Copy, Debug)]
+#[derive(Clone, Copy, Debug, Default, PartialEq, Eq)]
 pub struct mrd_put {
     pub refusal: u32,
     pub position: usize,

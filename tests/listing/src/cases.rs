@@ -139,20 +139,7 @@ pub fn each_cut_and_flip(rng: &mut Rng) -> Vec<Case> {
 /// One drawn input: well formed, damaged, or made for one refusal number.
 pub fn drawn(rng: &mut Rng, number: u64) -> Case {
     let limit = rng.pick(&[200, 2_000, 2_000, 8_000, 65_536]);
-    let (what, input) = match number % 10 {
-        0..=3 => ("well formed".to_string(), joined(&well_formed(rng, limit))),
-        4..=6 => {
-            let wanted = SHORT_REFUSALS[(number / 10) as usize % SHORT_REFUSALS.len()];
-            (
-                format!("made for refusal {wanted}"),
-                refused_with(rng, wanted),
-            )
-        }
-        _ => {
-            let damage = (number / 10) as usize % DAMAGES.len();
-            (DAMAGES[damage].to_string(), damaged(rng, damage, limit))
-        }
-    };
+    let (what, input) = streams::drawn(rng, number, limit);
     let delivery = match rng.below(40) {
         0 => Delivery::Pieces(1 + input.len() / (1 + rng.below(10) as usize)),
         1 => Delivery::File,

@@ -3,6 +3,7 @@
 use crate::messages::{self, message, set_mask, Message};
 use crate::rng::Rng;
 use crate::well_formed::{joined, opening, well_formed};
+use crate::SHORT_REFUSALS;
 use second_reader::{numbers, Kind};
 
 const DATA: [Kind; 3] = [Kind::Acquisition, Kind::Image, Kind::Waveform];
@@ -465,6 +466,24 @@ pub fn damaged(rng: &mut Rng, damage: usize, limit: usize) -> Vec<u8> {
             let mut bytes = joined(&messages);
             damage_bytes(rng, damage, &mut bytes);
             bytes
+        }
+    }
+}
+
+/// The stream of that number in a run, and what it is: well formed, made for one refusal number, or damaged.
+/// The refusals and damages come in turn.
+pub fn drawn(rng: &mut Rng, number: u64, limit: usize) -> (String, Vec<u8>) {
+    let turn = (number / 10) as usize;
+    match number % 10 {
+        0..=3 => ("well formed".to_string(), joined(&well_formed(rng, limit))),
+        4..=6 => {
+            let wanted = SHORT_REFUSALS[turn % SHORT_REFUSALS.len()];
+            let what = format!("made for refusal {wanted}");
+            (what, refused_with(rng, wanted))
+        }
+        _ => {
+            let damage = turn % DAMAGES.len();
+            (DAMAGES[damage].to_string(), damaged(rng, damage, limit))
         }
     }
 }

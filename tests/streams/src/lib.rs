@@ -8,7 +8,7 @@ pub mod rng;
 pub mod sample;
 pub mod well_formed;
 
-pub use damaged::{damaged, huge_images, refused_with, too_many, DAMAGES};
+pub use damaged::{damaged, drawn, huge_images, refused_with, too_many, DAMAGES};
 pub use inputs::{
     counter_pair, counters, field_offset, flag, lent_columns, lent_files, record_number,
     writer_input, writer_input_refused, LentColumns, LentFile, WriterInput, WRITER_REFUSALS,

@@ -1,0 +1,186 @@
+//! The questions about a record, each asked of both readers with the same lent index or none.
+
+use crate::tally::{Family, Outcome, Tally};
+use crate::told::{self, Told};
+use cotterleaf::{Index, Part, Stream};
+use second_reader as second;
+use std::fmt::Debug;
+use streams::{LentColumns, LentFile};
+
+/// What index is lent with the questions.
+pub enum Lent {
+    None,
+    File(LentFile),
+    Columns(LentColumns),
+}
+
+impl Lent {
+    pub fn what(&self) -> String {
+        match self {
+            Lent::None => String::new(),
+            Lent::File(file) => format!(", lent a file: {}", file.what),
+            Lent::Columns(columns) => format!(", lent columns: {}", columns.what),
+        }
+    }
+
+    pub fn library(&self) -> Option<Index<'_>> {
+        match self {
+            Lent::None => None,
+            Lent::File(file) => Some(Index::File(&file.bytes)),
+            Lent::Columns(columns) => Some(Index::Columns {
+                starts: &columns.starts,
+                ids: &columns.ids,
+                counters: &columns.counters,
+            }),
+        }
+    }
+
+    pub fn second(&self) -> second::Lent<'_> {
+        match self {
+            Lent::None => second::Lent::NONE,
+            Lent::File(file) => second::Lent::file(&file.bytes),
+            Lent::Columns(columns) => {
+                second::Lent::columns(&columns.starts, &columns.ids, &columns.counters)
+            }
+        }
+    }
+}
+
+/// A stream and the index lent with it.
+pub struct Asked<'a> {
+    pub bytes: &'a [u8],
+    pub lent: &'a Lent,
+}
+
+impl<'a> Asked<'a> {
+    fn library(&self) -> Stream<'a> {
+        let stream = Stream::new(self.bytes);
+        match self.lent.library() {
+            None => stream,
+            Some(index) => stream.with(index),
+        }
+    }
+
+    /// Compares, and notes whether the lent index was believed.
+    fn same<T: PartialEq + Debug>(
+        &self,
+        tally: &mut Tally,
+        family: Family,
+        question: impl Fn() -> String,
+        library: Told<T>,
+        second: Told<T>,
+    ) -> Outcome {
+        let believed = match &second {
+            Err(second::Refused::Stream(_)) => None,
+            Err(second::Refused::Other(15)) => Some(false),
+            _ => Some(true),
+        };
+        let group = match (self.lent, believed) {
+            (Lent::File(_), Some(true)) => Some("file believed"),
+            (Lent::File(_), Some(false)) => Some("file not believed"),
+            (Lent::Columns(_), Some(true)) => Some("columns believed"),
+            (Lent::Columns(_), Some(false)) => Some("columns not believed"),
+            _ => None,
+        };
+        let question = || format!("{}{}", question(), self.lent.what());
+        tally.same(family, question, library, second)?;
+        if let Some(group) = group {
+            tally.note(group, family.name());
+        }
+        Ok(())
+    }
+
+    pub fn place(&self, tally: &mut Tally, n: u64) -> Outcome {
+        let library = self.library().place(n as usize);
+        let library = library.map(told::record).map_err(told::refused);
+        let second = second::kind_and_place(self.bytes, self.lent.second(), n);
+        let question = || format!("place of record {n}");
+        self.same(tally, Family::Place, question, library, second)
+    }
+
+    /// The view's place as it is told, and as the view's own address shows it.
+    pub fn view(&self, tally: &mut Tally, n: u64, part: Part) -> Outcome {
+        let second = self.second_view(n, part);
+        let shown = second.is_ok();
+        let view = self.library().view(n as usize, part);
+        let by_address = view.map(|view| told::part_by_address(self.bytes, view));
+        let by_address = by_address.map_err(told::refused);
+        let place = self.library().view_place(n as usize, part);
+        let place = place.map(told::part).map_err(told::refused);
+        let question = || format!("{part:?} of record {n}");
+        self.same(tally, Family::View, question, place, second)?;
+        self.same(tally, Family::View, question, by_address, second)?;
+        if shown {
+            tally.note("view shown", name_of(part));
+        }
+        Ok(())
+    }
+
+    fn second_view(&self, n: u64, part: Part) -> Told<second::Part> {
+        let (bytes, lent) = (self.bytes, self.lent.second());
+        match part {
+            Part::Name => second::name(bytes, lent, n),
+            Part::Text => second::text(bytes, lent, n),
+            Part::Attributes => second::attributes(bytes, lent, n),
+            Part::Trajectory => second::trajectory(bytes, lent, n),
+            Part::Channel(channel) => second::channel(bytes, lent, n, channel as u64),
+            Part::Pixels => second::pixels(bytes, lent, n),
+            Part::Waveform => second::waveform(bytes, lent, n),
+        }
+    }
+
+    pub fn field(&self, tally: &mut Tally, n: u64, offset: u64) -> Outcome {
+        let library = self.library().field(n as usize, offset as usize);
+        let library = library.map(told::field).map_err(told::refused);
+        let second = second::field(self.bytes, self.lent.second(), n, offset);
+        let question = || format!("field at {offset} of record {n}");
+        self.same(tally, Family::Field, question, library, second)?;
+        match second {
+            Ok(second::Field::Whole(_)) => tally.note("element", "whole"),
+            Ok(second::Field::Signed(_)) => tally.note("element", "signed"),
+            Ok(second::Field::Float(bits)) if f32::from_bits(bits).is_nan() => {
+                tally.note("element", "NaN")
+            }
+            Ok(second::Field::Float(_)) => tally.note("element", "float"),
+            Err(_) => {}
+        }
+        Ok(())
+    }
+
+    pub fn find(&self, tally: &mut Tally, n: u64, counters: &[u16; 17]) -> Outcome {
+        let library = told::number(self.library().find(n as usize, counters));
+        let second = second::find(self.bytes, self.lent.second(), n, counters);
+        let question = || format!("find {counters:?} from record {n} on");
+        self.same(tally, Family::Find, question, library, second)
+    }
+
+    /// Whether the lent index is the stream's own, asked by itself.
+    pub fn matches(&self, tally: &mut Tally) -> Outcome {
+        let (family, index) = match self.lent.library() {
+            None => return Ok(()),
+            Some(index @ Index::File(_)) => (Family::FileMatches, index),
+            Some(index @ Index::Columns { .. }) => (Family::ColumnsMatch, index),
+        };
+        let library = Stream::new(self.bytes).matches(index);
+        let library = library.map_err(told::refused);
+        let second = match second::agrees(self.bytes, self.lent.second()) {
+            Ok(true) => Ok(()),
+            Ok(false) => Err(second::Refused::Other(15)),
+            Err(refusal) => Err(refusal.into()),
+        };
+        let question = || "whether the index is the stream's own".to_string();
+        self.same(tally, family, question, library, second)
+    }
+}
+
+fn name_of(part: Part) -> &'static str {
+    match part {
+        Part::Name => "name",
+        Part::Text => "text",
+        Part::Attributes => "attributes",
+        Part::Trajectory => "trajectory",
+        Part::Channel(_) => "channel",
+        Part::Pixels => "pixels",
+        Part::Waveform => "waveform",
+    }
+}

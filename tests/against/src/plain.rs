@@ -1,0 +1,226 @@
+//! The plain structs of the C face, member by member: what an answer lacks is 0, and numbers that the wrapper
+//! cannot ask with, such as parts that no record has.
+
+use crate::tally::{Outcome, Tally};
+use cotterleaf::raw;
+use second_reader::{self as second, Detail, Field, Lent, Refused};
+use streams::{field_offset, record_number, Rng};
+
+/// Number, record and byte of a refusal as the C face gives them.
+fn numbers(refused: Refused) -> (u32, usize, usize) {
+    match refused {
+        Refused::Stream(refusal) => (
+            refusal.number,
+            refusal.record as usize,
+            refusal.byte as usize,
+        ),
+        Refused::Other(number) => (number, 0, 0),
+    }
+}
+
+fn refusal_of<T>(answer: &Result<T, Refused>) -> (u32, usize, usize) {
+    match answer {
+        Ok(_) => (0, 0, 0),
+        Err(refused) => numbers(*refused),
+    }
+}
+
+fn placed(answer: Result<second::Record, Refused>) -> raw::mrd_placed {
+    let (refusal, record, byte) = refusal_of(&answer);
+    let mut placed = raw::mrd_placed {
+        refusal,
+        record,
+        byte,
+        ..raw::mrd_placed::default()
+    };
+    if let Ok(found) = answer {
+        placed.number = found.number as usize;
+        placed.start = found.start as usize;
+        placed.size = found.size as usize;
+        placed.id = found.detail.kind().id();
+        set_own_numbers(&mut placed, found.detail);
+    }
+    placed
+}
+
+fn set_own_numbers(placed: &mut raw::mrd_placed, detail: Detail) {
+    match detail {
+        Detail::Close => {}
+        Detail::ConfigurationName { length }
+        | Detail::ConfigurationText { length }
+        | Detail::HeaderText { length }
+        | Detail::Text { length } => placed.length = length as usize,
+        Detail::Acquisition {
+            samples,
+            active_channels,
+            dimensions,
+        } => {
+            placed.samples = samples;
+            placed.channels = active_channels;
+            placed.dimensions = dimensions;
+        }
+        Detail::Image {
+            matrix_size,
+            channels,
+            data_type,
+            attribute_length,
+        } => {
+            [placed.matrix_x, placed.matrix_y, placed.matrix_z] = matrix_size;
+            placed.channels = channels;
+            placed.data_type = data_type;
+            placed.attribute_length = attribute_length;
+        }
+        Detail::Waveform { samples, channels } => {
+            placed.samples = samples;
+            placed.channels = channels;
+        }
+    }
+}
+
+fn field_answer(answer: Result<Field, Refused>) -> raw::mrd_field_answer {
+    let (refusal, record, byte) = refusal_of(&answer);
+    let mut told = raw::mrd_field_answer {
+        refusal,
+        record,
+        byte,
+        ..raw::mrd_field_answer::default()
+    };
+    match answer {
+        Ok(Field::Whole(whole)) => (told.r#type, told.whole) = (raw::MRD_WHOLE, whole),
+        Ok(Field::Signed(integer)) => (told.r#type, told.integer) = (raw::MRD_SIGNED, integer),
+        Ok(Field::Float(bits)) => (told.r#type, told.float_bits) = (raw::MRD_FLOAT, bits),
+        Err(_) => {}
+    }
+    told
+}
+
+/// The questions without an index at drawn numbers, all members compared.
+pub fn questions(tally: &Tally, rng: &mut Rng, bytes: &[u8], count: u64) -> Outcome {
+    let n = record_number(rng, count);
+    let place = second::kind_and_place(bytes, Lent::NONE, n);
+    let question = || format!("mrd_place of record {n}");
+    tally.same_value(question, raw::place(bytes, n as usize), placed(place))?;
+
+    let offset = field_offset(rng);
+    let field = second::field(bytes, Lent::NONE, n, offset);
+    let question = || format!("mrd_field at {offset} of record {n}");
+    let library = raw::field(bytes, n as usize, offset as usize);
+    tally.same_value(question, library, field_answer(field))?;
+
+    let (refusal, record, byte) = refusal_of(&second::check(bytes).map_err(Refused::from));
+    let checked = raw::mrd_checked {
+        refusal,
+        record,
+        byte,
+        count: second::check(bytes).unwrap_or(0) as usize,
+    };
+    let question = || "mrd_check".to_string();
+    tally.same_value(question, raw::check(bytes), checked)?;
+
+    let found = second::find(bytes, Lent::NONE, n, &[0; 17]);
+    let (refusal, record, byte) = refusal_of(&found);
+    let found = raw::mrd_found {
+        refusal,
+        record,
+        byte,
+        number: found.unwrap_or(0) as usize,
+    };
+    let question = || format!("mrd_find of zeros from {n} on");
+    tally.same_value(question, raw::find(bytes, n as usize, &[0; 17]), found)?;
+    unknown_part(tally, rng, bytes, n)
+}
+
+/// A part that no record has: the stream's refusal, then 16, then 17, at the stream's front.
+fn unknown_part(tally: &Tally, rng: &mut Rng, bytes: &[u8], n: u64) -> Outcome {
+    let part = rng.pick(&[0, 8, 9, 256 + 5, u32::MAX]);
+    let channel = rng.below(3) as usize;
+    let refused = match second::kind_and_place(bytes, Lent::NONE, n) {
+        Ok(_) => Refused::Other(17),
+        Err(refused) => refused,
+    };
+    let (refusal, record, byte) = numbers(refused);
+    let expected = raw::mrd_view_place {
+        refusal,
+        record,
+        byte,
+        start: 0,
+        length: 0,
+    };
+    let question = || format!("mrd_view of part {part} of record {n}");
+    let library = raw::view(bytes, n as usize, part, channel);
+    tally.same_value(question, library, expected)?;
+    // A channel number with a part that is no channel is not looked at.
+    let text = second::text(bytes, Lent::NONE, n);
+    let (refusal, record, byte) = refusal_of(&text);
+    let (_, start, length) = second::place_of_view(&text);
+    let expected = raw::mrd_view_place {
+        refusal,
+        record,
+        byte,
+        start: start as usize,
+        length: length as usize,
+    };
+    let question = || format!("mrd_view of the text of record {n}, channel {channel}");
+    tally.same_value(question, raw::view(bytes, n as usize, 2, channel), expected)
+}
+
+/// Every member of the steps from the beginning on: what a step that ends or goes on lacks is 0.
+pub fn steps(tally: &Tally, bytes: &[u8], read: &crate::walk::Read) -> Outcome {
+    let mut cursor = raw::beginning();
+    for (i, record) in read.records.iter().enumerate() {
+        let step = raw::next(bytes, cursor);
+        let next = raw::mrd_cursor {
+            number: i + 1,
+            start: (record.start + record.size) as usize,
+            phase: step.next.phase,
+        };
+        let expected = raw::mrd_step {
+            here: placed(Ok(*record)),
+            next,
+            ..raw::mrd_step::default()
+        };
+        tally.same_value(|| format!("mrd_next at {cursor:?}"), step, expected)?;
+        cursor = next;
+    }
+    let (refusal, record, byte) = refusal_of(&read.answer.map_err(Refused::from));
+    let expected = raw::mrd_step {
+        ended: true,
+        answer: raw::mrd_checked {
+            refusal,
+            record,
+            byte,
+            count: read.answer.unwrap_or(0) as usize,
+        },
+        ..raw::mrd_step::default()
+    };
+    let question = || format!("mrd_next at {cursor:?}");
+    tally.same_value(question, raw::next(bytes, cursor), expected)
+}
+
+/// Outputs without any room: every writing call refuses, and its length or position is 0.
+pub fn refused_outputs(tally: &Tally, bytes: &[u8]) -> Outcome {
+    let refused = match second::check(bytes) {
+        Ok(_) => Refused::Other(14),
+        Err(refusal) => refusal.into(),
+    };
+    let (refusal, record, byte) = numbers(refused);
+    let expected = raw::mrd_written {
+        refusal,
+        record,
+        byte,
+        length: 0,
+    };
+    let question = |what: &str| format!("{what} into no room");
+    let normal = raw::normal_form(bytes, &mut []);
+    tally.same_value(|| question("mrd_normal_form"), normal, expected)?;
+    let index = raw::write_index(bytes, &mut []);
+    tally.same_value(|| question("mrd_write_index"), index, expected)?;
+    let columns = raw::fill_columns(bytes, &mut [], &mut [], &mut []);
+    tally.same_value(|| question("mrd_fill_columns"), columns, expected)?;
+    let close = raw::write(4, &[], [&[]; 7], &mut [], 0);
+    let expected = raw::mrd_put {
+        refusal: 14,
+        position: 0,
+    };
+    tally.same_value(|| question("mrd_write"), close, expected)
+}

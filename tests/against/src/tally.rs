@@ -1,0 +1,277 @@
+//! What a run has met, the comparison that counts it, and the table that is printed at the end.
+
+use crate::told::Told;
+use second_reader::Kind;
+use std::collections::BTreeMap;
+use std::fmt::Debug;
+use streams::WRITER_REFUSALS;
+
+/// The calls by what they answer.
+#[derive(Clone, Copy, Debug, PartialEq, Eq, PartialOrd, Ord)]
+pub enum Family {
+    Check,
+    Walk,
+    Place,
+    View,
+    Field,
+    Find,
+    FileMatches,
+    ColumnsMatch,
+    NormalForm,
+    WriteIndex,
+    FillColumns,
+    Write,
+}
+
+impl Family {
+    pub const ALL: [Family; 12] = [
+        Family::Check,
+        Family::Walk,
+        Family::Place,
+        Family::View,
+        Family::Field,
+        Family::Find,
+        Family::FileMatches,
+        Family::ColumnsMatch,
+        Family::NormalForm,
+        Family::WriteIndex,
+        Family::FillColumns,
+        Family::Write,
+    ];
+
+    pub fn name(self) -> &'static str {
+        match self {
+            Family::Check => "check",
+            Family::Walk => "walk",
+            Family::Place => "place",
+            Family::View => "view",
+            Family::Field => "field",
+            Family::Find => "find",
+            Family::FileMatches => "file",
+            Family::ColumnsMatch => "columns",
+            Family::NormalForm => "normal",
+            Family::WriteIndex => "index",
+            Family::FillColumns => "fill",
+            Family::Write => "write",
+        }
+    }
+
+    /// Whether this number, 0 for an answer, is one that the rules let the family give.
+    fn may_give(self, number: u32) -> bool {
+        if number == 0 {
+            return true;
+        }
+        if self == Family::Write {
+            return WRITER_REFUSALS.contains(&number);
+        }
+        let own: &[u32] = match self {
+            Family::Check | Family::Walk | Family::Write => &[],
+            Family::Place | Family::Find => &[15, 16],
+            Family::View => &[15, 16, 17],
+            Family::Field => &[15, 16, 20],
+            Family::FileMatches | Family::ColumnsMatch => &[15],
+            Family::NormalForm | Family::WriteIndex | Family::FillColumns => &[14],
+        };
+        matches!(number, 1..=13 | 19) || own.contains(&number)
+    }
+}
+
+/// A question that the two readers answer differently.
+pub struct Difference {
+    pub question: String,
+    pub library: String,
+    pub second: String,
+}
+
+pub type Outcome = Result<(), Difference>;
+
+/// Everything but answers that a run must meet, by group.
+const GROUPS: [(&str, &[&str]); 9] = [
+    (
+        "view shown",
+        &[
+            "name",
+            "text",
+            "attributes",
+            "trajectory",
+            "channel",
+            "pixels",
+            "waveform",
+        ],
+    ),
+    ("element", &["whole", "signed", "float", "NaN"]),
+    (
+        "file lent",
+        &[
+            "right",
+            "one byte off",
+            "short",
+            "trailing bytes",
+            "one record less",
+            "empty",
+        ],
+    ),
+    (
+        "columns lent",
+        &[
+            "right",
+            "one number off",
+            "one column short",
+            "longer",
+            "empty",
+        ],
+    ),
+    ("file believed", &["place", "view", "field", "find", "file"]),
+    (
+        "file not believed",
+        &["place", "view", "field", "find", "file"],
+    ),
+    (
+        "columns believed",
+        &["place", "view", "field", "find", "columns"],
+    ),
+    (
+        "columns not believed",
+        &["place", "view", "field", "find", "columns"],
+    ),
+    ("room", &["exact", "short", "long"]),
+];
+
+/// How often each thing was met where both readers agreed.
+#[derive(Default)]
+pub struct Tally {
+    pub streams: u64,
+    answers: BTreeMap<(Family, u32), u64>,
+    kinds: BTreeMap<Kind, u64>,
+    met: BTreeMap<(&'static str, &'static str), u64>,
+}
+
+impl Tally {
+    /// Compares the two answers to a question and counts the number that both give.
+    pub fn same<T: PartialEq + Debug>(
+        &mut self,
+        family: Family,
+        question: impl Fn() -> String,
+        library: Told<T>,
+        second: Told<T>,
+    ) -> Outcome {
+        let number = second.as_ref().err().map_or(0, |refused| refused.number());
+        self.same_value(question, library, second)?;
+        *self.answers.entry((family, number)).or_default() += 1;
+        Ok(())
+    }
+
+    /// Compares two values that are no answers, or parts of some.
+    pub fn same_value<T: PartialEq + Debug>(
+        &self,
+        question: impl Fn() -> String,
+        library: T,
+        second: T,
+    ) -> Outcome {
+        if library == second {
+            return Ok(());
+        }
+        Err(Difference {
+            question: question(),
+            library: format!("{library:?}"),
+            second: format!("{second:?}"),
+        })
+    }
+
+    /// Compares two whole buffers, and names the first place that differs.
+    pub fn same_buffer<T: PartialEq + Debug>(
+        &self,
+        question: impl Fn() -> String,
+        library: &[T],
+        second: &[T],
+    ) -> Outcome {
+        let differs = |i: &usize| library.get(*i) != second.get(*i);
+        match (0..library.len().max(second.len())).find(differs) {
+            None => Ok(()),
+            Some(i) => Err(Difference {
+                question: format!("{}, place {i} of the output", question()),
+                library: format!("{:?}", library.get(i)),
+                second: format!("{:?}", second.get(i)),
+            }),
+        }
+    }
+
+    pub fn note(&mut self, group: &'static str, what: &'static str) {
+        *self.met.entry((group, what)).or_default() += 1;
+    }
+
+    pub fn note_kind(&mut self, kind: Kind) {
+        *self.kinds.entry(kind).or_default() += 1;
+    }
+
+    fn answers(&self, family: Family, number: u32) -> u64 {
+        *self.answers.get(&(family, number)).unwrap_or(&0)
+    }
+
+    fn times(&self, group: &'static str, what: &'static str) -> u64 {
+        *self.met.get(&(group, what)).unwrap_or(&0)
+    }
+
+    pub fn print(&self) {
+        print!("{:>8}", "number");
+        for family in Family::ALL {
+            print!("{:>9}", family.name());
+        }
+        println!();
+        for number in 0..=20 {
+            print!("{number:>8}");
+            for family in Family::ALL {
+                if family.may_give(number) {
+                    print!("{:>9}", self.answers(family, number));
+                } else {
+                    print!("{:>9}", "-");
+                }
+            }
+            println!();
+        }
+        for kind in Kind::ALL {
+            let times = self.kinds.get(&kind).unwrap_or(&0);
+            println!("kind {} ({kind:?}): {times} records", kind.id());
+        }
+        for (group, names) in GROUPS {
+            let counts: Vec<String> = names
+                .iter()
+                .map(|name| format!("{name} {}", self.times(group, name)))
+                .collect();
+            println!("{group}: {}", counts.join(", "));
+        }
+    }
+
+    /// What a run over many streams must meet and did not, and numbers that no such call may give.
+    pub fn missing(&self) -> Vec<String> {
+        let mut missing = Vec::new();
+        for family in Family::ALL {
+            for number in 0..=20 {
+                if family.may_give(number) && self.answers(family, number) == 0 {
+                    missing.push(format!("{number} from {}", family.name()));
+                }
+            }
+        }
+        for (&(family, number), times) in &self.answers {
+            if !family.may_give(number) {
+                missing.push(format!(
+                    "a rule for {number} from {}, given {times} times",
+                    family.name()
+                ));
+            }
+        }
+        for kind in Kind::ALL {
+            if !self.kinds.contains_key(&kind) {
+                missing.push(format!("kind {}", kind.id()));
+            }
+        }
+        for (group, names) in GROUPS {
+            for name in names {
+                if self.times(group, name) == 0 {
+                    missing.push(format!("{group}: {name}"));
+                }
+            }
+        }
+        missing
+    }
+}

@@ -1,0 +1,202 @@
+//! The check and the walk: every step over a stream, the answer from each cursor on, and made-up cursors.
+
+use crate::tally::{Family, Outcome, Tally};
+use crate::told;
+use cotterleaf::{Cursor, Step, Stream};
+use second_reader::{self as second, Kind, Record, Refusal, MOST_MESSAGES};
+use streams::Rng;
+
+/// What the second reader says of a stream: the records before any fault, and the answer.
+pub struct Read {
+    pub records: Vec<Record>,
+    pub answer: Result<u64, Refusal>,
+}
+
+impl Read {
+    pub fn of(bytes: &[u8]) -> Read {
+        match second::records(bytes) {
+            Ok(records) => Read {
+                answer: Ok(records.len() as u64),
+                records,
+            },
+            Err(refusal) => Read {
+                records: before(bytes, refusal),
+                answer: Err(refusal),
+            },
+        }
+    }
+
+    pub fn count(&self) -> u64 {
+        self.records.len() as u64
+    }
+
+    fn is_closed(&self) -> bool {
+        let last = self.records.last();
+        last.is_some_and(|record| record.detail.kind() == Kind::Close)
+    }
+}
+
+/// The records before the fault: those of the stream that is cut there and closed if it was not.
+fn before(bytes: &[u8], refusal: Refusal) -> Vec<Record> {
+    let front = &bytes[..refusal.byte as usize];
+    if let Ok(records) = second::records(front) {
+        return records;
+    }
+    if refusal.number == 19 {
+        // With a close it would still be one message too many: the last one makes way for it.
+        return before_last(front);
+    }
+    let closed = [front, &[4, 0]].concat();
+    let mut records = second::records(&closed).expect("what stands before the fault is sound");
+    records.pop();
+    records
+}
+
+/// The records of a front of 1,000,000 messages whose last is a text without content.
+fn before_last(front: &[u8]) -> Vec<Record> {
+    let mut closed = front[..front.len() - 6].to_vec();
+    closed.extend([4, 0]);
+    let mut records = second::records(&closed).expect("what stands before the fault is sound");
+    let last = records.last_mut().expect("1,000,000 records");
+    last.detail = second::Detail::Text { length: 0 };
+    last.size = 6;
+    records
+}
+
+/// The stream's answer, and each step of the walk over it. From some of the cursors the rest is checked too,
+/// whose answer is the stream's.
+pub fn walk(tally: &mut Tally, rng: &mut Rng, bytes: &[u8], read: &Read) -> Outcome {
+    let stream = Stream::new(bytes);
+    let answer = read.answer.map_err(second::Refused::from);
+    let question = || "check".to_string();
+    tally.same(
+        Family::Check,
+        question,
+        told::number(stream.check()),
+        answer,
+    )?;
+    let mut cursor = Cursor::beginning();
+    for record in &read.records {
+        let question = || format!("step at {cursor:?}");
+        match stream.step(cursor) {
+            Step::Record(here, next) => {
+                tally.same(Family::Walk, question, Ok(told::record(here)), Ok(*record))?;
+                cursor = next;
+            }
+            Step::End(end) => {
+                return tally.same(Family::Walk, question, told::number(end), Ok(record.number))
+            }
+        }
+        tally.note_kind(record.detail.kind());
+        if rng.one_in(4 + read.count() / 4) {
+            let question = || format!("check from {cursor:?}");
+            let rest = told::number(stream.check_from(cursor));
+            tally.same(Family::Walk, question, rest, answer)?;
+        }
+    }
+    let question = || format!("end of the walk at {cursor:?}");
+    let end = match stream.step(cursor) {
+        Step::End(end) => told::number(end),
+        Step::Record(here, _) => Ok(here.number as u64),
+    };
+    tally.same(Family::Walk, question, end, answer)?;
+    let handed_out = stream.records().filter(|step| step.is_ok()).count();
+    let question = || "records that the iterator hands out".to_string();
+    tally.same_value(question, handed_out, read.records.len())
+}
+
+/// A cursor that no walk needs to have met.
+fn drawn_cursor(rng: &mut Rng, bytes: &[u8], read: &Read) -> Cursor {
+    let start = match rng.below(4) {
+        0 => rng.below(bytes.len() as u64 + 1),
+        1 => bytes.len() as u64 + rng.pick(&[0, 1, 1 << 40]),
+        _ => match read.records.len() as u64 {
+            0 => 0,
+            count => read.records[rng.below(count) as usize].start,
+        },
+    };
+    let number = match rng.below(4) {
+        0 => MOST_MESSAGES - 1 - rng.below(4),
+        1 => MOST_MESSAGES + rng.pick(&[0, 1, 1 << 40]),
+        _ => rng.below(1_000),
+    };
+    let phase = rng.pick(&[0, 1, 2, 2, 3, 4, 257, u32::MAX]);
+    Cursor {
+        number: number as usize,
+        start: start as usize,
+        phase,
+    }
+}
+
+/// What the second reader says from a cursor on. It knows no cursors, so it reads what is left behind a message
+/// that brings the order to the same phase; the numbers are moved, and 1,000,000 messages counted, by hand.
+fn read_from(bytes: &[u8], cursor: Cursor) -> Read {
+    let front: &[u8] = match cursor.phase {
+        0 => &[],
+        1 => &[2, 0, 0, 0, 0, 0],
+        2 => &[3, 0, 0, 0, 0, 0],
+        _ => &[4, 0],
+    };
+    let rest = bytes.get(cursor.start..).unwrap_or(&[]);
+    let mut read = Read::of(&[front, rest].concat());
+    let closed = read.is_closed();
+    let fronts = usize::from(!front.is_empty());
+    read.records.drain(..fronts);
+    let number = |n: u64| n - fronts as u64 + cursor.number as u64;
+    let byte = |b: u64| b - front.len() as u64 + cursor.start as u64;
+    for record in &mut read.records {
+        record.number = number(record.number);
+        record.start = byte(record.start);
+    }
+    read.answer = match read.answer {
+        Ok(count) => Ok(number(count)),
+        Err(refusal) => Err(Refusal {
+            number: refusal.number,
+            record: number(refusal.record),
+            byte: byte(refusal.byte),
+        }),
+    };
+    count_to_the_limit(&mut read, cursor, closed);
+    read
+}
+
+/// Refuses with 19 the first message that begins after 1,000,000, unless the checks before it refuse it.
+fn count_to_the_limit(read: &mut Read, cursor: Cursor, closed: bool) {
+    let allowed = MOST_MESSAGES.saturating_sub(cursor.number as u64) as usize;
+    let begins = match (read.records.get(allowed), read.answer) {
+        (Some(record), _) => record.start,
+        (None, Err(refusal))
+            if read.records.len() == allowed && refusal.number != 13 && !closed =>
+        {
+            refusal.byte
+        }
+        _ => return,
+    };
+    read.records.truncate(allowed);
+    read.answer = Err(Refusal {
+        number: 19,
+        record: (cursor.number + allowed) as u64,
+        byte: begins,
+    });
+}
+
+/// The step at a made-up cursor, and the answer from it on.
+pub fn made_up_cursor(tally: &mut Tally, rng: &mut Rng, bytes: &[u8], read: &Read) -> Outcome {
+    let stream = Stream::new(bytes);
+    let cursor = drawn_cursor(rng, bytes, read);
+    let expected = read_from(bytes, cursor);
+    let answer = expected.answer.map_err(second::Refused::from);
+    let question = || format!("check from the made-up {cursor:?}");
+    let rest = told::number(stream.check_from(cursor));
+    tally.same(Family::Walk, question, rest, answer)?;
+    let question = || format!("step at the made-up {cursor:?}");
+    match (stream.step(cursor), expected.records.first()) {
+        (Step::Record(here, next), Some(&record)) => {
+            tally.same(Family::Walk, question, Ok(told::record(here)), Ok(record))?;
+            let rest = told::number(stream.check_from(next));
+            tally.same(Family::Walk, question, rest, answer)
+        }
+        (Step::End(end), None) => tally.same(Family::Walk, question, told::number(end), answer),
+        (step, record) => tally.same_value(question, format!("{step:?}"), format!("{record:?}")),
+    }
+}

@@ -1,0 +1,308 @@
+/* The worked examples of document 01, and each call of the library once, from C. */
+#include "cotterleaf.h"
+
+#include <stdio.h>
+#include <string.h>
+
+static int checks, failures;
+
+/* Goes on after a failure, so that one run shows all of them. */
+#define CHECK(condition)                                                     \
+    do {                                                                     \
+        checks++;                                                            \
+        if (!(condition)) {                                                  \
+            failures++;                                                      \
+            printf("line %d of paper.c fails: %s\n", __LINE__, #condition); \
+        }                                                                    \
+    } while (0)
+
+static void put(uint8_t *bytes, size_t at, int width, uint64_t number)
+{
+    for (int i = 0; i < width; i++)
+        bytes[at + (size_t)i] = (uint8_t)(number >> (8 * i));
+}
+
+/* P1 to P9. */
+static void answers(void)
+{
+    static const struct {
+        uint8_t bytes[8];
+        size_t length;
+        mrd_checked answer;
+    } rows[] = {
+        {{4, 0}, 2, {0, 0, 0, 1}},
+        {{0}, 0, {MRD_NO_CLOSE, 0, 0, 0}},
+        {{4}, 1, {MRD_ID_CUT, 0, 0, 0}},
+        {{4, 0, 0}, 3, {MRD_ORDER, 1, 2, 0}},
+        {{6, 0}, 2, {MRD_UNKNOWN_ID, 0, 0, 0}},
+        {{3, 0, 0, 0, 0}, 5, {MRD_FIXED_PART_CUT, 0, 0, 0}},
+        {{3, 0, 1, 0, 0, 0}, 6, {MRD_MESSAGE_CUT, 0, 0, 0}},
+        {{5, 0, 0, 0, 0, 0}, 6, {MRD_NO_CLOSE, 1, 6, 0}},
+        {{0xF0, 3}, 2, {MRD_ORDER, 0, 0, 0}},
+    };
+    for (size_t i = 0; i < sizeof rows / sizeof rows[0]; i++) {
+        mrd_checked told = mrd_check(rows[i].bytes, rows[i].length);
+        CHECK(told.refusal == rows[i].answer.refusal);
+        CHECK(told.record == rows[i].answer.record);
+        CHECK(told.byte == rows[i].answer.byte);
+        CHECK(told.count == rows[i].answer.count);
+    }
+    CHECK(mrd_check(NULL, 0).refusal == MRD_NO_CLOSE); /* an empty slice may have any pointer */
+}
+
+enum { SAMPLES = 256, CHANNELS = 2, DATA = SAMPLES * CHANNELS * 8, TRAJECTORY = SAMPLES * 2 * 4 };
+
+/* An acquisition header of 256 samples, 2 of 2 channels. */
+static void set_acquisition(uint8_t header[340], uint16_t dimensions)
+{
+    memset(header, 0, 340);
+    put(header, 0, 2, 1);
+    put(header, 14, 4, 77);
+    put(header, 34, 2, SAMPLES);
+    put(header, 36, 2, CHANNELS);
+    put(header, 38, 2, CHANNELS);
+    put(header, 176, 2, dimensions);
+    put(header, 178, 4, 0x7F800001); /* a signalling NaN as sample time */
+    put(header, 242, 2, 5);
+    put(header, 276, 4, 0xFFFFFFFE);
+}
+
+/* P10, and a stream that is written message after message and reads back. */
+static void written_reads_back(void)
+{
+    static uint8_t out[12000], data[DATA], trajectory[TRAJECTORY];
+    uint8_t header[340];
+    for (size_t i = 0; i < sizeof data; i++)
+        data[i] = (uint8_t)(i * 7);
+    memset(trajectory, 0x5A, sizeof trajectory);
+    memset(out, 0xEE, sizeof out);
+
+    mrd_parts text = {.text = (const uint8_t *)"<xml/>", .text_length = 6};
+    mrd_put put_header = mrd_write_parts(MRD_ID_HEADER_TEXT, &text, out, sizeof out, 0);
+    CHECK(put_header.refusal == 0 && put_header.position == 12);
+
+    set_acquisition(header, 0);
+    mrd_parts plain = {.header = header, .header_length = 340, .samples = data, .samples_length = DATA};
+    mrd_put first = mrd_write_parts(MRD_ID_ACQUISITION, &plain, out, sizeof out, put_header.position);
+    CHECK(first.refusal == 0 && first.position == 12 + 4438);
+
+    set_acquisition(header, 2);
+    mrd_parts radial = plain;
+    radial.trajectory = trajectory;
+    radial.trajectory_length = TRAJECTORY;
+    mrd_put second = mrd_write_parts(MRD_ID_ACQUISITION, &radial, out, sizeof out, first.position);
+    CHECK(second.refusal == 0 && second.position == first.position + 6486);
+    mrd_put last = mrd_write_parts(MRD_ID_CLOSE, &(mrd_parts){0}, out, sizeof out, second.position);
+    CHECK(last.refusal == 0 && last.position == second.position + 2);
+    CHECK(out[last.position] == 0xEE);
+
+    CHECK(mrd_check(out, last.position).count == 4);
+    CHECK(mrd_place(out, last.position, 1).size == 4438);
+    mrd_placed placed = mrd_place(out, last.position, 2);
+    CHECK(placed.size == 6486 && placed.start == first.position && placed.id == MRD_ID_ACQUISITION);
+    CHECK(placed.samples == SAMPLES && placed.channels == CHANNELS && placed.dimensions == 2);
+    mrd_view_place channel = mrd_view(out, last.position, 2, MRD_PART_CHANNEL, 1);
+    CHECK(channel.refusal == 0 && channel.length == SAMPLES * 8);
+    CHECK(channel.start == first.position + 342 + TRAJECTORY + SAMPLES * 8);
+    CHECK(memcmp(out + channel.start, data + SAMPLES * 8, SAMPLES * 8) == 0);
+    mrd_view_place empty = mrd_view(out, last.position, 1, MRD_PART_TRAJECTORY, 0);
+    CHECK(empty.refusal == 0 && empty.length == 0 && empty.start == 12 + 342);
+}
+
+/* What the writer refuses leaves the output as it was. */
+static void writer_refuses(void)
+{
+    uint8_t out[8], kept[8];
+    memset(out, 0xEE, sizeof out);
+    memcpy(kept, out, sizeof out);
+    mrd_parts none = {0};
+    mrd_parts text = {.text = kept, .text_length = 3};
+    CHECK(mrd_write_parts(6, &none, out, sizeof out, 0).refusal == MRD_UNKNOWN_ID);
+    CHECK(mrd_write_parts(MRD_ID_IMAGE, &none, out, sizeof out, 0).refusal == MRD_FIXED_PART_CUT);
+    CHECK(mrd_write_parts(MRD_ID_CLOSE, &text, out, sizeof out, 0).refusal == MRD_BODY);
+    CHECK(mrd_write_parts(MRD_ID_TEXT, &text, out, sizeof out, 0).refusal == MRD_OUTPUT);
+    CHECK(mrd_write_parts(MRD_ID_CLOSE, &none, out, sizeof out, 7).refusal == MRD_OUTPUT);
+    CHECK(mrd_write_parts(MRD_ID_CLOSE, &none, out, sizeof out, SIZE_MAX).refusal == MRD_OUTPUT);
+    CHECK(memcmp(out, kept, sizeof out) == 0);
+    CHECK(mrd_write_parts(MRD_ID_CLOSE, &none, out, sizeof out, 6).position == 8);
+}
+
+/* P11 and P12. */
+static void flags_and_counters(void)
+{
+    CHECK(mrd_flag_set(0, 7) == 64);
+    CHECK(mrd_flag_test(64, 7) && !mrd_flag_test(64, 6) && !mrd_flag_test(UINT64_MAX, 0));
+    CHECK(mrd_flag_clear(65, 7) == 1 && mrd_flag_clear(64, 65) == 64 && mrd_flag_set(64, 65) == 64);
+    CHECK(mrd_flag_set(0, 64) == UINT64_C(1) << 63);
+    CHECK(mrd_counter_step(4294967295u, 0) == 1);
+    CHECK(mrd_counter_step(0, 2147483648u) == INT32_MIN);
+}
+
+static const uint8_t TWO_RECORDS[8] = {3, 0, 0, 0, 0, 0, 4, 0};
+
+static const uint8_t INDEX[57] = {
+    0x01, 0x02, 0x00, 0x01, 0x00,
+    0x02, 0x08, 0x00, 0x08, 0x00, 0x00, 0x00, 0x00, 0x00, 0x00, 0x00,
+    0x03, 0x0E, 0x00, 0x00, 0x00, 0x00, 0x00, 0x00, 0x00, 0x00, 0x00, 0x03, 0x00, 0x00, 0x00, 0x00, 0x00,
+    0x03, 0x0E, 0x00, 0x06, 0x00, 0x00, 0x00, 0x00, 0x00, 0x00, 0x00, 0x04, 0x00, 0x00, 0x00, 0x00, 0x00,
+    0x04, 0x04, 0x00, 0x02, 0x00, 0x00, 0x00,
+};
+
+/* The 57 bytes, written and lent: believed as they are, 15 with any one of them changed. */
+static void index_file(void)
+{
+    uint8_t out[60];
+    memset(out, 0xEE, sizeof out);
+    CHECK(mrd_write_index(TWO_RECORDS, 8, out, 56).refusal == MRD_OUTPUT);
+    CHECK(out[0] == 0xEE);
+    CHECK(mrd_write_index(TWO_RECORDS, 8, out, sizeof out).length == 57);
+    CHECK(memcmp(out, INDEX, 57) == 0);
+    CHECK(out[57] == 0xEE && out[58] == 0xEE && out[59] == 0xEE);
+
+    CHECK(mrd_index_matches(TWO_RECORDS, 8, INDEX, 57).refusal == 0);
+    CHECK(mrd_index_matches(TWO_RECORDS, 8, out, 58).refusal == MRD_INDEX);
+    CHECK(mrd_index_matches(TWO_RECORDS, 8, NULL, 0).refusal == MRD_INDEX);
+    mrd_matched before = mrd_index_matches(TWO_RECORDS, 6, INDEX, 57);
+    CHECK(before.refusal == MRD_NO_CLOSE && before.record == 1 && before.byte == 6);
+    CHECK(mrd_place_with_file(TWO_RECORDS, 8, 1, INDEX, 57).start == 6);
+    CHECK(mrd_place_with_file(TWO_RECORDS, 8, 2, INDEX, 57).refusal == MRD_NO_RECORD);
+    CHECK(mrd_view_with_file(TWO_RECORDS, 8, 0, MRD_PART_TEXT, 0, INDEX, 57).start == 6);
+    CHECK(mrd_field_with_file(TWO_RECORDS, 8, 0, 0, INDEX, 57).refusal == MRD_NO_FIELD);
+    uint16_t asked[17] = {0};
+    CHECK(mrd_find_with_file(TWO_RECORDS, 8, 0, asked, INDEX, 57).refusal == MRD_NO_RECORD);
+    for (size_t i = 0; i < 57; i++) {
+        out[i] ^= 1;
+        CHECK(mrd_index_matches(TWO_RECORDS, 8, out, 57).refusal == MRD_INDEX);
+        CHECK(mrd_place_with_file(TWO_RECORDS, 8, 9, out, 57).refusal == MRD_INDEX);
+        out[i] ^= 1;
+    }
+    CHECK(mrd_view_with_file(TWO_RECORDS, 8, 0, 2, 0, out, 56).refusal == MRD_INDEX);
+    CHECK(mrd_field_with_file(TWO_RECORDS, 8, 0, 0, out, 56).refusal == MRD_INDEX);
+    CHECK(mrd_find_with_file(TWO_RECORDS, 8, 0, asked, out, 56).refusal == MRD_INDEX);
+}
+
+/* Columns filled and believed, and 15 with one number changed. */
+static void index_columns(void)
+{
+    uint64_t starts[3] = {91, 92, 93};
+    uint16_t ids[3] = {94, 95, 96};
+    uint32_t counters[3] = {97, 98, 99};
+    CHECK(mrd_fill_columns(TWO_RECORDS, 8, starts, 3, ids, 1, counters, 3).refusal == MRD_OUTPUT);
+    CHECK(starts[0] == 91 && ids[0] == 94 && counters[0] == 97);
+    CHECK(mrd_fill_columns(TWO_RECORDS, 8, starts, 3, ids, 2, counters, 3).length == 2);
+    CHECK(starts[0] == 0 && starts[1] == 6 && starts[2] == 93);
+    CHECK(ids[0] == 3 && ids[1] == 4 && ids[2] == 96);
+    CHECK(counters[0] == 0 && counters[1] == 0 && counters[2] == 99);
+
+    uint16_t asked[17] = {0};
+    CHECK(mrd_columns_match(TWO_RECORDS, 8, starts, 3, ids, 3, counters, 2).refusal == 0);
+    CHECK(mrd_place_with_columns(TWO_RECORDS, 8, 1, starts, 3, ids, 3, counters, 2).start == 6);
+    CHECK(mrd_view_with_columns(TWO_RECORDS, 8, 0, 2, 0, starts, 3, ids, 3, counters, 2).start == 6);
+    CHECK(mrd_field_with_columns(TWO_RECORDS, 8, 0, 0, starts, 3, ids, 3, counters, 2).refusal == 20);
+    CHECK(mrd_find_with_columns(TWO_RECORDS, 8, 0, asked, starts, 3, ids, 3, counters, 2).refusal == 16);
+    CHECK(mrd_columns_match(TWO_RECORDS, 8, starts, 1, ids, 3, counters, 2).refusal == MRD_INDEX);
+    ids[1] = 5;
+    CHECK(mrd_columns_match(TWO_RECORDS, 8, starts, 3, ids, 3, counters, 2).refusal == MRD_INDEX);
+    CHECK(mrd_place_with_columns(TWO_RECORDS, 8, 1, starts, 3, ids, 3, counters, 2).refusal == 15);
+    CHECK(mrd_view_with_columns(TWO_RECORDS, 8, 0, 2, 0, starts, 3, ids, 3, counters, 2).refusal == 15);
+    CHECK(mrd_field_with_columns(TWO_RECORDS, 8, 0, 0, starts, 3, ids, 3, counters, 2).refusal == 15);
+    CHECK(mrd_find_with_columns(TWO_RECORDS, 8, 0, asked, starts, 3, ids, 3, counters, 2).refusal == 15);
+}
+
+/* A refused view is the empty part at the stream's front; its place says why. */
+static void refused_views(void)
+{
+    mrd_view_place wrong = mrd_view(TWO_RECORDS, 8, 1, MRD_PART_TEXT, 0);
+    CHECK(wrong.refusal == MRD_NO_PART && wrong.start == 0 && wrong.length == 0);
+    CHECK(mrd_view(TWO_RECORDS, 8, 0, 99, 0).refusal == MRD_NO_PART);
+    CHECK(mrd_view(TWO_RECORDS, 8, SIZE_MAX, MRD_PART_TEXT, 0).refusal == MRD_NO_RECORD);
+    mrd_view_place of_refused = mrd_view(TWO_RECORDS, 7, 0, MRD_PART_TEXT, 0);
+    CHECK(of_refused.refusal == MRD_ID_CUT && of_refused.record == 1 && of_refused.byte == 6);
+    CHECK(of_refused.start == 0 && of_refused.length == 0);
+    mrd_view_place empty_text = mrd_view(TWO_RECORDS, 8, 0, MRD_PART_TEXT, 7);
+    CHECK(empty_text.refusal == 0 && empty_text.start == 6 && empty_text.length == 0);
+}
+
+/* Two names that differ in what follows their zero have one normal form. */
+static void one_normal_form(void)
+{
+    static uint8_t one[1028], other[1028], normal_one[1030], normal_other[1030];
+    memset(one + 2, 0x11, 1024);
+    memset(other + 2, 0x22, 1024);
+    put(one, 0, 2, MRD_ID_CONFIGURATION_NAME);
+    put(other, 0, 2, MRD_ID_CONFIGURATION_NAME);
+    memcpy(one + 2, "radial", 7);
+    memcpy(other + 2, "radial", 7);
+    put(one, 1026, 2, MRD_ID_CLOSE);
+    put(other, 1026, 2, MRD_ID_CLOSE);
+    memset(normal_one, 0xEE, sizeof normal_one);
+    memset(normal_other, 0xEE, sizeof normal_other);
+    CHECK(memcmp(one, other, sizeof one) != 0);
+    CHECK(mrd_normal_form(one, 1028, normal_one, 1027).refusal == MRD_OUTPUT && normal_one[0] == 0xEE);
+    CHECK(mrd_normal_form(one, 1028, normal_one, 1030).length == 1028);
+    CHECK(mrd_normal_form(other, 1028, normal_other, 1030).length == 1028);
+    CHECK(memcmp(normal_one, normal_other, 1030) == 0);
+    CHECK(normal_one[8] == 0 && normal_one[1025] == 0 && normal_one[1026] == 4 && normal_one[1028] == 0xEE);
+    mrd_view_place name = mrd_view(one, 1028, 0, MRD_PART_NAME, 0);
+    CHECK(name.start == 2 && name.length == 6);
+}
+
+/* Fields of each type, and find, in a stream of one acquisition without samples. */
+static void fields_and_find(void)
+{
+    uint8_t stream[6 + 342 + 2] = {3, 0};
+    uint8_t header[340];
+    set_acquisition(header, 2);
+    put(header, 34, 2, 0);
+    put(stream, 6, 2, MRD_ID_ACQUISITION);
+    memcpy(stream + 8, header, 340);
+    put(stream, 348, 2, MRD_ID_CLOSE);
+    mrd_field_answer counter = mrd_field(stream, sizeof stream, 1, 14);
+    CHECK(counter.refusal == 0 && counter.type == MRD_WHOLE && counter.whole == 77);
+    mrd_field_answer integer = mrd_field(stream, sizeof stream, 1, 276);
+    CHECK(integer.type == MRD_SIGNED && integer.integer == -2);
+    mrd_field_answer nan = mrd_field(stream, sizeof stream, 1, 178);
+    CHECK(nan.type == MRD_FLOAT && nan.float_bits == 0x7F800001);
+    CHECK(mrd_float_of(0x3F800000) == 1.0f);
+    CHECK(mrd_field(stream, sizeof stream, 1, 15).refusal == MRD_NO_FIELD);
+    CHECK(mrd_field(stream, sizeof stream, 0, 0).refusal == MRD_NO_FIELD);
+    CHECK(mrd_field(stream, sizeof stream, 3, 15).refusal == MRD_NO_RECORD);
+    uint16_t asked[17] = {5};
+    CHECK(mrd_find(stream, sizeof stream, 0, asked).number == 1);
+    CHECK(mrd_find(stream, sizeof stream, 2, asked).refusal == MRD_NO_RECORD);
+    asked[16] = 1;
+    CHECK(mrd_find(stream, sizeof stream, 0, asked).refusal == MRD_NO_RECORD);
+}
+
+/* A walk hands out each record once and then the answer; from any cursor there is one. */
+static void walk(void)
+{
+    mrd_step first = mrd_next(TWO_RECORDS, 8, mrd_beginning());
+    CHECK(!first.ended && first.here.id == 3 && first.here.size == 6 && first.next.phase == 2);
+    mrd_step second = mrd_next(TWO_RECORDS, 8, first.next);
+    CHECK(!second.ended && second.here.id == 4 && second.here.start == 6 && second.next.phase == 3);
+    mrd_step end = mrd_next(TWO_RECORDS, 8, second.next);
+    CHECK(end.ended && end.answer.refusal == 0 && end.answer.count == 2);
+    CHECK(mrd_check_from(TWO_RECORDS, 8, first.next).count == 2);
+    mrd_cursor over = {7, 6, 400};
+    mrd_checked told = mrd_check_from(TWO_RECORDS, 8, over);
+    CHECK(told.refusal == MRD_ORDER && told.record == 7 && told.byte == 6);
+    mrd_cursor past = {1000000, SIZE_MAX, 0};
+    CHECK(mrd_next(TWO_RECORDS, 8, past).answer.refusal == MRD_NO_CLOSE);
+}
+
+int main(void)
+{
+    answers();
+    written_reads_back();
+    writer_refuses();
+    flags_and_counters();
+    index_file();
+    index_columns();
+    refused_views();
+    one_normal_form();
+    fields_and_find();
+    walk();
+    printf("paper.c: %d checks, %d failed\n", checks, failures);
+    return failures != 0;
+}

@@ -15,7 +15,9 @@ pub fn on_drawn_streams(count: usize, seed: u64) {
             assert_eq!(refusal.number, number);
         }
         let messages = streams::well_formed(&mut rng, 6_000);
-        on_stream(&mut rng, &streams::joined(&messages)).expect("a well-formed stream");
+        let stream = streams::joined(&messages);
+        on_stream(&mut rng, &stream).expect("a well-formed stream");
+        on_every_offset(&stream, round % messages.len());
         let damage = round % streams::DAMAGES.len();
         let damaged = streams::damaged(&mut rng, damage, 6_000);
         let _ = on_stream(&mut rng, &damaged);
@@ -57,6 +59,14 @@ fn on_stream(rng: &mut Rng, stream: &[u8]) -> Result<usize, crate::baseline::Ref
     }
     on_index(rng, stream);
     answer
+}
+
+/// The whole header of one record, and what lies beside its elements.
+fn on_every_offset(stream: &[u8], n: usize) {
+    for offset in 0..=342 {
+        let answer = library::field(stream, n, offset);
+        assert_eq!(questions::field(stream, n, offset), answer);
+    }
 }
 
 fn on_index(rng: &mut Rng, stream: &[u8]) {

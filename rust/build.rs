@@ -17,6 +17,7 @@ fn main() {
         );
         std::process::exit(1);
     }
+    let folder = folder.canonicalize().expect("a folder that can be named");
     println!("cargo:rustc-link-search=native={}", folder.display());
     println!("cargo:rustc-link-lib=static=cotterleaf");
 }

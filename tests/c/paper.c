@@ -303,6 +303,9 @@ int main(void)
     one_normal_form();
     fields_and_find();
     walk();
-    printf("paper.c: %d checks, %d failed\n", checks, failures);
+    if (failures == 0)
+        printf("paper.c: ok, %d checks\n", checks);
+    else
+        printf("paper.c: %d of %d checks failed\n", failures, checks);
     return failures != 0;
 }

@@ -1,5 +1,6 @@
 //! The kept stream passes, and whatever is changed in it or in its description is found.
 
+use cotterleaf::{Kind, Message, Part, Record, Stream};
 use field_data::check::check_both;
 use field_data::description::Description;
 
@@ -100,4 +101,52 @@ fn a_changed_or_missing_line_of_the_description_is_found() {
             "without {line}"
         );
     }
+}
+
+/// A record's header bytes and parts as the library gives them, written by the library's writer.
+fn written_again(stream: &Stream, record: &Record, out: &mut [u8], position: usize) -> usize {
+    let part = |part| stream.view(record.number, part).unwrap_or(&[]);
+    let channels: Vec<&[u8]> = match record.kind {
+        Kind::Acquisition {
+            active_channels, ..
+        } => (0..usize::from(active_channels))
+            .map(|channel| part(Part::Channel(channel)))
+            .collect(),
+        _ => vec![],
+    };
+    let header = match record.kind {
+        Kind::Acquisition { .. } => 340,
+        Kind::Image { .. } => 198,
+        Kind::Waveform { .. } => 32,
+        _ => 0,
+    };
+    let message = Message {
+        id: record.kind.id(),
+        header: &stream.bytes()[record.start + 2..][..header],
+        name: part(Part::Name),
+        text: part(Part::Text),
+        trajectory: part(Part::Trajectory),
+        samples: &channels.concat(),
+        attributes: part(Part::Attributes),
+        pixels: part(Part::Pixels),
+        waveform: part(Part::Waveform),
+    };
+    message.write(out, position).unwrap()
+}
+
+#[test]
+fn the_library_writes_the_same_bytes_again() {
+    let (bytes, _) = kept();
+    let stream = Stream::new(&bytes);
+    let mut out = vec![0xAA; bytes.len()];
+    let mut position = 0;
+    for record in stream.records() {
+        position = written_again(&stream, &record.unwrap(), &mut out, position);
+    }
+    assert_eq!(position, bytes.len());
+    assert!(out == bytes);
+    // It has no configuration name, so that it is its own normal form.
+    out.fill(0xAA);
+    assert_eq!(stream.normal_form(&mut out), Ok(bytes.len()));
+    assert!(out == bytes);
 }

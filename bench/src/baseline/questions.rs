@@ -91,7 +91,7 @@ fn element_at(kind: &Kind, offset: usize) -> Option<Element> {
     };
     let &(start, count, element) = runs.iter().rev().find(|&&(start, ..)| start <= offset)?;
     let into = offset - start;
-    (into % element.size() == 0 && into / element.size() < count).then_some(element)
+    (into.is_multiple_of(element.size()) && into / element.size() < count).then_some(element)
 }
 
 /// Place and kind of record `n`.

@@ -146,61 +146,57 @@ fn an_index_is_believed_where_it_is_the_streams_own() {
     }
 }
 
+/// The record as a writer is lent it, from its views and the header's bytes.
+fn message_of<'a>(stream: &Stream<'a>, record: &Record) -> Message<'a> {
+    let n = record.number;
+    let part = |part| stream.view(n, part).unwrap_or_default();
+    let header_length = match record.kind {
+        Kind::Acquisition { .. } => 340,
+        Kind::Image { .. } => 198,
+        Kind::Waveform { .. } => 32,
+        _ => 0,
+    };
+    // The samples of both channels adjoin.
+    let samples = match stream.view_place(n, Part::Channel(0)) {
+        Ok(first) => first.start..stream.view_place(n, Part::Channel(1)).unwrap().end,
+        Err(_) => 0..0,
+    };
+    Message {
+        id: record.kind.id(),
+        header: &stream.bytes()[record.start + 2..][..header_length],
+        name: part(Part::Name),
+        text: part(Part::Text),
+        trajectory: part(Part::Trajectory),
+        samples: &stream.bytes()[samples],
+        attributes: part(Part::Attributes),
+        pixels: part(Part::Pixels),
+        waveform: part(Part::Waveform),
+    }
+}
+
 #[test]
-fn each_part_of_a_message_goes_to_its_place() {
+fn records_written_back_are_the_normal_form() {
     let stream = Stream::new(ALL_KINDS);
     let mut out = vec![0xEE; ALL_KINDS.len()];
     let mut position = 0;
     for record in stream.records() {
-        let Record {
-            number: n,
-            start,
-            kind,
-            ..
-        } = record.unwrap();
-        let part = |part| stream.view(n, part).unwrap_or_default();
-        let header_length = match kind {
-            Kind::Acquisition { .. } => 340,
-            Kind::Image { .. } => 198,
-            Kind::Waveform { .. } => 32,
-            _ => 0,
-        };
-        let first = stream
-            .view_place(n, Part::Channel(0))
-            .map_or(0, |place| place.start);
-        let second = stream
-            .view_place(n, Part::Channel(1))
-            .map_or(0, |place| place.end);
-        let message = Message {
-            id: kind.id(),
-            header: &ALL_KINDS[start + 2..][..header_length],
-            name: part(Part::Name),
-            text: part(Part::Text),
-            trajectory: part(Part::Trajectory),
-            samples: &ALL_KINDS[first..second],
-            attributes: part(Part::Attributes),
-            pixels: part(Part::Pixels),
-            waveform: part(Part::Waveform),
-        };
+        let message = message_of(&stream, &record.unwrap());
         position = message.write(&mut out, position).unwrap();
     }
     assert_eq!(position, ALL_KINDS.len());
     let mut normal = vec![0; ALL_KINDS.len()];
     assert_eq!(stream.normal_form(&mut normal), Ok(ALL_KINDS.len()));
-    assert!(out == normal, "what is written back is the normal form");
+    assert!(out == normal && out != ALL_KINDS);
 
-    let refused = Message {
+    let unknown = Message {
         id: 6,
         ..Message::default()
-    }
-    .write(&mut out, 0);
-    assert_eq!(
-        refused,
-        Err(Refusal {
-            number: 2,
-            place: None
-        })
-    );
+    };
+    let refusal = Refusal {
+        number: 2,
+        place: None,
+    };
+    assert_eq!(unknown.write(&mut out, 0), Err(refusal));
 }
 
 #[test]

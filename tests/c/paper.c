@@ -67,45 +67,54 @@ static void set_acquisition(uint8_t header[340], uint16_t dimensions)
     put(header, 276, 4, 0xFFFFFFFE);
 }
 
+static uint8_t written[12000], samples[DATA], trajectory[TRAJECTORY];
+
+/* A header text, an acquisition without and one with a trajectory, and the close, written one after another.
+ * Answers the length of the stream, and where the second acquisition starts. P10 is both acquisitions' size. */
+static size_t write_stream(size_t *second)
+{
+    uint8_t header[340];
+    mrd_parts text = {.text = (const uint8_t *)"<xml/>", .text_length = 6};
+    mrd_put end = mrd_write_parts(MRD_ID_HEADER_TEXT, &text, written, sizeof written, 0);
+    CHECK(end.refusal == 0 && end.position == 12);
+
+    set_acquisition(header, 0);
+    mrd_parts parts = {.header = header, .header_length = 340, .samples = samples, .samples_length = DATA};
+    end = mrd_write_parts(MRD_ID_ACQUISITION, &parts, written, sizeof written, end.position);
+    CHECK(end.refusal == 0 && end.position == 12 + 4438);
+    *second = end.position;
+
+    set_acquisition(header, 2);
+    parts.trajectory = trajectory;
+    parts.trajectory_length = TRAJECTORY;
+    end = mrd_write_parts(MRD_ID_ACQUISITION, &parts, written, sizeof written, end.position);
+    CHECK(end.refusal == 0 && end.position == *second + 6486);
+    end = mrd_write_parts(MRD_ID_CLOSE, &(mrd_parts){0}, written, sizeof written, end.position);
+    CHECK(end.refusal == 0 && end.position == *second + 6486 + 2);
+    return end.position;
+}
+
 /* P10, and a stream that is written message after message and reads back. */
 static void written_reads_back(void)
 {
-    static uint8_t out[12000], data[DATA], trajectory[TRAJECTORY];
-    uint8_t header[340];
-    for (size_t i = 0; i < sizeof data; i++)
-        data[i] = (uint8_t)(i * 7);
+    size_t second = 0;
+    for (size_t i = 0; i < sizeof samples; i++)
+        samples[i] = (uint8_t)(i * 7);
     memset(trajectory, 0x5A, sizeof trajectory);
-    memset(out, 0xEE, sizeof out);
+    memset(written, 0xEE, sizeof written);
+    size_t length = write_stream(&second);
+    CHECK(written[length] == 0xEE);
 
-    mrd_parts text = {.text = (const uint8_t *)"<xml/>", .text_length = 6};
-    mrd_put put_header = mrd_write_parts(MRD_ID_HEADER_TEXT, &text, out, sizeof out, 0);
-    CHECK(put_header.refusal == 0 && put_header.position == 12);
-
-    set_acquisition(header, 0);
-    mrd_parts plain = {.header = header, .header_length = 340, .samples = data, .samples_length = DATA};
-    mrd_put first = mrd_write_parts(MRD_ID_ACQUISITION, &plain, out, sizeof out, put_header.position);
-    CHECK(first.refusal == 0 && first.position == 12 + 4438);
-
-    set_acquisition(header, 2);
-    mrd_parts radial = plain;
-    radial.trajectory = trajectory;
-    radial.trajectory_length = TRAJECTORY;
-    mrd_put second = mrd_write_parts(MRD_ID_ACQUISITION, &radial, out, sizeof out, first.position);
-    CHECK(second.refusal == 0 && second.position == first.position + 6486);
-    mrd_put last = mrd_write_parts(MRD_ID_CLOSE, &(mrd_parts){0}, out, sizeof out, second.position);
-    CHECK(last.refusal == 0 && last.position == second.position + 2);
-    CHECK(out[last.position] == 0xEE);
-
-    CHECK(mrd_check(out, last.position).count == 4);
-    CHECK(mrd_place(out, last.position, 1).size == 4438);
-    mrd_placed placed = mrd_place(out, last.position, 2);
-    CHECK(placed.size == 6486 && placed.start == first.position && placed.id == MRD_ID_ACQUISITION);
+    CHECK(mrd_check(written, length).count == 4);
+    CHECK(mrd_place(written, length, 1).size == 4438);
+    mrd_placed placed = mrd_place(written, length, 2);
+    CHECK(placed.size == 6486 && placed.start == second && placed.id == MRD_ID_ACQUISITION);
     CHECK(placed.samples == SAMPLES && placed.channels == CHANNELS && placed.dimensions == 2);
-    mrd_view_place channel = mrd_view(out, last.position, 2, MRD_PART_CHANNEL, 1);
+    mrd_view_place channel = mrd_view(written, length, 2, MRD_PART_CHANNEL, 1);
     CHECK(channel.refusal == 0 && channel.length == SAMPLES * 8);
-    CHECK(channel.start == first.position + 342 + TRAJECTORY + SAMPLES * 8);
-    CHECK(memcmp(out + channel.start, data + SAMPLES * 8, SAMPLES * 8) == 0);
-    mrd_view_place empty = mrd_view(out, last.position, 1, MRD_PART_TRAJECTORY, 0);
+    CHECK(channel.start == second + 342 + TRAJECTORY + SAMPLES * 8);
+    CHECK(memcmp(written + channel.start, samples + SAMPLES * 8, SAMPLES * 8) == 0);
+    mrd_view_place empty = mrd_view(written, length, 1, MRD_PART_TRAJECTORY, 0);
     CHECK(empty.refusal == 0 && empty.length == 0 && empty.start == 12 + 342);
 }
 

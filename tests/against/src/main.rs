@@ -19,17 +19,9 @@ mod written;
 
 use std::process::ExitCode;
 use std::time::Instant;
+use streams::program::{number_argument, shown};
 use streams::Rng;
 use tally::{Difference, Outcome, Tally};
-
-fn number_argument(i: usize, otherwise: u64) -> u64 {
-    match std::env::args().nth(i) {
-        Some(text) => text
-            .parse()
-            .unwrap_or_else(|_| panic!("{text} is no number")),
-        None => otherwise,
-    }
-}
 
 /// The numbers of one stream follow from the seed and its own number alone, so that it can be drawn again.
 fn rng_of(seed: u64, number: u64) -> Rng {
@@ -61,13 +53,7 @@ fn report(where_: &str, bytes: &[u8], difference: &Difference) {
     println!("question: {}", difference.question);
     println!("library:  {}", difference.library);
     println!("second:   {}", difference.second);
-    let shown: Vec<String> = bytes
-        .iter()
-        .take(600)
-        .map(|byte| format!("{byte:02X}"))
-        .collect();
-    let more = if bytes.len() > 600 { " .." } else { "" };
-    println!("stream:   {}{more}", shown.join(" "));
+    println!("stream:   {}", shown(bytes));
 }
 
 fn main() -> ExitCode {

@@ -4,7 +4,7 @@
 use crate::tally::{Outcome, Tally};
 use cotterleaf::raw;
 use second_reader::{self as second, Detail, Field, Lent, Refused};
-use streams::{field_offset, record_number, Rng};
+use streams::Rng;
 
 /// Number, record and byte of a refusal as the C face gives them.
 fn numbers(refused: Refused) -> (u32, usize, usize) {
@@ -94,14 +94,12 @@ fn field_answer(answer: Result<Field, Refused>) -> raw::mrd_field_answer {
     told
 }
 
-/// The questions without an index at drawn numbers, all members compared.
-pub fn questions(tally: &Tally, rng: &mut Rng, bytes: &[u8], count: u64) -> Outcome {
-    let n = record_number(rng, count);
+/// The questions without an index, all members compared.
+pub fn questions(tally: &Tally, rng: &mut Rng, bytes: &[u8], n: u64, offset: u64) -> Outcome {
     let place = second::kind_and_place(bytes, Lent::NONE, n);
     let question = || format!("mrd_place of record {n}");
     tally.same_value(question, raw::place(bytes, n as usize), placed(place))?;
 
-    let offset = field_offset(rng);
     let field = second::field(bytes, Lent::NONE, n, offset);
     let question = || format!("mrd_field at {offset} of record {n}");
     let library = raw::field(bytes, n as usize, offset as usize);

@@ -18,7 +18,8 @@ pub fn ask(tally: &mut Tally, rng: &mut Rng, bytes: &[u8]) -> Outcome {
     each_family(tally, rng, bytes, &read)?;
     walk::made_up_cursor(tally, rng, bytes, &read)?;
     if rng.one_in(4) {
-        plain::questions(tally, rng, bytes, read.count())?;
+        let (n, offset) = drawn_field(rng, &read);
+        plain::questions(tally, rng, bytes, n, offset)?;
         plain::steps(tally, bytes, &read)?;
         plain::refused_outputs(tally, bytes)?;
     }

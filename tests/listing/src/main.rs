@@ -14,6 +14,7 @@ use second_reader::Kind;
 use std::collections::BTreeMap;
 use std::path::PathBuf;
 use std::process::ExitCode;
+use streams::program::{number_argument, shown};
 use streams::{Rng, SHORT_REFUSALS};
 
 /// How often each outcome was met in runs that agreed.
@@ -151,35 +152,19 @@ fn report(program: &Program, case: &Case, difference_found: &str) {
         case.input.len()
     );
     let shortest = shortest_difference(program, case);
-    let shown: Vec<String> = shortest
-        .input
-        .iter()
-        .take(600)
-        .map(|byte| format!("{byte:02X}"))
-        .collect();
     println!(
         "shortest input found, {} bytes: {}",
         shortest.input.len(),
-        shown.join(" ")
+        shown(&shortest.input)
     );
     if let Err(text) = difference(program, &shortest) {
         println!("{text}");
     }
 }
 
-fn number_argument(arguments: &[String], i: usize, otherwise: u64) -> u64 {
-    match arguments.get(i) {
-        Some(text) => text
-            .parse()
-            .unwrap_or_else(|_| panic!("{text} is no number")),
-        None => otherwise,
-    }
-}
-
-fn program_path(arguments: &[String]) -> PathBuf {
-    match arguments
-        .get(2)
-        .cloned()
+fn program_path() -> PathBuf {
+    match std::env::args()
+        .nth(3)
         .or_else(|| std::env::var("MRD_LIST").ok())
     {
         Some(path) => path.into(),
@@ -188,11 +173,10 @@ fn program_path(arguments: &[String]) -> PathBuf {
 }
 
 fn main() -> ExitCode {
-    let arguments: Vec<String> = std::env::args().skip(1).collect();
-    let count = number_argument(&arguments, 0, 4_000);
-    let seed = number_argument(&arguments, 1, 1);
+    let count = number_argument(1, 4_000);
+    let seed = number_argument(2, 1);
     let program = Program {
-        path: program_path(&arguments),
+        path: program_path(),
     };
 
     let mut rng = Rng::new(seed);

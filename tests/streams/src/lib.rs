@@ -4,6 +4,7 @@
 pub mod damaged;
 pub mod inputs;
 pub mod messages;
+pub mod program;
 pub mod rng;
 pub mod sample;
 pub mod well_formed;

@@ -1,7 +1,7 @@
 //! The baseline is worth comparing with only if it does the same. On drawn, damaged and refused streams and
 //! on a writer's inputs, library and baseline must give the same answers and write the same bytes.
 
-use crate::baseline::{index, questions, reader, writer::Message};
+use crate::baseline::{index, normal, questions, reader, writer::Message};
 use crate::library;
 use streams::{Rng, SHORT_REFUSALS, WRITER_REFUSALS};
 
@@ -57,6 +57,7 @@ fn on_stream(rng: &mut Rng, stream: &[u8]) -> Result<usize, crate::baseline::Ref
             questions::find(stream, n, &asked)
         );
     }
+    on_normal_form(stream);
     on_index(rng, stream);
     answer
 }
@@ -66,6 +67,16 @@ fn on_every_offset(stream: &[u8], n: usize) {
     for offset in 0..=342 {
         let answer = library::field(stream, n, offset);
         assert_eq!(questions::field(stream, n, offset), answer);
+    }
+}
+
+/// Into an output with room to spare, and into one that is too short.
+fn on_normal_form(stream: &[u8]) {
+    for length in [stream.len() + 3, stream.len().saturating_sub(1)] {
+        let (mut ours, mut theirs) = (vec![0xAA; length], vec![0xAA; length]);
+        let answer = library::normal_form(stream, &mut ours);
+        assert_eq!(normal::normal_form(stream, &mut theirs), answer);
+        assert_eq!(ours, theirs);
     }
 }
 

@@ -1,7 +1,7 @@
 //! What is measured on one stream. Each operation first shows that library and baseline give the same
 //! answer or write the same bytes, then times both.
 
-use crate::baseline::{index, questions, reader, writer::Message};
+use crate::baseline::{index, normal, questions, reader, writer::Message};
 use crate::library;
 use crate::made;
 use crate::table::{Row, Unit};
@@ -37,6 +37,7 @@ impl Measured<'_> {
             self.field(),
             self.find(),
             self.normal_form(out),
+            self.normal_form_against_copy(out),
             self.write(out),
             self.write_index(out),
             self.index_matches(out),
@@ -94,12 +95,26 @@ impl Measured<'_> {
         self.row("find", Unit::PerMessage, times)
     }
 
-    /// Against a bare copy of the stream, which checks nothing.
     fn normal_form(&self, out: &mut [u8]) -> Row {
         let s = self.stream;
         out.fill(0xAA);
         assert_eq!(library::normal_form(s, out), Ok(s.len()));
         assert!(made::is_normal_form(s, out));
+        out.fill(0xAA);
+        assert_eq!(normal::normal_form(s, out), Ok(s.len()));
+        assert!(made::is_normal_form(s, out));
+        let out = RefCell::new(out);
+        let times = alternately(
+            self.effort,
+            &mut || taken(library::normal_form(black_box(s), &mut out.borrow_mut())),
+            &mut || taken(normal::normal_form(black_box(s), &mut out.borrow_mut())),
+        );
+        self.row("normal form", Unit::Bandwidth, times)
+    }
+
+    /// Against a bare copy of the stream, which checks nothing.
+    fn normal_form_against_copy(&self, out: &mut [u8]) -> Row {
+        let s = self.stream;
         let out = RefCell::new(out);
         let times = alternately(
             self.effort,

@@ -3,6 +3,7 @@
 
 pub mod headers;
 pub mod index;
+pub mod normal;
 pub mod questions;
 pub mod reader;
 pub mod writer;

@@ -389,7 +389,7 @@ void append_waveform(Dataset &dataset)
 #define FILL(member) fill(head.member);
     WAVEFORM_MEMBERS(FILL)
 #undef FILL
-    head.version = 1;
+    head.version = sized.version;
     head.number_of_samples = sized.number_of_samples;
     head.channels = sized.channels;
     uint32_t level = 2048;

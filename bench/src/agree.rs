@@ -1,0 +1,126 @@
+//! The baseline is worth comparing with only if it does the same. On drawn, damaged and refused streams and
+//! on a writer's inputs, library and baseline must give the same answers and write the same bytes.
+
+use crate::baseline::{index, normal, questions, reader, writer::Message};
+use crate::library;
+use streams::{Rng, SHORT_REFUSALS, WRITER_REFUSALS};
+
+/// Compares both on so many streams of each sort. Panics at the first difference.
+pub fn on_drawn_streams(count: usize, seed: u64) {
+    let mut rng = Rng::new(seed);
+    for round in 0..count {
+        for number in SHORT_REFUSALS {
+            let stream = streams::refused_with(&mut rng, number);
+            let refusal = on_stream(&mut rng, &stream).expect_err("a refused stream");
+            assert_eq!(refusal.number, number);
+        }
+        let messages = streams::well_formed(&mut rng, 6_000);
+        let stream = streams::joined(&messages);
+        on_stream(&mut rng, &stream).expect("a well-formed stream");
+        on_every_offset(&stream, round % messages.len());
+        let damage = round % streams::DAMAGES.len();
+        let damaged = streams::damaged(&mut rng, damage, 6_000);
+        let _ = on_stream(&mut rng, &damaged);
+        on_writer_inputs(&mut rng);
+    }
+    for close in [false, true] {
+        let stream = streams::too_many(close);
+        let refusal = library::check(&stream).expect_err("one message too many");
+        assert_eq!(refusal.number, 19);
+        assert_eq!(reader::check(&stream), Err(refusal));
+    }
+}
+
+/// Every question that is measured, about one stream; gives the stream's answer.
+fn on_stream(rng: &mut Rng, stream: &[u8]) -> Result<usize, crate::baseline::Refusal> {
+    let answer = library::check(stream);
+    assert_eq!(reader::check(stream), answer);
+    let mut places = vec![];
+    let walked = library::walk(stream, |start, size, id| places.push((start, size, id)));
+    assert_eq!(walked, answer);
+    let handed = reader::Records::of(stream).map_while(Result::ok);
+    let theirs: Vec<_> = handed.map(|r| (r.start, r.size, r.kind.id())).collect();
+    assert_eq!(theirs, places);
+    for _ in 0..4 {
+        let n = streams::record_number(rng, places.len() as u64) as usize;
+        let offset = streams::field_offset(rng) as usize;
+        assert_eq!(
+            library::field(stream, n, offset),
+            questions::field(stream, n, offset)
+        );
+        let asked: [u16; 17] = match streams::counters(rng, stream).try_into() {
+            Ok(asked) => asked,
+            Err(_) => continue,
+        };
+        assert_eq!(
+            library::find(stream, n, &asked),
+            questions::find(stream, n, &asked)
+        );
+    }
+    on_normal_form(stream);
+    on_index(rng, stream);
+    answer
+}
+
+/// The whole header of one record, and what lies beside its elements.
+fn on_every_offset(stream: &[u8], n: usize) {
+    for offset in 0..=342 {
+        let answer = library::field(stream, n, offset);
+        assert_eq!(questions::field(stream, n, offset), answer);
+    }
+}
+
+/// Into an output with room to spare, and into one that is too short.
+fn on_normal_form(stream: &[u8]) {
+    for length in [stream.len() + 3, stream.len().saturating_sub(1)] {
+        let (mut ours, mut theirs) = (vec![0xAA; length], vec![0xAA; length]);
+        let answer = library::normal_form(stream, &mut ours);
+        assert_eq!(normal::normal_form(stream, &mut theirs), answer);
+        assert_eq!(ours, theirs);
+    }
+}
+
+fn on_index(rng: &mut Rng, stream: &[u8]) {
+    let room = index::length(reader::check(stream).unwrap_or(0));
+    for length in [room, room - 1] {
+        let (mut ours, mut theirs) = (vec![0xAA; length], vec![0xAA; length]);
+        let answer = library::write_index(stream, &mut ours);
+        assert_eq!(index::write_index(stream, &mut theirs), answer);
+        assert_eq!(ours, theirs);
+    }
+    let mut files = vec![vec![], vec![0; room]];
+    if reader::check(stream).is_ok() {
+        let lent = streams::lent_files(rng, stream).into_iter();
+        files.extend(lent.map(|file| file.bytes));
+    }
+    for file in files {
+        let answer = library::index_matches(stream, &file);
+        assert_eq!(index::index_matches(stream, &file), answer);
+    }
+}
+
+fn on_writer_inputs(rng: &mut Rng) {
+    let mut inputs = vec![streams::writer_input(rng)];
+    for number in WRITER_REFUSALS {
+        inputs.push(streams::writer_input_refused(rng, number));
+    }
+    for input in inputs {
+        let lent = &input.message;
+        let message = Message {
+            id: lent.id,
+            header: &lent.header,
+            name: &lent.name,
+            text: &lent.text,
+            trajectory: &lent.trajectory,
+            samples: &lent.samples,
+            attributes: &lent.attributes,
+            pixels: &lent.pixels,
+            waveform: &lent.waveform,
+        };
+        let position = input.position as usize;
+        let (mut ours, mut theirs) = (input.output.clone(), input.output.clone());
+        let answer = library::write(&message, &mut ours, position);
+        assert_eq!(message.write(&mut theirs, position), answer);
+        assert_eq!(ours, theirs);
+    }
+}

@@ -1,0 +1,84 @@
+//! The proved library by its C face, answering in the baseline's types so that the two can be compared.
+
+use crate::baseline::questions::Field;
+use crate::baseline::writer::Message;
+use crate::baseline::Refusal;
+use cotterleaf::raw;
+
+fn answer<T>(number: u32, record: usize, byte: usize, value: T) -> Result<T, Refusal> {
+    if number == 0 {
+        Ok(value)
+    } else {
+        Err(Refusal {
+            number,
+            record,
+            byte,
+        })
+    }
+}
+
+pub fn check(stream: &[u8]) -> Result<usize, Refusal> {
+    let a = raw::check(stream);
+    answer(a.refusal, a.record, a.byte, a.count)
+}
+
+/// Hands each record's start, size and id to `each`, and gives the stream's answer.
+pub fn walk(stream: &[u8], mut each: impl FnMut(usize, usize, u16)) -> Result<usize, Refusal> {
+    let mut cursor = raw::beginning();
+    loop {
+        let step = raw::next(stream, cursor);
+        if step.ended {
+            let a = step.answer;
+            return answer(a.refusal, a.record, a.byte, a.count);
+        }
+        each(step.here.start, step.here.size, step.here.id);
+        cursor = step.next;
+    }
+}
+
+pub fn field(stream: &[u8], n: usize, offset: usize) -> Result<Field, Refusal> {
+    let a = raw::field(stream, n, offset);
+    let field = match a.r#type {
+        raw::MRD_SIGNED => Field::Signed(a.integer),
+        raw::MRD_FLOAT => Field::Float(a.float_bits),
+        _ => Field::Whole(a.whole),
+    };
+    answer(a.refusal, a.record, a.byte, field)
+}
+
+pub fn find(stream: &[u8], n: usize, counters: &[u16; 17]) -> Result<usize, Refusal> {
+    let a = raw::find(stream, n, counters);
+    answer(a.refusal, a.record, a.byte, a.number)
+}
+
+pub fn normal_form(stream: &[u8], out: &mut [u8]) -> Result<usize, Refusal> {
+    let a = raw::normal_form(stream, out);
+    answer(a.refusal, a.record, a.byte, a.length)
+}
+
+pub fn write_index(stream: &[u8], out: &mut [u8]) -> Result<usize, Refusal> {
+    let a = raw::write_index(stream, out);
+    answer(a.refusal, a.record, a.byte, a.length)
+}
+
+pub fn index_matches(stream: &[u8], file: &[u8]) -> Result<(), Refusal> {
+    let a = raw::index_matches(stream, file);
+    answer(a.refusal, a.record, a.byte, ())
+}
+
+pub fn write(message: &Message, out: &mut [u8], position: usize) -> Result<usize, u32> {
+    let parts = [
+        message.name,
+        message.text,
+        message.trajectory,
+        message.samples,
+        message.attributes,
+        message.pixels,
+        message.waveform,
+    ];
+    let put = raw::write(message.id, message.header, parts, out, position);
+    match put.refusal {
+        0 => Ok(put.position),
+        number => Err(number),
+    }
+}

@@ -1,0 +1,228 @@
+//! A stream against the description of what it was made from: every header element by its offset,
+//! every flag, every part, and the counters as a search finds them.
+
+use crate::description::{checksum, number, Description, Fact, Member, Told};
+use crate::readers::{Library, Part, Reader, SecondReader};
+use crate::tables;
+use second_reader::{Field, Kind, Type};
+
+/// What was compared, for the line that a passed check prints.
+#[derive(Clone, Copy, Debug, Default, PartialEq, Eq)]
+pub struct Compared {
+    pub records: usize,
+    pub elements: usize,
+    pub flags: usize,
+    pub parts: usize,
+}
+
+/// Judges the proved library and the second reader, which must give the same places.
+pub fn check_both(stream: &[u8], told: &Description) -> Result<Compared, String> {
+    let mut compared = vec![];
+    for reader in [&Library as &dyn Reader, &SecondReader] {
+        let of_reader = check(reader, stream, told);
+        compared.push(of_reader.map_err(|difference| format!("{}: {difference}", reader.name()))?);
+    }
+    let (library, second) = (Library.places(stream), SecondReader.places(stream));
+    if library != second {
+        return Err(format!("the places differ: {library:?} and {second:?}"));
+    }
+    Ok(compared[0])
+}
+
+/// Checks the description's tables, then the stream through one reader. The first difference ends it.
+pub fn check(reader: &dyn Reader, stream: &[u8], told: &Description) -> Result<Compared, String> {
+    if let Some(difference) = tables::differences(told)?.first() {
+        return Err(difference.clone());
+    }
+    let places = reader
+        .places(stream)
+        .map_err(|refusal| format!("the stream is refused with {refusal}"))?;
+    let ids: Vec<u16> = places.iter().map(|place| place.id).collect();
+    let told_ids: Vec<u16> = told.records.iter().map(|record| record.id).collect();
+    if ids != told_ids {
+        return Err(format!("the kinds are {ids:?}, not {told_ids:?}"));
+    }
+    let mut compared = Compared::default();
+    for (n, record) in told.records.iter().enumerate() {
+        let kind = Kind::of_id(record.id).ok_or("a kind that document 01 lacks")?;
+        let members = tables::stream_members(told, kind)?;
+        let question = Question {
+            reader,
+            stream,
+            n: n as u64,
+            kind,
+            members: &members,
+        };
+        question
+            .record(record, &mut compared)
+            .map_err(|difference| format!("record {n}: {difference}"))?;
+    }
+    Ok(compared)
+}
+
+/// One record, asked about through a reader.
+struct Question<'a> {
+    reader: &'a dyn Reader,
+    stream: &'a [u8],
+    n: u64,
+    kind: Kind,
+    members: &'a [Member],
+}
+
+impl Question<'_> {
+    fn record(&self, told: &Told, compared: &mut Compared) -> Result<(), String> {
+        let (mut members, mut flags, mut parts) = (0, 0, 0);
+        for fact in &told.facts {
+            if let Some(member) = self.members.iter().find(|member| member.name == fact.name) {
+                compared.elements += self.member(member, fact)?;
+                members += 1;
+            } else if fact.name == "flags_set" {
+                flags += self.flags(fact)?;
+            } else {
+                self.part(fact)?;
+                parts += 1;
+            }
+        }
+        let acquisition = self.kind == Kind::Acquisition;
+        let due = (
+            self.members.len(),
+            if acquisition { 64 } else { 0 },
+            self.parts_due()?,
+        );
+        if (members, flags, parts) != due {
+            let told = (members, flags, parts);
+            return Err(format!(
+                "{told:?} members, flags and parts are told, {due:?} are due"
+            ));
+        }
+        if acquisition {
+            self.found_by_counters()?;
+        }
+        compared.flags += flags;
+        compared.parts += parts;
+        compared.records += 1;
+        Ok(())
+    }
+
+    fn field(&self, offset: usize) -> Result<Field, String> {
+        self.reader
+            .field(self.stream, self.n, offset as u64)
+            .map_err(|refusal| format!("offset {offset} is refused with {refusal}"))
+    }
+
+    /// Each element of a member; gives their number.
+    fn member(&self, member: &Member, fact: &Fact) -> Result<usize, String> {
+        if fact.words.len() != member.count {
+            return Err(format!("{} has {} elements", fact.name, fact.words.len()));
+        }
+        for (i, word) in fact.words.iter().enumerate() {
+            let offset = member.offset + i * member.element.size();
+            let (read, held) = (self.field(offset)?, value(member.element, word)?);
+            if read != held {
+                return Err(format!(
+                    "{}[{i}] at {offset} is {read:?}, not {held:?}",
+                    fact.name
+                ));
+            }
+        }
+        Ok(member.count)
+    }
+
+    /// The flags that the library finds set are those that the reader finds, and no others.
+    fn flags(&self, fact: &Fact) -> Result<usize, String> {
+        let offset = self.offset_of("flags")?;
+        let Field::Whole(flags) = self.field(offset)? else {
+            return Err("the flags are no whole number".to_string());
+        };
+        let told: Result<Vec<u32>, String> = fact.words.iter().map(|word| number(word)).collect();
+        let read: Vec<u32> = (0..=66).filter(|&n| self.reader.flag(flags, n)).collect();
+        if told? == read {
+            Ok(64)
+        } else {
+            Err(format!("the flags set are {read:?}, not {:?}", fact.words))
+        }
+    }
+
+    fn offset_of(&self, name: &str) -> Result<usize, String> {
+        let member = self.members.iter().find(|member| member.name == name);
+        member
+            .map(|member| member.offset)
+            .ok_or_else(|| format!("the header has no {name}"))
+    }
+
+    /// A part's length and checksum: `NAME LENGTH SUM`, or `channel NUMBER LENGTH SUM`.
+    fn part(&self, fact: &Fact) -> Result<(), String> {
+        let words: Vec<&str> = fact.words.iter().map(String::as_str).collect();
+        let (part, length, sum) = match (fact.name.as_str(), &words[..]) {
+            ("channel", [channel, length, sum]) => (Part::Channel(number(channel)?), length, sum),
+            ("text", [length, sum]) => (Part::Text, length, sum),
+            ("attributes", [length, sum]) => (Part::Attributes, length, sum),
+            ("trajectory", [length, sum]) => (Part::Trajectory, length, sum),
+            ("pixels", [length, sum]) => (Part::Pixels, length, sum),
+            ("waveform", [length, sum]) => (Part::Waveform, length, sum),
+            _ => return Err(format!("the description has '{}' of it", fact.name)),
+        };
+        let view = self
+            .reader
+            .view(self.stream, self.n, part)
+            .map_err(|refusal| format!("{part:?} is refused with {refusal}"))?;
+        let held = (number::<usize>(length)?, sum.to_string());
+        let read = (view.len(), format!("{:016x}", checksum(view)));
+        if read == held {
+            Ok(())
+        } else {
+            Err(format!(
+                "{part:?} has length and checksum {read:?}, not {held:?}"
+            ))
+        }
+    }
+
+    /// How many parts the description has to tell: the trajectory and each active channel of an
+    /// acquisition, after which there is no further channel.
+    fn parts_due(&self) -> Result<usize, String> {
+        match self.kind {
+            Kind::Close => Ok(0),
+            Kind::Acquisition => {
+                let Field::Whole(channels) = self.field(self.offset_of("active_channels")?)? else {
+                    return Err("the channels are no whole number".to_string());
+                };
+                match self
+                    .reader
+                    .view(self.stream, self.n, Part::Channel(channels))
+                {
+                    Err(17) => Ok(1 + channels as usize),
+                    other => Err(format!("a channel past the last: {other:?}")),
+                }
+            }
+            Kind::Image => Ok(2),
+            _ => Ok(1),
+        }
+    }
+
+    /// A search from this record on for its own counters stops at it.
+    fn found_by_counters(&self) -> Result<(), String> {
+        let mut counters = [0; 17];
+        let at = self.offset_of("kspace_encode_step_1")?;
+        for (i, counter) in counters.iter_mut().enumerate() {
+            match self.field(at + 2 * i)? {
+                Field::Whole(number) => *counter = number as u16,
+                other => return Err(format!("counter {i} is {other:?}")),
+            }
+        }
+        match self.reader.find(self.stream, self.n, counters) {
+            Ok(found) if found == self.n => Ok(()),
+            other => Err(format!("the search for its counters gives {other:?}")),
+        }
+    }
+}
+
+/// A header element as the description writes it: floats by their bits in hex.
+fn value(element: Type, word: &str) -> Result<Field, String> {
+    match element {
+        Type::U16 | Type::U32 | Type::U64 => number(word).map(Field::Whole),
+        Type::I32 => number(word).map(Field::Signed),
+        Type::F32 => u32::from_str_radix(word, 16)
+            .map(Field::Float)
+            .map_err(|_| format!("'{word}' are no float's bits")),
+    }
+}

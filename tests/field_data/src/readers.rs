@@ -1,0 +1,149 @@
+//! The two readers that are judged by the description: the proved library by its C face, and the
+//! second reader. Both answer in the second reader's types.
+
+use cotterleaf::{Refusal, Stream};
+use second_reader::{Field, Lent};
+
+/// Number, first byte, size with the id, and id of a record.
+#[derive(Clone, Copy, Debug, PartialEq, Eq)]
+pub struct Place {
+    pub number: u64,
+    pub start: u64,
+    pub size: u64,
+    pub id: u16,
+}
+
+#[derive(Clone, Copy, Debug, PartialEq, Eq)]
+pub enum Part {
+    Text,
+    Attributes,
+    Trajectory,
+    Channel(u64),
+    Pixels,
+    Waveform,
+}
+
+/// The questions that the check asks; a refusal is its number.
+pub trait Reader {
+    fn name(&self) -> &'static str;
+    fn places(&self, stream: &[u8]) -> Result<Vec<Place>, u32>;
+    fn field(&self, stream: &[u8], n: u64, offset: u64) -> Result<Field, u32>;
+    fn view<'a>(&self, stream: &'a [u8], n: u64, part: Part) -> Result<&'a [u8], u32>;
+    fn find(&self, stream: &[u8], n: u64, counters: [u16; 17]) -> Result<u64, u32>;
+    fn flag(&self, flags: u64, n: u32) -> bool;
+}
+
+/// The proved library.
+pub struct Library;
+
+fn number_of(refusal: Refusal) -> u32 {
+    refusal.number
+}
+
+impl Reader for Library {
+    fn name(&self) -> &'static str {
+        "library"
+    }
+
+    /// The check's answer and the walk's records, which must agree in number.
+    fn places(&self, stream: &[u8]) -> Result<Vec<Place>, u32> {
+        let stream = Stream::new(stream);
+        let count = stream.check().map_err(number_of)?;
+        let mut places = Vec::new();
+        for record in stream.records() {
+            let record = record.map_err(number_of)?;
+            places.push(Place {
+                number: record.number as u64,
+                start: record.start as u64,
+                size: record.size as u64,
+                id: record.kind.id(),
+            });
+        }
+        assert_eq!(
+            places.len(),
+            count,
+            "the walk's records and the check's count"
+        );
+        Ok(places)
+    }
+
+    fn field(&self, stream: &[u8], n: u64, offset: u64) -> Result<Field, u32> {
+        match Stream::new(stream).field(n as usize, offset as usize) {
+            Ok(cotterleaf::Field::Whole(number)) => Ok(Field::Whole(number)),
+            Ok(cotterleaf::Field::Signed(number)) => Ok(Field::Signed(number)),
+            Ok(cotterleaf::Field::Float { bits }) => Ok(Field::Float(bits)),
+            Err(refusal) => Err(refusal.number),
+        }
+    }
+
+    fn view<'a>(&self, stream: &'a [u8], n: u64, part: Part) -> Result<&'a [u8], u32> {
+        let part = match part {
+            Part::Text => cotterleaf::Part::Text,
+            Part::Attributes => cotterleaf::Part::Attributes,
+            Part::Trajectory => cotterleaf::Part::Trajectory,
+            Part::Channel(channel) => cotterleaf::Part::Channel(channel as usize),
+            Part::Pixels => cotterleaf::Part::Pixels,
+            Part::Waveform => cotterleaf::Part::Waveform,
+        };
+        Stream::new(stream)
+            .view(n as usize, part)
+            .map_err(number_of)
+    }
+
+    fn find(&self, stream: &[u8], n: u64, counters: [u16; 17]) -> Result<u64, u32> {
+        let found = Stream::new(stream).find(n as usize, &counters);
+        found.map(|number| number as u64).map_err(number_of)
+    }
+
+    fn flag(&self, flags: u64, n: u32) -> bool {
+        cotterleaf::flag_test(flags, n)
+    }
+}
+
+pub struct SecondReader;
+
+impl Reader for SecondReader {
+    fn name(&self) -> &'static str {
+        "second reader"
+    }
+
+    fn places(&self, stream: &[u8]) -> Result<Vec<Place>, u32> {
+        let records = second_reader::records(stream).map_err(|refusal| refusal.number)?;
+        Ok(records
+            .iter()
+            .map(|record| Place {
+                number: record.number,
+                start: record.start,
+                size: record.size,
+                id: record.detail.kind().id(),
+            })
+            .collect())
+    }
+
+    fn field(&self, stream: &[u8], n: u64, offset: u64) -> Result<Field, u32> {
+        second_reader::field(stream, Lent::NONE, n, offset).map_err(|refused| refused.number())
+    }
+
+    fn view<'a>(&self, stream: &'a [u8], n: u64, part: Part) -> Result<&'a [u8], u32> {
+        let lent = Lent::NONE;
+        let answer = match part {
+            Part::Text => second_reader::text(stream, lent, n),
+            Part::Attributes => second_reader::attributes(stream, lent, n),
+            Part::Trajectory => second_reader::trajectory(stream, lent, n),
+            Part::Channel(channel) => second_reader::channel(stream, lent, n, channel),
+            Part::Pixels => second_reader::pixels(stream, lent, n),
+            Part::Waveform => second_reader::waveform(stream, lent, n),
+        };
+        answer
+            .map(|part| second_reader::bytes_of(stream, part))
+            .map_err(|refused| refused.number())
+    }
+
+    fn find(&self, stream: &[u8], n: u64, counters: [u16; 17]) -> Result<u64, u32> {
+        second_reader::find(stream, Lent::NONE, n, &counters).map_err(|refused| refused.number())
+    }
+
+    fn flag(&self, flags: u64, n: u32) -> bool {
+        second_reader::flag_is_set(flags, u64::from(n))
+    }
+}

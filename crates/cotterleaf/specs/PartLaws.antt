@@ -2,7 +2,7 @@
 -- Assumes nothing.
 use Prim.Native.Nat.{ℕ, zero, suc, _-_, _^_, _≤_, _<_}
 use native.Mathlib.Omega.{arith}
-use mathlib.Core.Path.{_≡_, refl, ap, _∙_}
+use mathlib.Core.Path.{_≡_, refl}
 use mathlib.Core.Bool.{false, and-false}
 use mathlib.Core.List.{List, [], _∷_}
 use borrow.Author.Tests.{le-ltb, ne-eqb}
@@ -11,12 +11,12 @@ use lib.ListN.{take, drop}
 use Rattle.mrd_numbers.specs.Little.{fromBytes, num, Bytes}
 use Rattle.mrd_numbers.specs.ByteLaws.{bytes-take, bytes-drop}
 use Rattle.mrd_format.specs.declared.kind.Kind.{Kind}
-use Rattle.mrd_format.specs.Kinds.{idOf, fixedSize}
+use Rattle.mrd_format.specs.Kinds.{fixedSize}
 use Rattle.mrd_format.specs.Message.{fixedPart}
 use Rattle.mrd_format.specs.Acquisition.{get, active-channels}
 use Rattle.mrd_stream.specs.Places.{Located, found, place}
 use Rattle.mrd_cut.specs.Places.{partAt}
-use Rattle.mrd_record.specs.Parts.{lacks, liesIf, extentOf}
+use Rattle.mrd_record.specs.Parts.{lacks, extentOf}
 use Rattle.mrd_record.specs.Views.{refusal, viewOf}
 use Rattle.cotterleaf.specs.Parts.{noPart, partOf}
 

@@ -11,7 +11,8 @@ use mrd_format::WaveformShape;
 use mrd_stream::Place;
 use mrd_stream::Record;
 
-// A record: its number from 0, first byte, size with the id, the length of its name or text, and so on.
+// A record: its number from 0, first byte, size with the id, id, and the numbers that its kind has: the
+// `length` is that of a name or text, the `channels` of an acquisition are the active ones.
 #[repr(C)]
 pub struct Placed {
     pub refusal: u32,

@@ -21,11 +21,13 @@ pub enum Phase {
     Closed,
 }
 
-// Where a walk stands: the number of the message that is due, its first byte, and the phase.
+// Where a walk stands: the number of the message that is due, the phase, and the message's first byte. The
+// phase stands in the middle so that a loop reads a handed-out cursor back as it was stored, field by field,
+// which is faster.
 pub struct Cursor {
     pub number: usize,
-    pub start: usize,
     pub phase: Phase,
+    pub start: usize,
 }
 
 impl Phase {

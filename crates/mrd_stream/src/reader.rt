@@ -31,7 +31,7 @@ impl Cursor {
         ensures { λ r. ⌜ toldStep r ≡ step self (now (s .entry)) ⌝ }
     {
         let start = self.start;
-        if s.len() <= start {
+        if start >= s.len() {
             return Step::End(self.ended());
         }
         let judgement = judge(self, &s[start..]);

@@ -150,6 +150,13 @@ typedef struct {
 
 mrd_found mrd_find(const uint8_t *stream, size_t stream_length, size_t n, const uint16_t counters[17]);
 
+/* The same for the record that is due where a walk stands, at a cost that does not grow with the stream: take
+ * the cursor with which mrd_next hands the record out. The stream's refusal where its message is refused, 16
+ * where none is left. */
+mrd_view_place mrd_view_at(const uint8_t *stream, size_t stream_length, mrd_cursor cursor, uint32_t part,
+                           size_t channel);
+mrd_field_answer mrd_field_at(const uint8_t *stream, size_t stream_length, mrd_cursor cursor, size_t offset);
+
 /* ---- The same questions with an index lent: 15 where it is not the stream's own ---- */
 
 mrd_placed mrd_place_with_file(const uint8_t *stream, size_t stream_length, size_t n,

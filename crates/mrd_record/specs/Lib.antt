@@ -3,4 +3,5 @@ pub mod Views
 pub mod Fields
 pub mod Told
 pub mod PartLaws
+pub mod Standing
 pub mod ViewLaws

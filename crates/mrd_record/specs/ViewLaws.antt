@@ -21,14 +21,15 @@ use Rattle.mrd_format.specs.Content.{Extent, extent}
 use Rattle.mrd_format.specs.Acquisition as acquisition
 use Rattle.mrd_format.specs.Image as image
 use Rattle.mrd_format.specs.Waveform as waveform
-use Rattle.mrd_stream.specs.Places.{Located, Answer, found, stream, number, place}
+use Rattle.mrd_stream.specs.Places.{Located, Answer, found, stream, number}
 use Rattle.mrd_cut.specs.Places.{partAt}
-use Rattle.mrd_cut.specs.Inside.{Inside, place-inside}
+use Rattle.mrd_cut.specs.Inside.{Inside}
 use Rattle.mrd_record.specs.declared.parts.Part.{Part}
 use Rattle.mrd_record.specs.declared.parts.Part.the-variants.{Name, Text, Attributes, Trajectory, Channel, Pixels, Waveform}
 use Rattle.mrd_record.specs.Parts.{Reach, lies, lacks, offsetOf, liesIf, extentOf, Sized}
 use Rattle.mrd_record.specs.PartLaws.{sized-as, image-rest, waveform-rest}
-use Rattle.mrd_record.specs.Views.{Shown, at, faulty, refusal, shownAt, viewBy, viewOf}
+use Rattle.mrd_record.specs.Views.{Shown, at, faulty, refusal, shownAt, viewBy}
+use Rattle.mrd_record.specs.Standing.{LiesIn}
 
 -- a part that lies somewhere was found by its test
 lies-if : (b : Bool) (x : Extent) {e : Extent} → liesIf b x ≡ lies e → (b ≡ true) × (x ≡ e)
@@ -142,22 +143,18 @@ module _ (s : List ℕ) (l : Located) (i : Inside s l) where
       by-reach (lies e) q = omega (arith, part-fits p q)
       by-reach lacks q = omega (arith, i .fits)
 
--- a view lies in the stream
-pub view-fits : (s : List ℕ) (n : ℕ) (p : Part) {i z : ℕ} → viewOf s n p ≡ at i z → i + z ≤ length s
-unfolding viewOf
-view-fits s n p {i} {z} e = by-place (place s n) refl e
-  where
-    reached :
-        (l : Located) → Inside s l → (r : Reach) → extentOf p (l .kind)
-        (fixedPart (l .kind) (partAt s l)) ≡ r → shownAt r (l .start) ≡ at i z →
-        i + z ≤ length s
-    reached l x (lies d) q e =
-        let start : l .start + d .offset ≡ i = cc in
-        let size : d .size ≡ z = cc in
-        omega (arith, part-fits s l x p q)
-    reached l x lacks q e = absurd (let o : _≡_ {A = ℕ} 0 1 = cc in omega arith)
+-- a view's place lies in s
+abbrev pub ViewIn : List ℕ → Shown → Type 0
+ViewIn s (at i z) = i + z ≤ length s
+ViewIn s (faulty f r b) = Unit {0}
+ViewIn s (refusal n) = Unit {0}
 
-    by-place : (a : Answer) → place s n ≡ a → viewBy a p s ≡ at i z → i + z ≤ length s
-    by-place (found l) q e = reached l (place-inside s n q) _ refl e
-    by-place (stream f r b) q e = absurd (let o : _≡_ {A = ℕ} 0 1 = cc in omega arith)
-    by-place (number k) q e = absurd (let o : _≡_ {A = ℕ} 0 1 = cc in omega arith)
+-- a view of a record that lies in the stream does
+pub view-fits : (s : List ℕ) (a : Answer) (p : Part) → LiesIn s a → ViewIn s (viewBy a p s)
+view-fits s (found l) p x = by (extentOf p (l .kind) (fixedPart (l .kind) (partAt s l))) refl
+  where
+    by : (r : Reach) → extentOf p (l .kind) (fixedPart (l .kind) (partAt s l)) ≡ r → ViewIn s (shownAt r (l .start))
+    by (lies d) q = part-fits s l x p q
+    by lacks q = tt
+view-fits s (stream f r b) p x = tt
+view-fits s (number k) p x = tt

@@ -1,6 +1,8 @@
 // A field of a record's header, by its offset.
 ghost use mathlib.Core.Path.{_≡_};
-ghost use Rattle.mrd_record.specs.Fields.{fieldOf};
+ghost use Rattle.mrd_record.specs.Fields.{fieldBy, fieldOf};
+ghost use Rattle.mrd_record.specs.Standing.{LiesIn};
+ghost use Rattle.mrd_stream.specs.Told.{toldPlaced};
 ghost use Rattle.mrd_record.specs.Told.{TellsField};
 use crate::views::fixed_part;
 use mrd_field::Value;
@@ -23,6 +25,14 @@ pub fn field(s: &[u8], n: usize, offset: usize) -> FieldAnswer
     ensures { λ r. ⌜ TellsField r (fieldOf (now (s .entry)) n offset) ⌝ }
 {
     let placed = mrd_stream::place(s, n);
+    placed_field(placed, s, offset)
+}
+
+// The same for the record whose place was answered.
+pub(crate) fn placed_field(placed: Placed, s: &[u8], offset: usize) -> FieldAnswer
+    requires { ⌜ LiesIn (now s) (toldPlaced placed) ⌝ }
+    ensures { λ r. ⌜ TellsField r (fieldBy (toldPlaced placed) offset (now (s .entry))) ⌝ }
+{
     match placed {
         Placed::Found(here) => {
             let shape = here.shape;

@@ -6,11 +6,13 @@ ghost use lib.ListN.{length as List·length};
 ghost use Rattle.mrd_format.specs.Message.{fixedPart};
 ghost use Rattle.mrd_format.specs.Shapes.{kindOf};
 ghost use Rattle.mrd_stream.specs.Places.{found};
-ghost use Rattle.mrd_stream.specs.Told.{toldRecord};
+ghost use Rattle.mrd_stream.specs.Told.{toldRecord, toldPlaced};
 ghost use Rattle.mrd_cut.specs.Places.{partAt};
 ghost use Rattle.mrd_cut.specs.Inside.{Inside};
 ghost use Rattle.mrd_record.specs.Parts.{offsetOf, toldSought};
 ghost use Rattle.mrd_record.specs.Views.{viewOf, viewBy, shownAt, shown};
+ghost use Rattle.mrd_record.specs.Standing.{LiesIn};
+ghost use Rattle.mrd_record.specs.ViewLaws.{ViewIn};
 ghost use Rattle.mrd_record.specs.Told.{toldView};
 use crate::parts::Part;
 use crate::parts::Sought;
@@ -40,11 +42,7 @@ pub fn view_place(s: &[u8], n: usize, part: Part) -> ViewPlace
     ensures { λ r. ⌜ toldView r ≡ viewOf (now (s .entry)) n part ⌝ }
 {
     let placed = mrd_stream::place(s, n);
-    match placed {
-        Placed::Found(here) => record_view(s, here, part),
-        Placed::Stream(refusal) => ViewPlace::Stream(refusal),
-        Placed::Refused(number) => ViewPlace::Refused(number),
-    }
+    placed_view(placed, s, part)
 }
 
 // A part of record n: that part of the stream, or the empty part at the stream's front where
@@ -53,6 +51,26 @@ pub fn view(s: &[u8], n: usize, part: Part) -> &[u8]
     ensures { λ r. ⌜ now r ≡ shown (viewOf (now (s .entry)) n part) (now (s .entry)) ⌝ }
 {
     let place = view_place(s, n, part);
+    viewed(place, s)
+}
+
+// Where a part of the record lies whose place was answered.
+pub(crate) fn placed_view(placed: Placed, s: &[u8], part: Part) -> ViewPlace
+    requires { ⌜ LiesIn (now s) (toldPlaced placed) ⌝ }
+    ensures { λ r. ⌜ toldView r ≡ viewBy (toldPlaced placed) part (now (s .entry)) ⌝ }
+{
+    match placed {
+        Placed::Found(here) => record_view(s, here, part),
+        Placed::Stream(refusal) => ViewPlace::Stream(refusal),
+        Placed::Refused(number) => ViewPlace::Refused(number),
+    }
+}
+
+// The part of s that lies at this place, or the empty part at the front of s.
+pub(crate) fn viewed(place: ViewPlace, s: &[u8]) -> &[u8]
+    requires { ⌜ ViewIn (now s) (toldView place) ⌝ }
+    ensures { λ r. ⌜ now r ≡ shown (toldView place) (now (s .entry)) ⌝ }
+{
     match place {
         ViewPlace::At(span) => spanned(s, span.start, span.length),
         ViewPlace::Stream(_) => &s[..0],

@@ -123,6 +123,19 @@ extern "C" {
         part: u32,
         channel: usize,
     ) -> mrd_view_place;
+    fn mrd_view_at(
+        stream: *const u8,
+        stream_length: usize,
+        cursor: mrd_cursor,
+        part: u32,
+        channel: usize,
+    ) -> mrd_view_place;
+    fn mrd_field_at(
+        stream: *const u8,
+        stream_length: usize,
+        cursor: mrd_cursor,
+        offset: usize,
+    ) -> mrd_field_answer;
     fn mrd_field(
         stream: *const u8,
         stream_length: usize,
@@ -308,6 +321,16 @@ pub fn next(stream: &[u8], cursor: mrd_cursor) -> mrd_step {
 pub fn check_from(stream: &[u8], cursor: mrd_cursor) -> mrd_checked {
     // SAFETY: the pointer and length are those of a slice that is borrowed for the call; any cursor may be lent.
     unsafe { mrd_check_from(stream.as_ptr(), stream.len(), cursor) }
+}
+
+pub fn view_at(stream: &[u8], cursor: mrd_cursor, part: u32, channel: usize) -> mrd_view_place {
+    // SAFETY: the pointer and length are those of a slice that is borrowed for the call; any cursor may be lent.
+    unsafe { mrd_view_at(stream.as_ptr(), stream.len(), cursor, part, channel) }
+}
+
+pub fn field_at(stream: &[u8], cursor: mrd_cursor, offset: usize) -> mrd_field_answer {
+    // SAFETY: the pointer and length are those of a slice that is borrowed for the call; any cursor may be lent.
+    unsafe { mrd_field_at(stream.as_ptr(), stream.len(), cursor, offset) }
 }
 
 pub fn view(stream: &[u8], n: usize, part: u32, channel: usize) -> mrd_view_place {

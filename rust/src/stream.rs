@@ -28,6 +28,12 @@ fn length_of(written: &raw::mrd_written) -> Result<usize, Refusal> {
     Ok(written.length)
 }
 
+/// Where a view lies.
+pub(crate) fn range_of(place: &raw::mrd_view_place) -> Result<Range<usize>, Refusal> {
+    Refusal::in_answer(place.refusal, place.record, place.byte)?;
+    Ok(place.start..place.start + place.length)
+}
+
 impl<'a> Stream<'a> {
     /// A stream without an index. Any bytes may be lent.
     pub fn new(bytes: &'a [u8]) -> Stream<'a> {
@@ -85,8 +91,7 @@ impl<'a> Stream<'a> {
                 counters,
             }) => raw::view_with_columns(s, n, part, channel, starts, ids, counters),
         };
-        Refusal::in_answer(place.refusal, place.record, place.byte)?;
-        Ok(place.start..place.start + place.length)
+        range_of(&place)
     }
 
     /// The element of record `n`'s header that starts at `offset`, counted from the header's first byte; 16

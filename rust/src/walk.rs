@@ -1,9 +1,10 @@
 //! The walk over a stream, one record at each step.
 
 use crate::raw;
-use crate::record::Record;
+use crate::record::{Field, Part, Record};
 use crate::refusal::Refusal;
-use crate::stream::{counted, Stream};
+use crate::stream::{counted, range_of, Stream};
+use std::ops::Range;
 
 /// A place in a walk. It may be kept and given back, also made up: any cursor gets some answer.
 #[derive(Clone, Copy, Debug, PartialEq, Eq, Hash)]
@@ -66,6 +67,38 @@ impl<'a> Stream<'a> {
         }
         let here = Record::told(&step.here).expect("a step hands out a record or ends");
         Step::Record(here, Cursor::of(step.next))
+    }
+
+    /// A part of the record that is due at a cursor, as [`view`](Stream::view) gives it by number, but at a cost
+    /// that does not grow with the stream; 16 where no record is left. An index is not looked at.
+    ///
+    /// ```
+    /// use cotterleaf::{Cursor, Part, Step, Stream};
+    ///
+    /// // Two texts and the close.
+    /// let stream = Stream::new(&[5, 0, 1, 0, 0, 0, b'a', 5, 0, 1, 0, 0, 0, b'b', 4, 0]);
+    /// let mut texts = Vec::new();
+    /// let mut cursor = Cursor::beginning();
+    /// while let Step::Record(_, next) = stream.step(cursor) {
+    ///     texts.extend(stream.view_at(cursor, Part::Text));
+    ///     cursor = next;
+    /// }
+    /// assert_eq!(texts, [b"a", b"b"]);
+    /// ```
+    pub fn view_at(&self, cursor: Cursor, part: Part) -> Result<&'a [u8], Refusal> {
+        Ok(&self.bytes()[self.view_place_at(cursor, part)?])
+    }
+
+    /// Where that part lies in the stream.
+    pub fn view_place_at(&self, cursor: Cursor, part: Part) -> Result<Range<usize>, Refusal> {
+        let (part, channel) = part.numbers();
+        range_of(&raw::view_at(self.bytes(), cursor.lent(), part, channel))
+    }
+
+    /// The element that starts at `offset` in the header of the record that is due at a cursor, at a cost that
+    /// does not grow with the stream.
+    pub fn field_at(&self, cursor: Cursor, offset: usize) -> Result<Field, Refusal> {
+        Field::told(&raw::field_at(self.bytes(), cursor.lent(), offset))
     }
 
     /// The answer of the rest of the stream, from a cursor on: its number of records, those before the cursor

@@ -300,6 +300,21 @@ static void walk(void)
     CHECK(mrd_next(TWO_RECORDS, 8, past).answer.refusal == MRD_NO_CLOSE);
 }
 
+/* Where a walk stands, views and fields are those by number. */
+static void where_a_walk_stands(void)
+{
+    mrd_cursor first = mrd_beginning();
+    mrd_cursor second = mrd_next(TWO_RECORDS, 8, first).next;
+    mrd_cursor end = mrd_next(TWO_RECORDS, 8, second).next;
+    mrd_view_place text = mrd_view_at(TWO_RECORDS, 8, first, MRD_PART_TEXT, 0);
+    CHECK(text.refusal == 0 && text.start == 6 && text.length == 0);
+    CHECK(mrd_view_at(TWO_RECORDS, 8, second, MRD_PART_TEXT, 0).refusal == MRD_NO_PART);
+    CHECK(mrd_view_at(TWO_RECORDS, 8, end, MRD_PART_TEXT, 0).refusal == MRD_NO_RECORD);
+    CHECK(mrd_field_at(TWO_RECORDS, 8, first, 0).refusal == MRD_NO_FIELD);
+    mrd_field_answer cut = mrd_field_at(TWO_RECORDS, 7, second, 0);
+    CHECK(cut.refusal == MRD_ID_CUT && cut.record == 1 && cut.byte == 6);
+}
+
 int main(void)
 {
     answers();
@@ -312,6 +327,7 @@ int main(void)
     one_normal_form();
     fields_and_find();
     walk();
+    where_a_walk_stands();
     if (failures == 0)
         printf("paper.c: ok, %d checks\n", checks);
     else

@@ -100,7 +100,7 @@ impl<'a> Asked<'a> {
 
     /// The view's place as it is told, and as the view's own address shows it.
     pub fn view(&self, tally: &mut Tally, n: u64, part: Part) -> Outcome {
-        let second = self.second_view(n, part);
+        let second = second_view(self.bytes, self.lent.second(), n, part);
         let shown = second.is_ok();
         let view = self.library().view(n as usize, part);
         let by_address = view.map(|view| told::part_by_address(self.bytes, view));
@@ -114,19 +114,6 @@ impl<'a> Asked<'a> {
             tally.note("view shown", name_of(part));
         }
         Ok(())
-    }
-
-    fn second_view(&self, n: u64, part: Part) -> Told<second::Part> {
-        let (bytes, lent) = (self.bytes, self.lent.second());
-        match part {
-            Part::Name => second::name(bytes, lent, n),
-            Part::Text => second::text(bytes, lent, n),
-            Part::Attributes => second::attributes(bytes, lent, n),
-            Part::Trajectory => second::trajectory(bytes, lent, n),
-            Part::Channel(channel) => second::channel(bytes, lent, n, channel as u64),
-            Part::Pixels => second::pixels(bytes, lent, n),
-            Part::Waveform => second::waveform(bytes, lent, n),
-        }
     }
 
     pub fn field(&self, tally: &mut Tally, n: u64, offset: u64) -> Outcome {
@@ -173,7 +160,20 @@ impl<'a> Asked<'a> {
     }
 }
 
-fn name_of(part: Part) -> &'static str {
+/// The second reader's view of a part.
+pub fn second_view(bytes: &[u8], lent: second::Lent, n: u64, part: Part) -> Told<second::Part> {
+    match part {
+        Part::Name => second::name(bytes, lent, n),
+        Part::Text => second::text(bytes, lent, n),
+        Part::Attributes => second::attributes(bytes, lent, n),
+        Part::Trajectory => second::trajectory(bytes, lent, n),
+        Part::Channel(channel) => second::channel(bytes, lent, n, channel as u64),
+        Part::Pixels => second::pixels(bytes, lent, n),
+        Part::Waveform => second::waveform(bytes, lent, n),
+    }
+}
+
+pub fn name_of(part: Part) -> &'static str {
     match part {
         Part::Name => "name",
         Part::Text => "text",

@@ -10,6 +10,7 @@ mod asked;
 mod limits;
 mod plain;
 mod scalars;
+mod standing;
 mod stream;
 mod tally;
 mod told;

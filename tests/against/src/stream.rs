@@ -4,7 +4,7 @@
 use crate::asked::{Asked, Lent};
 use crate::tally::{Family, Outcome, Tally};
 use crate::walk::{self, Read};
-use crate::{plain, written};
+use crate::{plain, standing, written};
 use cotterleaf::Part;
 use second_reader::{Detail, Table, Type};
 use streams::{counters, field_offset, lent_columns, lent_files, record_number};
@@ -17,6 +17,8 @@ pub fn ask(tally: &mut Tally, rng: &mut Rng, bytes: &[u8]) -> Outcome {
     walk::walk(tally, rng, bytes, &read)?;
     each_family(tally, rng, bytes, &read)?;
     walk::made_up_cursor(tally, rng, bytes, &read)?;
+    let (view, field) = (drawn_view(rng, &read), drawn_field(rng, &read));
+    standing::asked_at(tally, bytes, &read, view, field)?;
     if rng.one_in(4) {
         let (n, offset) = drawn_field(rng, &read);
         plain::questions(tally, rng, bytes, n, offset)?;

@@ -85,20 +85,21 @@ pub struct Difference {
 
 pub type Outcome = Result<(), Difference>;
 
+/// The views, by name.
+const VIEWS: &[&str] = &[
+    "name",
+    "text",
+    "attributes",
+    "trajectory",
+    "channel",
+    "pixels",
+    "waveform",
+];
+
 /// Everything but answers that a run must meet, by group.
-const GROUPS: [(&str, &[&str]); 9] = [
-    (
-        "view shown",
-        &[
-            "name",
-            "text",
-            "attributes",
-            "trajectory",
-            "channel",
-            "pixels",
-            "waveform",
-        ],
-    ),
+const GROUPS: [(&str, &[&str]); 10] = [
+    ("view shown", VIEWS),
+    ("view where a walk stands", VIEWS),
     ("element", &["whole", "signed", "float", "NaN"]),
     (
         "file lent",

@@ -19,7 +19,8 @@ elements-at : (n w o : ℕ) (h : List ℕ) (i : ℕ) → i < n → getD (element
 elements-at zero w o h i l = absurd (not-suc-le-zero l)
 elements-at (suc n) w o h zero l = let here : o ≡ o + 0 * w = omega arith in ap (num w h) here
 elements-at (suc n) w o h (suc i) l =
-    elements-at n w (o + w) h i (le-of-suc-le-suc l) ∙ ap (num w h) (add-assoc o w (i * w) ∙ ap (λ (x : ℕ). o + x) (add-comm w (i * w) ∙ sym (suc-mul i w)))
+    elements-at n w (o + w) h i (le-of-suc-le-suc l) ∙ ap (num w h)
+    (add-assoc o w (i * w) ∙ ap (λ (x : ℕ). o + x) (add-comm w (i * w) ∙ sym (suc-mul i w)))
 
 -- seventeen counters, and where each stands
 module _ (h : List ℕ) where

@@ -105,4 +105,5 @@ module _ {n : ℕ} {cs : List ℕ} {c : Cursor} {s : List ℕ} {here : Record} {
           let all = rw header-own at f in
           let number : here .place .number ≡ c .number = ap (λ (l : Located). l .number) (t .passes .place) in
           rw number
-          (kept-next (findIn n cs) s (λ (r : Trace). unlessRefused (verdict r) (found (c .number))) (t .finding .kept) (t .passes) (λ r. rw (one, all)))
+          (kept-next (findIn n cs) s (λ (r : Trace). unlessRefused (verdict r) (found (c .number))) (t .finding .kept) (t .passes)
+          (λ r. rw (one, all)))

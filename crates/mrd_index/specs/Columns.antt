@@ -62,7 +62,8 @@ module _ (s : List ℕ) {n : ℕ} (e : answer s ≡ accepted n) (a b c : ℕ) wh
     rooms = let count = entries-count s e in record { starts = omega arith; ids = omega arith; counters = omega arith }
 
 -- what lies in a column after the records' places
-after-places : (s : List ℕ) {n : ℕ} → answer s ≡ accepted n → (g : Entry → ℕ) (o : List ℕ) → front (map g (entries s)) o ≡ map g (entries s) ++ drop n o
+after-places : (s : List ℕ) {n : ℕ} → answer s ≡ accepted n → (g : Entry → ℕ) (o : List ℕ) →
+    front (map g (entries s)) o ≡ map g (entries s) ++ drop n o
 after-places s e g o = rw (length-map (entries s) g, entries-count s e)
 
 -- the columns filled, which were o, p and q
@@ -70,8 +71,10 @@ pub filled : (s : List ℕ) {n : ℕ} → answer s ≡ accepted n → (o p q x y
     (x ≡ front (startColumn s) o) × ((y ≡ front (idColumn s) p) × (z ≡ front (counterColumn s) q)) →
     (x ≡ startColumn s ++ drop n o) × ((y ≡ idColumn s ++ drop n p) × (z ≡ counterColumn s ++ drop n q))
 unfolding startColumn idColumn counterColumn
-filled s e o p q x y z h =
-    (h .0 ∙ after-places s e (λ (e : Entry). e .start) o, (h .1 .0 ∙ after-places s e (λ (e : Entry). e .id) p, h .1 .1 ∙ after-places s e (λ (e : Entry). e .counter) q))
+filled s e o p q x y z h = (
+  h .0 ∙ after-places s e (λ (e : Entry). e .start) o,
+  (h .1 .0 ∙ after-places s e (λ (e : Entry). e .id) p, h .1 .1 ∙ after-places s e (λ (e : Entry). e .counter) q),
+)
 
 -- a number written to its place
 set-stored : (o : List ℕ) (n v : ℕ) → n < length o → set o n v ≡ stored n (v ∷ []) o
@@ -92,7 +95,8 @@ start {s} {o} {p} {q} r =
     record { at-starts = begun _ s o (r .starts); at-ids = begun _ s p (r .ids); at-counters = begun _ s q (r .counters) }
 
 -- past a message
-module _ {s o p q starts ids counters : List ℕ} {c d : Cursor} {l : Located} (h : FillingAll s o p q c starts ids counters) (e : step c s ≡ handed l d) where
+module _ {s o p q starts ids counters : List ℕ} {c d : Cursor} {l : Located} (h : FillingAll s o p q c starts ids counters)
+    (e : step c s ≡ handed l d) where
   passes : Passes c s l d
   passes = step-handed c s e
 
@@ -118,7 +122,8 @@ module _ {s o p q starts ids counters : List ℕ} {c d : Cursor} {l : Located} (
   placed {g} {o} {column} {v} f same =
       filling.next f passes (ap (λ (v : ℕ). set column (l .number) v) same ∙ set-stored column (l .number) (g (entryAt s l)) (has-place f))
 
-  pub next : {x : Entry} → x ≡ entryAt s l → FillingAll s o p q d (set starts (l .number) (x .start)) (set ids (l .number) (x .id)) (set counters (l .number) (x .counter))
+  pub next : {x : Entry} → x ≡ entryAt s l → FillingAll s o p q d (set starts (l .number) (x .start)) (set ids (l .number) (x .id))
+      (set counters (l .number) (x .counter))
   next same =
       record {
         at-starts = placed (h .at-starts) (ap (λ (e : Entry). e .start) same);
@@ -141,5 +146,7 @@ module _ {s o p q starts ids counters : List ℕ} {c : Cursor} (h : FillingAll s
   pub finish : {v : Verdict} → step c s ≡ over v →
       (starts ≡ front (startColumn s) o) × ((ids ≡ front (idColumn s) p) × (counters ≡ front (counterColumn s) q))
   unfolding startColumn idColumn counterColumn
-  finish e =
-      (filling.finish (h .at-starts) e ∙ stored-front _ o, (filling.finish (h .at-ids) e ∙ stored-front _ p, filling.finish (h .at-counters) e ∙ stored-front _ q))
+  finish e = (
+    filling.finish (h .at-starts) e ∙ stored-front _ o,
+    (filling.finish (h .at-ids) e ∙ stored-front _ p, filling.finish (h .at-counters) e ∙ stored-front _ q),
+  )

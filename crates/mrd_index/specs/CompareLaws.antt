@@ -89,7 +89,8 @@ zip true true true a b c = refl
 
 columns-held : (f a b c : List ℕ) (i : ℕ) (es : List Entry) →
     allSame (lent Columns f a b c) i es ≡
-    (begins (map (λ (e : Entry). e .start) es) (drop i a) && (begins (map (λ (e : Entry). e .id) es) (drop i b) && begins (map (λ (e : Entry). e .counter) es) (drop i c)))
+    (begins (map (λ (e : Entry). e .start) es) (drop i a) &&
+    (begins (map (λ (e : Entry). e .id) es) (drop i b) && begins (map (λ (e : Entry). e .counter) es) (drop i c)))
 unfolding entrySame
 columns-held f a b c i [] = refl
 columns-held f a b c i (e ∷ es) =
@@ -97,8 +98,14 @@ columns-held f a b c i (e ∷ es) =
     let starts = map (λ (e : Entry). e .start) es in
     let ids = map (λ (e : Entry). e .id) es in
     let counters = map (λ (e : Entry). e .counter) es in
-    rw (columns-held f a b c (suc i) es, fields-same a (e .start ∷ []) starts i (suc i) next, fields-same b (e .id ∷ []) ids i (suc i) next, fields-same c (e .counter ∷ []) counters i (suc i) next)
-    (zip (begins (e .start ∷ []) (drop i a)) (begins (e .id ∷ []) (drop i b)) (begins (e .counter ∷ []) (drop i c)) (begins starts (drop (suc i) a)) (begins ids (drop (suc i) b)) (begins counters (drop (suc i) c)))
+    rw (
+      columns-held f a b c (suc i) es,
+      fields-same a (e .start ∷ []) starts i (suc i) next,
+      fields-same b (e .id ∷ []) ids i (suc i) next,
+      fields-same c (e .counter ∷ []) counters i (suc i) next,
+    )
+    (zip (begins (e .start ∷ []) (drop i a)) (begins (e .id ∷ []) (drop i b)) (begins (e .counter ∷ []) (drop i c))
+    (begins starts (drop (suc i) a)) (begins ids (drop (suc i) b)) (begins counters (drop (suc i) c)))
 
 pub columns-match : (s f a b c : List ℕ) → compareFrom (lent Columns f a b c) true (trace s) ≡ columnsMatch s a b c
 unfolding columnsMatch startColumn idColumn counterColumn

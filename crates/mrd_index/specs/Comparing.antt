@@ -29,7 +29,8 @@ unfolding answer
 start l s b = record { walk = on-start verdict s; rest = on-start (compareFrom l b) s }
 
 -- past a message
-module _ {l : Lent} {wanted : MatchAnswer} {s : List ℕ} {c d : Cursor} {b : Bool} {here : Located} (h : Comparing l wanted s c b) (p : Passes c s here d) where
+module _ {l : Lent} {wanted : MatchAnswer} {s : List ℕ} {c d : Cursor} {b : Bool} {here : Located} (h : Comparing l wanted s c b)
+    (p : Passes c s here d) where
   past : (x : Bool) → x ≡ (b && entrySame l (here .number) (entryAt s here)) → Comparing l wanted s d x
   past x e =
       record {
@@ -49,7 +50,8 @@ module _ {l : Lent} {wanted : MatchAnswer} {s : List ℕ} {c d : Cursor} {b : Bo
   next-other t = past b (rw t)
 
 -- at the end
-module _ {l : Lent} {wanted : MatchAnswer} {s : List ℕ} {c : Cursor} {b : Bool} {v : Verdict} (h : Comparing l wanted s c b) (e : step c s ≡ over v) where
+module _ {l : Lent} {wanted : MatchAnswer} {s : List ℕ} {c : Cursor} {b : Bool} {v : Verdict} (h : Comparing l wanted s c b)
+    (e : step c s ≡ over v) where
   pub counts : Counts v
   counts = few v (on-end verdict s (h .walk) e)
     where

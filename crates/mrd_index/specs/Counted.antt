@@ -34,7 +34,8 @@ walk-counted (b ∷ t) (suc k) c n h e = walk-counted t k c n h e
 walk-counted (b ∷ t) zero c n h e = judged (λ k z. walk-counted t (pred z) (after c k z) n) (judge c (b ∷ t)) refl e
   where
     judged : ((k : Kind) (z : ℕ) → c .number + 1 ≤ messageLimit → verdict (walk t (pred z) (after c k z)) ≡ accepted n →
-        Counted (c .number + 1) (walk t (pred z) (after c k z)) n) → (j : Judged) → judge c (b ∷ t) ≡ j → verdict (walk (b ∷ t) 0 c) ≡ accepted n → Counted (c .number) (walk (b ∷ t) 0 c) n
+        Counted (c .number + 1) (walk t (pred z) (after c k z)) n) → (j : Judged) → judge c (b ∷ t) ≡ j →
+        verdict (walk (b ∷ t) 0 c) ≡ accepted n → Counted (c .number) (walk (b ∷ t) 0 c) n
     judged ih (faulty f) q e = absurd (not-accepted (rw (q, walk) at e))
     judged ih (whole k z) q e =
         let few : c .number < messageLimit = judge-whole c (b ∷ t) q .counted in

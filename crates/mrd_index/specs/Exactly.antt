@@ -76,7 +76,11 @@ module _ (s a b c : List ℕ) where
       }
 
   held-found : Held s a b c → found ≡ true
-  held-found h = rw (take-begins (startColumn s) a (h .by-starts), take-begins (idColumn s) b (h .by-ids), take-begins (counterColumn s) c (h .by-counters))
+  held-found h = rw (
+    take-begins (startColumn s) a (h .by-starts),
+    take-begins (idColumn s) b (h .by-ids),
+    take-begins (counterColumn s) c (h .by-counters),
+  )
 
   pub columns-compared : Compared s (Held s a b c) (columnsMatch s a b c)
   unfolding columnsMatch

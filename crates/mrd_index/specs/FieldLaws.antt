@@ -12,7 +12,8 @@ use lib.Seq.{drop-cons, drop-drop}
 use Rattle.mrd_index.specs.Same.{begins, equal, begins-append, begins-short, equal-long, equal-other}
 
 -- fields a, then b, from `at` on, where b starts at `next`
-pub fields-same : (f a b : List ℕ) (at next : ℕ) → next ≡ at + length a → begins (a ++ b) (drop at f) ≡ (begins a (drop at f) && begins b (drop next f))
+pub fields-same : (f a b : List ℕ) (at next : ℕ) → next ≡ at + length a →
+    begins (a ++ b) (drop at f) ≡ (begins a (drop at f) && begins b (drop next f))
 fields-same f a b at next e = begins-append a b (drop at f) ∙ rw (drop-drop (length a) at f, e)
 
 -- the first differs, or the second decides

@@ -108,7 +108,8 @@ module _ {f : Layout} {s o out : List ℕ} {c d : Cursor} {l : Located} (h : Fil
       }
 
 -- at the end
-pub finish : {f : Layout} {s o out : List ℕ} {c : Cursor} {v : Verdict} → Filling f s o c out → step c s ≡ over v → out ≡ stored (f .at 0) (f .all (entries s)) o
+pub finish : {f : Layout} {s o out : List ℕ} {c : Cursor} {v : Verdict} → Filling f s o c out → step c s ≡ over v →
+    out ≡ stored (f .at 0) (f .all (entries s)) o
 finish {f} {s} {o} {out} {c} {v} h e =
     let all : h .ready ++ f .all [] ≡ f .all (entries s) = on-end (λ r. h .ready ++ f .all (entriesOf r)) s (h .whole) e in
     let nothing : h .ready ++ f .all [] ≡ h .ready = ap (λ (t : List ℕ). h .ready ++ t) (f .none) ∙ append-nil (h .ready) in

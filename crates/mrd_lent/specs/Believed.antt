@@ -123,7 +123,8 @@ match-never : (n : ℕ) (cs : List ℕ) (t : Trace) → find.firstMatch n cs t �
 match-never n cs (done v) e = let z : _≡_ {A = ℕ} 16 15 = cc in omega arith
 match-never n cs (message c k m t) e = by (match-never n cs t) (find.matches n cs c k m) e
   where
-    by : (find.firstMatch n cs t ≡ find.number 15 → ⊥) → (b : Bool) → find.pick b (find.found (c .number)) (find.firstMatch n cs t) ≡ find.number 15 → ⊥
+    by : (find.firstMatch n cs t ≡ find.number 15 → ⊥) → (b : Bool) →
+        find.pick b (find.found (c .number)) (find.firstMatch n cs t) ≡ find.number 15 → ⊥
     by later true e = let z : _≡_ {A = ℕ} 0 1 = cc in omega arith
     by later false e = later e
 

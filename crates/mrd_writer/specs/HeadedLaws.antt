@@ -58,6 +58,7 @@ module _ (h name : List ℕ) (n : Lengths) where
         (headed Image h name n ≡ bodied z n (partLengths 0 0 0 0 (n .attributes) (z - 208 - n .attributes) 0))
     unfolding sizeOf bodySize dueLengths
     image-sized {z} q =
-        let p = headed-sized Image h name n fixed (image-checks h (n .attributes) e fits name n refl) (image-size h (n .attributes) e fits n refl) q in
+        let p = headed-sized Image h name n fixed (image-checks h (n .attributes) e fits name n refl)
+        (image-size h (n .attributes) e fits n refl) q in
         let due : image.pixelsSize h ≡ z - 208 - n .attributes = omega (arith, p .0) in
         (p .0, p .1 ∙ ap (λ (s : ℕ). bodied z n (partLengths 0 0 0 0 (n .attributes) s 0)) due)

@@ -21,18 +21,31 @@ module _ (h : List ℕ) (a : ℕ) (e : length h ≡ 198) (fits : a < 256 ^ 8) wh
   -- a field of the header, and the length after it
   field : (f : image.Field) (i : ℕ) → image.layout f .offset + i * width (image.layout f .type) + width (image.layout f .type) ≤ 198 →
       image.getAt f i (h ++ toBytes 8 a) ≡ image.getAt f i h
-  field f i within = num-append (width (image.layout f .type)) h (toBytes 8 a) (image.layout f .offset + i * width (image.layout f .type)) (rw e within)
+  field f i within = num-append (width (image.layout f .type)) h (toBytes 8 a) (image.layout f .offset + i * width (image.layout f .type))
+      (rw e within)
 
   pub attribute-length : image.attributeLength (h ++ toBytes 8 a) ≡ a
   attribute-length = rw (append-nil, e) at (read-after-write 8 a h [] fits)
 
   pub pixels-size : image.pixelsSize (h ++ toBytes 8 a) ≡ image.pixelsSize h
   unfolding image.pixelsSize image.pixelCount
-  pixels-size = rw (field image.matrix-size 0 (omega arith), field image.matrix-size 1 (omega arith), field image.matrix-size 2 (omega arith), field image.channels 0 (omega arith), field image.data-type 0 (omega arith))
+  pixels-size = rw (
+    field image.matrix-size 0 (omega arith),
+    field image.matrix-size 1 (omega arith),
+    field image.matrix-size 2 (omega arith),
+    field image.channels 0 (omega arith),
+    field image.data-type 0 (omega arith),
+  )
 
   pub image-checks : (name : List ℕ) (n : Lengths) → n .attributes ≡ a → ownChecks Image h name n ≡ message.ownChecks Image (h ++ toBytes 8 a)
   unfolding ownChecks message.ownChecks image.checks
-  image-checks name n q = rw (attribute-length, field image.version 0 (omega arith), field image.data-type 0 (omega arith), field image.attribute-string-len 0 (omega arith), q)
+  image-checks name n q = rw (
+    attribute-length,
+    field image.version 0 (omega arith),
+    field image.data-type 0 (omega arith),
+    field image.attribute-string-len 0 (omega arith),
+    q,
+  )
 
   pub image-size : (n : Lengths) → n .attributes ≡ a → sizeOf Image h n ≡ message.sizeOf Image (h ++ toBytes 8 a)
   unfolding sizeOf bodySize message.sizeOf message.bodySize image.bodySize

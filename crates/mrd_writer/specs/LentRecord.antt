@@ -181,7 +181,8 @@ pixels-part l s =
 -- a waveform's data
 waveform-part : (l : Lent) → Sound Waveform l → partOf (messageOf Waveform l) (extent 34 (waveform.bodySize (l .header))) ≡ l .waveform
 unfolding messageOf contentOf bodyOf fixedOf dueLengths
-waveform-part l s = part-last (l .header) (l .waveform) 32 (waveform.bodySize (l .header)) (s .header) (ap (λ (n : Lengths). n .waveform) (s .lengths))
+waveform-part l s = part-last (l .header) (l .waveform) 32 (waveform.bodySize (l .header)) (s .header)
+    (ap (λ (n : Lengths). n .waveform) (s .lengths))
 
 -- two parts
 image-parts : (l : Lent) → Sound Image l →
@@ -189,7 +190,12 @@ image-parts : (l : Lent) → Sound Image l →
 unfolding extents lentParts
 image-parts l s =
     let fits = attributes-small l s in
-    rw (attribute-length (l .header) (length (l .attributes)) (s .header) fits, pixels-size (l .header) (length (l .attributes)) (s .header) fits, attributes-part l s, pixels-part l s)
+    rw (
+      attribute-length (l .header) (length (l .attributes)) (s .header) fits,
+      pixels-size (l .header) (length (l .attributes)) (s .header) fits,
+      attributes-part l s,
+      pixels-part l s,
+    )
 
 -- the parts of the message are those that were lent
 written-parts : (k : Kind) (l : Lent) → Sound k l → map (partOf (messageOf k l)) (extents k (fixedOf k l)) ≡ lentParts k l

@@ -34,7 +34,8 @@ returns-2 : tie.Need-returns-2
 returns-2 c =
     let check = c .before .before .before in
     let a = check .before .before .before .args in
-    stream-refused (now (a .s)) (length (now (a .s))) (normal (now (a .s))) (now (a .out)) (sym (check .check .ensures) ∙ ap toldChecked (c .before .checked .given .1))
+    stream-refused (now (a .s)) (length (now (a .s))) (normal (now (a .s))) (now (a .out))
+    (sym (check .check .ensures) ∙ ap toldChecked (c .before .checked .given .1))
 
 pub normal-form-spec : {M : Type 1} → statement M
 normal-form-spec =

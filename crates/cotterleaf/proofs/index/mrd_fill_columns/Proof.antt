@@ -37,7 +37,10 @@ returns c =
     let a = call .before .before .before .before .before .before .before .before .args in
     let s = now (a .stream) in (
       c .of .ensures ∙ ap faceWritten (inner .0),
-      (inner .1 .0 ∙ by (inner .0) (startColumn s) (now (a .starts)), (inner .1 .1 .0 ∙ by (inner .0) (idColumn s) (now (a .ids)), inner .1 .1 .1 ∙ by (inner .0) (counterColumn s) (now (a .counters)))),
+      (
+        inner .1 .0 ∙ by (inner .0) (startColumn s) (now (a .starts)),
+        (inner .1 .1 .0 ∙ by (inner .0) (idColumn s) (now (a .ids)), inner .1 .1 .1 ∙ by (inner .0) (counterColumn s) (now (a .counters))),
+      ),
     )
 
 pub mrd-fill-columns-spec : {M : Type 1} → statement M

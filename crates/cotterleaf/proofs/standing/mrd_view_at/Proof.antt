@@ -19,7 +19,8 @@ of-requires : tie.Need-of-requires
 of-requires c κs = search needs
 
 returns : tie.Need-returns
-returns c = c .of .ensures ∙ ap faceView (rw (c .before .before .part-of .ensures, c .before .before .before .cursor-of .ensures) at (c .before .view-place-at .ensures))
+returns c = c .of .ensures ∙ ap faceView (rw (c .before .before .part-of .ensures, c .before .before .before .cursor-of .ensures) at
+    (c .before .view-place-at .ensures))
 
 pub mrd-view-at-spec : {M : Type 1} → statement M
 mrd-view-at-spec =

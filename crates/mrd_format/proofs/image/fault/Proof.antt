@@ -19,7 +19,12 @@ first-fault-requires c κs = search needs
 
 returns : tie.Need-returns
 unfolding checks
-returns c = simp (← c .before .before .before .read-u16 .ensures, ← c .before .before .type-unknown .ensures, ← c .before .lengths-differ .ensures, c .first-fault .ensures)
+returns c = simp (
+  ← c .before .before .before .read-u16 .ensures,
+  ← c .before .before .type-unknown .ensures,
+  ← c .before .lengths-differ .ensures,
+  c .first-fault .ensures,
+)
 
 pub fault-spec : {M : Type 1} → statement M
 fault-spec =

@@ -15,7 +15,8 @@ enum-known-checked : tie.Need-enum-known-checked
 enum-known-checked c = search needs
 
 fill-requires : tie.Need-fill-requires
-fill-requires c κs = sym (c .before .before .before .before .before .before .check .ensures) ∙ ap toldChecked (c .before .before .before .before .checked .given .1)
+fill-requires c κs = sym (c .before .before .before .before .before .before .check .ensures) ∙ ap toldChecked
+    (c .before .before .before .before .checked .given .1)
 
 enum-known-checked-2 : tie.Need-enum-known-checked-2
 enum-known-checked-2 c = search needs

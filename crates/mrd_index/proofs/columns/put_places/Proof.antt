@@ -35,7 +35,8 @@ enum-known-step c = search needs
 
 passed : (c : tie.After-step Inv-loop μ-loop) →
     let given = c .step .given .0 in
-    step (c .before .before .before .loop .c) (now (c .before .before .before .before .before .before .before .before .before .args .s)) ≡ handed (toldRecord (given .0)) (given .1 .0)
+    step (c .before .before .before .loop .c) (now
+    (c .before .before .before .before .before .before .before .before .before .args .s)) ≡ handed (toldRecord (given .0)) (given .1 .0)
 passed c = sym (c .before .before .next .ensures) ∙ ap toldStep (c .step .given .1)
 
 entry-of-requires : tie.Need-entry-of-requires Inv-loop μ-loop

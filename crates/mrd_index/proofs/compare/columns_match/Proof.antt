@@ -14,7 +14,8 @@ compare-requires : tie.Need-compare-requires
 compare-requires c κs = search needs
 
 returns : tie.Need-returns
-returns c = let a = c .before .before .before .before .before .before .args in c .compare .ensures ∙ columns-match (now (a .s)) _ (now (a .starts)) (now (a .ids)) (now (a .counters))
+returns c = let a = c .before .before .before .before .before .before .args in c .compare .ensures ∙ columns-match (now (a .s)) _
+    (now (a .starts)) (now (a .ids)) (now (a .counters))
 
 pub columns-match-spec : {M : Type 1} → statement M
 columns-match-spec = tie.close (tie.spec slice-aggregate-compare compare-requires returns)

@@ -36,7 +36,8 @@ loop-holds : tie.Need-loop-holds Inv-loop μ-loop
 loop-holds c =
     let a = c .before .before .before .before .before .before .before .args in
     rw (c .beginning .ensures, c .before .front-same .ensures)
-    (start (lent (a .form) (now (a .file)) (now (a .starts)) (now (a .ids)) (now (a .counters))) (now (a .s)) (frontBy (a .form) (now (a .file)) (length (now (a .s)))))
+    (start (lent (a .form) (now (a .file)) (now (a .starts)) (now (a .ids)) (now (a .counters))) (now (a .s))
+    (frontBy (a .form) (now (a .file)) (length (now (a .s)))))
 
 next-requires : tie.Need-next-requires Inv-loop μ-loop
 next-requires c κs = search needs
@@ -45,11 +46,16 @@ enum-known-step : tie.Need-enum-known-step Inv-loop μ-loop
 enum-known-step c = search needs
 
 module _ (c : tie.After-step Inv-loop μ-loop) where
-  handed-out : step (c .before .before .before .loop .c) (now (c .before .before .before .before .before .before .before .before .before .before .before .args .s)) ≡ handed (toldRecord (c .step .given .0 .0)) (c .step .given .0 .1 .0)
+  handed-out : step (c .before .before .before .loop .c)
+      (now (c .before .before .before .before .before .before .before .before .before .before .before .args .s)) ≡ handed
+      (toldRecord (c .step .given .0 .0)) (c .step .given .0 .1 .0)
   handed-out = sym (c .before .before .next .ensures) ∙ ap toldStep (c .step .given .1)
 
-  passed : Passes (c .before .before .before .loop .c) (now (c .before .before .before .before .before .before .before .before .before .before .before .args .s)) (toldRecord (c .step .given .0 .0)) (c .step .given .0 .1 .0)
-  passed = step-handed (c .before .before .before .loop .c) (now (c .before .before .before .before .before .before .before .before .before .before .before .args .s)) handed-out
+  passed : Passes (c .before .before .before .loop .c)
+      (now (c .before .before .before .before .before .before .before .before .before .before .before .args .s))
+      (toldRecord (c .step .given .0 .0)) (c .step .given .0 .1 .0)
+  passed = step-handed (c .before .before .before .loop .c)
+      (now (c .before .before .before .before .before .before .before .before .before .before .before .args .s)) handed-out
 
 record-same-requires : tie.Need-record-same-requires Inv-loop μ-loop
 record-same-requires c κs =
@@ -57,13 +63,16 @@ record-same-requires c κs =
     (passes-within (passed step), rw (passes-number (passed step)) (step-few _ _ (handed-out step)))
 
 loop-less : tie.Need-loop-less Inv-loop μ-loop
-loop-less c = let step = c .before .before .before in on-less (now (step .before .before .before .before .before .before .before .before .before .before .before .args .s)) (passed step)
+loop-less c = let step = c .before .before .before in on-less
+    (now (step .before .before .before .before .before .before .before .before .before .before .before .args .s)) (passed step)
 
 loop-again : tie.Need-loop-again Inv-loop μ-loop
-loop-again c = let step = c .before .before .before in next-same (step .before .before .before .loop .inv) (passed step) (c .before .if1 .taken) (c .record-same .ensures)
+loop-again c = let step = c .before .before .before in next-same (step .before .before .before .loop .inv) (passed step)
+    (c .before .if1 .taken) (c .record-same .ensures)
 
 loop-less-2 : tie.Need-loop-less-2 Inv-loop μ-loop
-loop-less-2 c = let step = c .before .before in on-less (now (step .before .before .before .before .before .before .before .before .before .before .before .args .s)) (passed step)
+loop-less-2 c = let step = c .before .before in on-less
+    (now (step .before .before .before .before .before .before .before .before .before .before .before .args .s)) (passed step)
 
 loop-again-2 : tie.Need-loop-again-2 Inv-loop μ-loop
 loop-again-2 c = let step = c .before .before in next-other (step .before .before .before .loop .inv) (passed step) (c .if1 .left)
@@ -72,10 +81,12 @@ enum-known-step-2 : tie.Need-enum-known-step-2 Inv-loop μ-loop
 enum-known-step-2 c = search needs
 
 concluded-requires : tie.Need-concluded-requires Inv-loop μ-loop
-concluded-requires c κs = counts (c .before .before .before .before .loop .inv) (sym (c .before .before .before .next .ensures) ∙ ap toldStep (c .before .step2 .given .1))
+concluded-requires c κs = counts (c .before .before .before .before .loop .inv)
+    (sym (c .before .before .before .next .ensures) ∙ ap toldStep (c .before .step2 .given .1))
 
 returns : tie.Need-returns Inv-loop μ-loop
-returns c = c .concluded .ensures ∙ finish (c .before .before .before .before .before .loop .inv) (sym (c .before .before .before .before .next .ensures) ∙ ap toldStep (c .before .before .step2 .given .1))
+returns c = c .concluded .ensures ∙ finish (c .before .before .before .before .before .loop .inv)
+    (sym (c .before .before .before .before .next .ensures) ∙ ap toldStep (c .before .before .step2 .given .1))
 
 pub compare-spec : {M : Type 1} → statement M
 compare-spec =

@@ -28,7 +28,8 @@ returns-2 : tie.Need-returns-2
 returns-2 c =
     let a = c .before .before .before .before .args in
     let f = now (a .file) in
-    four-first f (tagField 3 14) (toBytes 8 (a .entry .start)) (toBytes 2 (a .entry .id)) (toBytes 4 (a .entry .counter)) (a .at) (a .at + 3) (a .at + 11) (a .at + 13) refl (omega arith) (omega arith)
+    four-first f (tagField 3 14) (toBytes 8 (a .entry .start)) (toBytes 2 (a .entry .id)) (toBytes 4 (a .entry .counter)) (a .at)
+    (a .at + 3) (a .at + 11) (a .at + 13) refl (omega arith) (omega arith)
     (sym (c .before .tag-same .ensures) ∙ not-true _ (c .if2 .taken))
 
 add-u64-same : tie.Need-add-u64-same
@@ -41,8 +42,10 @@ returns-3 : tie.Need-returns-3
 returns-3 c =
     let a = c .before .before .before .before .before .before .args in
     let f = now (a .file) in
-    four-second f (tagField 3 14) (toBytes 8 (a .entry .start)) (toBytes 2 (a .entry .id)) (toBytes 4 (a .entry .counter)) (a .at) (a .at + 3) (a .at + 11) (a .at + 13) refl (omega arith) (omega arith)
-    (sym (c .before .before .before .tag-same .ensures) ∙ not-false _ (c .before .before .if2 .left)) (sym (c .before .u64-same .ensures) ∙ not-true _ (c .if3 .taken))
+    four-second f (tagField 3 14) (toBytes 8 (a .entry .start)) (toBytes 2 (a .entry .id)) (toBytes 4 (a .entry .counter)) (a .at)
+    (a .at + 3) (a .at + 11) (a .at + 13) refl (omega arith) (omega arith)
+    (sym (c .before .before .before .tag-same .ensures) ∙ not-false _ (c .before .before .if2 .left))
+    (sym (c .before .u64-same .ensures) ∙ not-true _ (c .if3 .taken))
 
 add-u16-same : tie.Need-add-u16-same
 add-u16-same c = search needs
@@ -54,8 +57,11 @@ returns-4 : tie.Need-returns-4
 returns-4 c =
     let a = c .before .before .before .before .before .before .before .before .args in
     let f = now (a .file) in
-    four-third f (tagField 3 14) (toBytes 8 (a .entry .start)) (toBytes 2 (a .entry .id)) (toBytes 4 (a .entry .counter)) (a .at) (a .at + 3) (a .at + 11) (a .at + 13) refl (omega arith) (omega arith)
-    (sym (c .before .before .before .before .before .tag-same .ensures) ∙ not-false _ (c .before .before .before .before .if2 .left)) (sym (c .before .before .before .u64-same .ensures) ∙ not-false _ (c .before .before .if3 .left)) (sym (c .before .u16-same .ensures) ∙ not-true _ (c .if4 .taken))
+    four-third f (tagField 3 14) (toBytes 8 (a .entry .start)) (toBytes 2 (a .entry .id)) (toBytes 4 (a .entry .counter)) (a .at)
+    (a .at + 3) (a .at + 11) (a .at + 13) refl (omega arith) (omega arith)
+    (sym (c .before .before .before .before .before .tag-same .ensures) ∙ not-false _ (c .before .before .before .before .if2 .left))
+    (sym (c .before .before .before .u64-same .ensures) ∙ not-false _ (c .before .before .if3 .left))
+    (sym (c .before .u16-same .ensures) ∙ not-true _ (c .if4 .taken))
 
 add-u32-same : tie.Need-add-u32-same
 add-u32-same c = search needs
@@ -67,8 +73,12 @@ returns-5 : tie.Need-returns-5
 returns-5 c =
     let a = c .before .before .before .before .before .before .before .before .before .args in
     let f = now (a .file) in
-    c .u32-same .ensures ∙ four-last f (tagField 3 14) (toBytes 8 (a .entry .start)) (toBytes 2 (a .entry .id)) (toBytes 4 (a .entry .counter)) (a .at) (a .at + 3) (a .at + 11) (a .at + 13) refl (omega arith) (omega arith)
-    (sym (c .before .before .before .before .before .before .tag-same .ensures) ∙ not-false _ (c .before .before .before .before .before .if2 .left)) (sym (c .before .before .before .before .u64-same .ensures) ∙ not-false _ (c .before .before .before .if3 .left)) (sym (c .before .before .u16-same .ensures) ∙ not-false _ (c .before .if4 .left))
+    c .u32-same .ensures ∙ four-last f (tagField 3 14) (toBytes 8 (a .entry .start)) (toBytes 2 (a .entry .id))
+    (toBytes 4 (a .entry .counter)) (a .at) (a .at + 3) (a .at + 11) (a .at + 13) refl (omega arith) (omega arith)
+    (sym (c .before .before .before .before .before .before .tag-same .ensures) ∙ not-false _
+    (c .before .before .before .before .before .if2 .left))
+    (sym (c .before .before .before .before .u64-same .ensures) ∙ not-false _ (c .before .before .before .if3 .left))
+    (sym (c .before .before .u16-same .ensures) ∙ not-false _ (c .before .if4 .left))
 
 pub field-same-spec : {M : Type 1} → statement M
 field-same-spec =

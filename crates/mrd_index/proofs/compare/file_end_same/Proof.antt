@@ -26,7 +26,8 @@ tag-same-requires c κs = search needs
 returns-2 : tie.Need-returns-2
 returns-2 c =
     let a = c .before .before .before .before .args in
-    two-first (now (a .file)) (tagField 4 4) (toBytes 4 (a .count)) (a .at) (a .at + 3) refl (sym (c .before .tag-same .ensures) ∙ not-true _ (c .if2 .taken)) ∙
+    two-first (now (a .file)) (tagField 4 4) (toBytes 4 (a .count)) (a .at) (a .at + 3) refl
+    (sym (c .before .tag-same .ensures) ∙ not-true _ (c .if2 .taken)) ∙
     sym (rest-long (now (a .file)) (endField (a .count)) (a .at) (omega arith) (omega (arith, c .before .before .if1 .left)))
 
 add-u32-same : tie.Need-add-u32-same
@@ -39,7 +40,8 @@ returns-3 : tie.Need-returns-3
 returns-3 c =
     let a = c .before .before .before .before .before .args in
     c .u32-same .ensures ∙
-    two-last (now (a .file)) (tagField 4 4) (toBytes 4 (a .count)) (a .at) (a .at + 3) refl (sym (c .before .before .tag-same .ensures) ∙ not-false _ (c .before .if2 .left)) ∙
+    two-last (now (a .file)) (tagField 4 4) (toBytes 4 (a .count)) (a .at) (a .at + 3) refl
+    (sym (c .before .before .tag-same .ensures) ∙ not-false _ (c .before .if2 .left)) ∙
     sym (rest-long (now (a .file)) (endField (a .count)) (a .at) (omega arith) (omega (arith, c .before .before .before .if1 .left)))
 
 pub file-end-same-spec : {M : Type 1} → statement M

@@ -36,7 +36,8 @@ returns-3 c =
     let a = c .before .before .before .before .before .before .args in
     let f = now (a .file) in
     four-second f (tagField 1 2) (toBytes 2 1) (tagField 2 8) (toBytes 8 (a .total)) 0 3 5 8 refl (omega arith) (omega arith)
-    (sym (c .before .before .before .tag-same .ensures) ∙ not-false _ (c .before .before .if2 .left)) (sym (c .before .u16-same .ensures) ∙ not-true _ (c .if3 .taken))
+    (sym (c .before .before .before .tag-same .ensures) ∙ not-false _ (c .before .before .if2 .left))
+    (sym (c .before .u16-same .ensures) ∙ not-true _ (c .if3 .taken))
 
 tag-same-requires-2 : tie.Need-tag-same-requires-2
 tag-same-requires-2 c κs = search needs
@@ -46,7 +47,9 @@ returns-4 c =
     let a = c .before .before .before .before .before .before .before .before .args in
     let f = now (a .file) in
     four-third f (tagField 1 2) (toBytes 2 1) (tagField 2 8) (toBytes 8 (a .total)) 0 3 5 8 refl (omega arith) (omega arith)
-    (sym (c .before .before .before .before .before .tag-same .ensures) ∙ not-false _ (c .before .before .before .before .if2 .left)) (sym (c .before .before .before .u16-same .ensures) ∙ not-false _ (c .before .before .if3 .left)) (sym (c .before .tag-same2 .ensures) ∙ not-true _ (c .if4 .taken))
+    (sym (c .before .before .before .before .before .tag-same .ensures) ∙ not-false _ (c .before .before .before .before .if2 .left))
+    (sym (c .before .before .before .u16-same .ensures) ∙ not-false _ (c .before .before .if3 .left))
+    (sym (c .before .tag-same2 .ensures) ∙ not-true _ (c .if4 .taken))
 
 u64-same-requires : tie.Need-u64-same-requires
 u64-same-requires c κs = search needs
@@ -56,7 +59,10 @@ returns-5 c =
     let a = c .before .before .before .before .before .before .before .before .before .args in
     let f = now (a .file) in
     c .u64-same .ensures ∙ four-last f (tagField 1 2) (toBytes 2 1) (tagField 2 8) (toBytes 8 (a .total)) 0 3 5 8 refl (omega arith) (omega arith)
-    (sym (c .before .before .before .before .before .before .tag-same .ensures) ∙ not-false _ (c .before .before .before .before .before .if2 .left)) (sym (c .before .before .before .before .u16-same .ensures) ∙ not-false _ (c .before .before .before .if3 .left)) (sym (c .before .before .tag-same2 .ensures) ∙ not-false _ (c .before .if4 .left))
+    (sym (c .before .before .before .before .before .before .tag-same .ensures) ∙ not-false _
+    (c .before .before .before .before .before .if2 .left))
+    (sym (c .before .before .before .before .u16-same .ensures) ∙ not-false _ (c .before .before .before .if3 .left))
+    (sym (c .before .before .tag-same2 .ensures) ∙ not-false _ (c .before .if4 .left))
 
 pub file-front-same-spec : {M : Type 1} → statement M
 file-front-same-spec =

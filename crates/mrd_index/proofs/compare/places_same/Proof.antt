@@ -25,7 +25,10 @@ returns-2 c =
 returns-3 : tie.Need-returns-3
 returns-3 c =
     let a = c .before .before .before .before .before .args in
-    simp (place-same (now (a .starts)) (a .n) (a .entry .start) (c .before .before .before .before .if1 .left) (c .before .if2 .left), place-short (now (a .ids)) (a .n) (a .entry .id) (c .if3 .taken))
+    simp (
+      place-same (now (a .starts)) (a .n) (a .entry .start) (c .before .before .before .before .if1 .left) (c .before .if2 .left),
+      place-short (now (a .ids)) (a .n) (a .entry .id) (c .if3 .taken),
+    )
 
 mul-if4 : tie.Need-mul-if4
 mul-if4 c = search needs
@@ -36,12 +39,21 @@ shared-slice-read-if4 c = search needs
 returns-4 : tie.Need-returns-4
 returns-4 c =
     let a = c .before .before .before .before .before .before .before .before .args in
-    simp (place-same (now (a .starts)) (a .n) (a .entry .start) (c .before .before .before .before .before .before .before .if1 .left) (c .before .before .before .before .if2 .left), place-other (now (a .ids)) (a .n) (a .entry .id) (c .before .before .before .if3 .left) (c .if4 .taken))
+    simp (
+      place-same (now (a .starts)) (a .n) (a .entry .start) (c .before .before .before .before .before .before .before .if1 .left)
+          (c .before .before .before .before .if2 .left),
+      place-other (now (a .ids)) (a .n) (a .entry .id) (c .before .before .before .if3 .left) (c .if4 .taken),
+    )
 
 returns-5 : tie.Need-returns-5
 returns-5 c =
     let a = c .before .before .before .before .before .before .before .before .before .args in
-    simp (place-same (now (a .starts)) (a .n) (a .entry .start) (c .before .before .before .before .before .before .before .before .if1 .left) (c .before .before .before .before .before .if2 .left), place-same (now (a .ids)) (a .n) (a .entry .id) (c .before .before .before .before .if3 .left) (c .before .if4 .left), place-short (now (a .counters)) (a .n) (a .entry .counter) (c .if5 .taken))
+    simp (
+      place-same (now (a .starts)) (a .n) (a .entry .start)
+          (c .before .before .before .before .before .before .before .before .if1 .left) (c .before .before .before .before .before .if2 .left),
+      place-same (now (a .ids)) (a .n) (a .entry .id) (c .before .before .before .before .if3 .left) (c .before .if4 .left),
+      place-short (now (a .counters)) (a .n) (a .entry .counter) (c .if5 .taken),
+    )
 
 mul-result : tie.Need-mul-result
 mul-result c = search needs
@@ -52,7 +64,14 @@ shared-slice-read-result c = search needs
 returns-6 : tie.Need-returns-6
 returns-6 c =
     let a = c .before .before .before .before .before .before .before .before .before .before .before .args in
-    simp (place-same (now (a .starts)) (a .n) (a .entry .start) (c .before .before .before .before .before .before .before .before .before .before .if1 .left) (c .before .before .before .before .before .before .before .if2 .left), place-same (now (a .ids)) (a .n) (a .entry .id) (c .before .before .before .before .before .before .if3 .left) (c .before .before .before .if4 .left), place-tested (now (a .counters)) (a .n) (a .entry .counter) (c .before .before .if5 .left))
+    simp (
+      place-same (now (a .starts)) (a .n) (a .entry .start)
+          (c .before .before .before .before .before .before .before .before .before .before .if1 .left)
+          (c .before .before .before .before .before .before .before .if2 .left),
+      place-same (now (a .ids)) (a .n) (a .entry .id) (c .before .before .before .before .before .before .if3 .left)
+          (c .before .before .before .if4 .left),
+      place-tested (now (a .counters)) (a .n) (a .entry .counter) (c .before .before .if5 .left),
+    )
 
 pub places-same-spec : {M : Type 1} → statement M
 places-same-spec =

@@ -16,7 +16,8 @@ returns c =
     let start = c .before .before in
     let a = start .args in
     ap (λ n. eqb n (a .v)) (c .read-u16 .ensures) ∙
-    sym (number-same 2 (a .v) (now (a .file)) (a .at) (all-bytes (now (a .file)) (c .before .shared-slice-known .given)) (start .pre) (start .fits .v .fits))
+    sym (number-same 2 (a .v) (now (a .file)) (a .at) (all-bytes (now (a .file)) (c .before .shared-slice-known .given)) (start .pre)
+    (start .fits .v .fits))
 
 pub u16-same-spec : {M : Type 1} → statement M
 u16-same-spec = tie.close (tie.spec read-u16-requires returns)

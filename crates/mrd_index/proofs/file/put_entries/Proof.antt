@@ -38,10 +38,12 @@ enum-known-step c = search needs
 
 passed : (c : tie.After-step Inv-loop μ-loop) →
     let step = c .step .given .0 in
-    Passes (c .before .before .before .loop .c) (now (c .before .before .before .before .before .before .before .args .s)) (toldRecord (step .0)) (step .1 .0)
+    Passes (c .before .before .before .loop .c) (now (c .before .before .before .before .before .before .before .args .s))
+    (toldRecord (step .0)) (step .1 .0)
 passed c =
     let loop = c .before .before .before .loop in
-    step-handed (loop .c) (now (c .before .before .before .before .before .before .before .args .s)) (sym (c .before .before .next .ensures) ∙ ap toldStep (c .step .given .1))
+    step-handed (loop .c) (now (c .before .before .before .before .before .before .before .args .s))
+    (sym (c .before .before .next .ensures) ∙ ap toldStep (c .step .given .1))
 
 fits : (c : tie.After-step Inv-loop μ-loop) → 16 + 17 * c .step .given .0 .0 .place .number + 17 ≤ length (c .before .before .before .loop .out)
 fits c = room (c .before .before .before .loop .inv) (passed c)

@@ -65,7 +65,8 @@ returns c =
     let a = tag .before .before .before .args in
     four-stored (now (a .out)) (tagField 3 14) (toBytes 8 (a .entry .start)) (toBytes 2 (a .entry .id)) (toBytes 4 (a .entry .counter)) _ _ _ _
     (tag .before .before .before .pre)
-    (tag .put-tag .ensures) (c .before .before .before .before .before .before .before .before .before .before .put-u64 .ensures) (c .before .before .before .before .before .before .put-u16 .ensures) (c .before .before .put-u32 .ensures)
+    (tag .put-tag .ensures) (c .before .before .before .before .before .before .before .before .before .before .put-u64 .ensures)
+    (c .before .before .before .before .before .before .put-u16 .ensures) (c .before .before .put-u32 .ensures)
 
 pub put-entry-spec : {M : Type 1} → statement M
 put-entry-spec =

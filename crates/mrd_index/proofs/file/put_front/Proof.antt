@@ -65,7 +65,8 @@ returns c =
     let a = tag .before .before .before .args in
     four-stored (now (a .out)) (tagField 1 2) (toBytes 2 1) (tagField 2 8) (toBytes 8 (a .total)) _ _ _ _
     (tag .before .before .before .pre)
-    (tag .put-tag .ensures) (c .before .before .before .before .before .before .before .before .before .before .put-u16 .ensures) (c .before .before .before .before .before .before .put-tag2 .ensures) (c .before .before .put-u64 .ensures)
+    (tag .put-tag .ensures) (c .before .before .before .before .before .before .before .before .before .before .put-u16 .ensures)
+    (c .before .before .before .before .before .before .put-tag2 .ensures) (c .before .before .put-u64 .ensures)
 
 pub put-front-spec : {M : Type 1} → statement M
 put-front-spec =

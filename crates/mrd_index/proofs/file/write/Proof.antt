@@ -66,7 +66,8 @@ returns-2 c =
     let test = c .before .before .before .before .before .before .before .before .before .before .before .before in
     let start = test .before .before .before in
     all-written (now (start .args .s)) (start .pre) (now (start .args .out)) _ (test .if1 .left)
-    (c .before .before .before .before .before .before .before .before .before .before .put-front .ensures) _ _ (c .before .before .before .before .before .before .put-entries .ensures) (c .before .before .put-end .ensures)
+    (c .before .before .before .before .before .before .before .before .before .before .put-front .ensures) _ _
+    (c .before .before .before .before .before .before .put-entries .ensures) (c .before .before .put-end .ensures)
 
 pub write-spec : {M : Type 1} → statement M
 write-spec =

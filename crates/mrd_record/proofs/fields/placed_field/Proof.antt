@@ -44,7 +44,8 @@ returns c =
     let k = c .before .before .kind .ensures in
     let h = c .before .fixed-part .ensures in
     let says : told (c .field .result) ≡
-    header.fieldOf (kindOf (here .shape)) (fixedPart (kindOf (here .shape)) (partAt (now (a .s)) (toldRecord here))) (a .offset) = cc (c .field .ensures .says) in
+    header.fieldOf (kindOf (here .shape)) (fixedPart (kindOf (here .shape)) (partAt (now (a .s)) (toldRecord here))) (a .offset) = cc
+    (c .field .ensures .says) in
     record { says = rw (placed .given .1) (ap answered says); apart = c .field .ensures .apart }
 
 returns-2 : tie.Need-returns-2

@@ -25,7 +25,8 @@ returns c = ap placeBy (sym (ap toldStep (c .before .step .given .1)) ∙ c .bef
 
 returns-2 : tie.Need-returns-2
 unfolding placeAt
-returns-2 c = c .ended .ensures ∙ ap placeBy (sym (ap toldStep (c .before .before .step2 .given .1)) ∙ c .before .before .before .before .next .ensures)
+returns-2 c = c .ended .ensures ∙ ap placeBy (sym (ap toldStep (c .before .before .step2 .given .1)) ∙
+    c .before .before .before .before .next .ensures)
 
 pub place-at-spec : {M : Type 1} → statement M
 place-at-spec =

@@ -52,7 +52,8 @@ returns-4 : tie.Need-returns-4
 unfolding judge
 returns-4 c =
     let id = c .before .before .before .before in
-    rw (ap identified (sym (id .before .read-u16 .ensures)) ∙ sym (id .of-id .ensures) ∙ c .before .before .identified .given .1) (c .judge-known .ensures)
+    rw (ap identified (sym (id .before .read-u16 .ensures)) ∙ sym (id .of-id .ensures) ∙ c .before .before .identified .given .1)
+    (c .judge-known .ensures)
 
 returns-5 : tie.Need-returns-5
 unfolding judge

@@ -36,14 +36,16 @@ returns-3 c =
     let start = c .before .before .before .before .before .before .before in
     let a = start .args in
     let own = sym (c .before .before .before .before .fault .ensures) ∙ c .before .before .before .if1 .left in
-    sym (laws.judge-cut (a .kind) (a .c) (now (a .t)) (now (a .h)) (start .pre) own _ (c .before .before .size .ensures) (c .before .if2 .left) (c .if3 .taken))
+    sym (laws.judge-cut (a .kind) (a .c) (now (a .t)) (now (a .h)) (start .pre) own _ (c .before .before .size .ensures)
+    (c .before .if2 .left) (c .if3 .taken))
 
 returns-4 : tie.Need-returns-4
 returns-4 c =
     let start = c .before .before .before .before .before .before .before in
     let a = start .args in
     let own = sym (c .before .before .before .before .fault .ensures) ∙ c .before .before .before .if1 .left in
-    sym (laws.judge-passed (a .kind) (a .c) (now (a .t)) (now (a .h)) (start .pre) own _ (c .before .before .size .ensures) (c .before .if2 .left) (c .if3 .left))
+    sym (laws.judge-passed (a .kind) (a .c) (now (a .t)) (now (a .h)) (start .pre) own _ (c .before .before .size .ensures)
+    (c .before .if2 .left) (c .if3 .left))
 
 pub judge-fixed-spec : {M : Type 1} → statement M
 judge-fixed-spec =

@@ -81,7 +81,8 @@ loop-again c =
     let loop = test .before .loop in
     let s = now (test .before .before .before .args .s) in
     rw (c .after .ensures)
-    (kept-next verdict s verdict (loop .inv) (step-handed (loop .c) s (laws.step-whole (loop .c) s (test .if1 .left) (found-whole (c .before)))) (λ r. refl))
+    (kept-next verdict s verdict (loop .inv) (step-handed (loop .c) s
+    (laws.step-whole (loop .c) s (test .if1 .left) (found-whole (c .before)))) (λ r. refl))
 
 enum-known-judgement-2 : tie.Need-enum-known-judgement-2 Inv-loop μ-loop
 enum-known-judgement-2 c = search needs
@@ -96,7 +97,8 @@ returns-2 c =
     let loop = test .before .loop in
     let s = now (test .before .before .before .args .s) in
     let due : judge (loop .c) (drop (loop .c .start) s) ≡ faulty (c .before .before .judgement2 .given .0 .0) =
-    ap (judge (loop .c)) (sym (lent-is (loop .c .start) s)) ∙ sym (judged .judge .ensures) ∙ ap toldJudgement (c .before .before .judgement2 .given .1) in
+    ap (judge (loop .c)) (sym (lent-is (loop .c .start) s)) ∙ sym (judged .judge .ensures) ∙ ap toldJudgement
+    (c .before .before .judgement2 .given .1) in
     c .refused .ensures ∙ kept-end verdict s (loop .c) (loop .inv) (laws.step-faulty (loop .c) s (test .if1 .left) due)
 
 pub check-from-spec : {M : Type 1} → statement M

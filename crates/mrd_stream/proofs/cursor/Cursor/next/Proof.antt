@@ -78,8 +78,11 @@ handed-requires c κs =
     let told = c .before .before in
     let test = told .before .before .before .before .before in
     let a = test .before .before .args in
-    let size = laws.whole-ends (a .self) (now (a .s)) (test .if1 .left) (found-whole told) in
-    (ap length (fixed-is c) ∙ laws.whole-long (a .self) (now (a .s)) (test .if1 .left) (found-whole told), laws.whole-counted (a .self) (now (a .s)) (test .if1 .left) (found-whole told), search needs)
+    let size = laws.whole-ends (a .self) (now (a .s)) (test .if1 .left) (found-whole told) in (
+      ap length (fixed-is c) ∙ laws.whole-long (a .self) (now (a .s)) (test .if1 .left) (found-whole told),
+      laws.whole-counted (a .self) (now (a .s)) (test .if1 .left) (found-whole told),
+      search needs,
+    )
 
 enum-known-judgement-2 : tie.Need-enum-known-judgement-2
 enum-known-judgement-2 c = search needs
@@ -103,7 +106,8 @@ returns-3 c =
     let test = judged .before .before in
     let a = test .before .before .args in
     let due : judge (a .self) (drop (a .self .start) (now (a .s))) ≡ faulty (told .before .judgement2 .given .0 .0) =
-    ap (judge (a .self)) (sym (lent-is (a .self .start) (now (a .s)))) ∙ sym (judged .judge .ensures) ∙ ap toldJudgement (told .before .judgement2 .given .1) in
+    ap (judge (a .self)) (sym (lent-is (a .self .start) (now (a .s)))) ∙ sym (judged .judge .ensures) ∙ ap toldJudgement
+    (told .before .judgement2 .given .1) in
     ap over (c .refused .ensures) ∙ sym (laws.step-faulty (a .self) (now (a .s)) (test .if1 .left) due)
 
 pub next-spec : {M : Type 1} → statement M

@@ -47,7 +47,8 @@ returns-6 : tie.Need-returns-6
 unfolding sameLengths
 returns-6 c =
     rw (
-      eq-eqb _ _ (c .before .before .before .before .before .before .before .before .before .before .before .before .before .before .before .if1 .left),
+      eq-eqb _ _
+          (c .before .before .before .before .before .before .before .before .before .before .before .before .before .before .before .if1 .left),
       eq-eqb _ _ (c .before .before .before .before .before .before .before .before .before .before .before .before .if2 .left),
       eq-eqb _ _ (c .before .before .before .before .before .before .before .before .before .if3 .left),
       eq-eqb _ _ (c .before .before .before .before .before .before .if4 .left),
@@ -59,7 +60,8 @@ returns-7 : tie.Need-returns-7
 unfolding sameLengths
 returns-7 c =
     rw (
-      eq-eqb _ _ (c .before .before .before .before .before .before .before .before .before .before .before .before .before .before .before .before .before .if1 .left),
+      eq-eqb _ _
+          (c .before .before .before .before .before .before .before .before .before .before .before .before .before .before .before .before .before .if1 .left),
       eq-eqb _ _ (c .before .before .before .before .before .before .before .before .before .before .before .before .before .before .if2 .left),
       eq-eqb _ _ (c .before .before .before .before .before .before .before .before .before .before .before .if3 .left),
       eq-eqb _ _ (c .before .before .before .before .before .before .before .before .if4 .left),

@@ -11,8 +11,9 @@ use Rattle.mrd_format.specs.declared.kind.Kind.{Kind}
 use Rattle.mrd_format.specs.declared.kind.Identified.{Identified}
 use Rattle.mrd_format.specs.declared.kind.Identified.the-variants.{Known, Unknown}
 use Rattle.mrd_format.specs.Kinds.{identified}
-use Rattle.mrd_format.specs.Checks.{first}
-use Rattle.mrd_format.specs.CheckLaws.{numbered, numbered-append, own-numbered, fault-not-zero}
+use Rattle.mrd_logic.specs.Checks.{first}
+use Rattle.mrd_logic.specs.CheckLaws.{numbered, numbered-append, fault-not-zero}
+use Rattle.mrd_format.specs.CheckLaws.{own-numbered}
 use Rattle.mrd_format.specs.Elements.{ElementType, u16, u32, u64, i32, f32, width}
 use Rattle.mrd_format.specs.Message.{idAt, fixedPart, ownChecks}
 use Rattle.mrd_stream.specs.declared.cursor.Cursor.{Cursor}

@@ -6,7 +6,7 @@ use mathlib.Core.Path.{_≡_, refl, sym, ap, _∙_, subst}
 use mathlib.Core.List.{List, [], _∷_, _++_, append-assoc}
 use lib.ListN.{length, length-append}
 use lib.Seq.{take-append-seam, drop-at}
-use Rattle.mrd_format.specs.Every.{Every}
+use Rattle.mrd_logic.specs.Every.{Every}
 use Rattle.mrd_format.specs.Message.{fixedPart, numbersOf, WellFormed}
 use Rattle.mrd_stream.specs.declared.cursor.Cursor.{Cursor}
 use Rattle.mrd_stream.specs.Walk.{Verdict, accepted, refused, Trace, trace, answer}

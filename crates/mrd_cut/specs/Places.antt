@@ -9,7 +9,7 @@ use Rattle.mrd_format.specs.Message.{WellFormed}
 use Rattle.mrd_stream.specs.declared.cursor.Cursor.{Cursor}
 use Rattle.mrd_stream.specs.Walk.{accepted, Trace, trace, answer}
 use Rattle.mrd_stream.specs.Places.{Located, located, places}
-use Rattle.mrd_format.specs.Every.{Every}
+use Rattle.mrd_logic.specs.Every.{Every}
 use Rattle.mrd_stream.specs.Cut.{joined, Cut}
 use Rattle.mrd_cut.specs.Unique.{cut-unique}
 use Rattle.mrd_cut.specs.Accepted.{accepted-cut}

@@ -14,8 +14,8 @@ use Rattle.mrd_stream.specs.declared.cursor.Cursor.{Cursor}
 use Rattle.mrd_stream.specs.Order.{isClosed}
 use Rattle.mrd_stream.specs.Walk.{messageLimit, checksAs, refused, endedAs, ended, trace, walk, verdict, answer}
 use Rattle.mrd_stream.specs.WalkLaws.{walk-end, walk-fault}
-use Rattle.mrd_format.specs.Every.{Every}
-use Rattle.mrd_format.specs.Checks.{FirstFault}
+use Rattle.mrd_logic.specs.Every.{Every}
+use Rattle.mrd_logic.specs.Checks.{FirstFault}
 use Rattle.mrd_stream.specs.Cut.{joined, kindsIn, close, Lacks, InOrder}
 use Rattle.mrd_cut.specs.Order.{open-iff-lacks-close}
 use Rattle.mrd_stream.specs.Judged.{faulty-judge}

@@ -7,7 +7,7 @@ use mathlib.Core.List.{List, [], _∷_, _++_, append-cancel-left}
 use lib.ListN.{length, length-append}
 use Rattle.mrd_format.specs.Message.{WellFormed}
 use Rattle.mrd_format.specs.MessageLaws.{well-least, prefix-free}
-use Rattle.mrd_format.specs.Every.{Every}
+use Rattle.mrd_logic.specs.Every.{Every}
 use Rattle.mrd_stream.specs.Cut.{joined, Cut}
 
 -- a well-formed message takes bytes

@@ -16,8 +16,8 @@ use Rattle.mrd_stream.specs.declared.cursor.Cursor.{Cursor}
 use Rattle.mrd_stream.specs.Order.{allowed}
 use Rattle.mrd_stream.specs.Walk.{messageLimit, checksAs, Judged, faulty, whole, judge, Verdict, accepted, refused, ended, after, beginning, Trace, message, done, walk, trace, verdict, answer}
 use Rattle.mrd_stream.specs.WalkLaws.{walk-end, walk-fault, walk-next}
-use Rattle.mrd_format.specs.Every.{Every}
-use Rattle.mrd_format.specs.Checks.{FirstFault}
+use Rattle.mrd_logic.specs.Every.{Every}
+use Rattle.mrd_logic.specs.Checks.{FirstFault}
 use Rattle.mrd_stream.specs.Cut.{joined, kindsIn, InOrder}
 use Rattle.mrd_cut.specs.Order.{phaseFrom, phaseAfter, AllowedFrom, in-order-iff}
 use Rattle.mrd_cut.specs.Unique.{not-empty}

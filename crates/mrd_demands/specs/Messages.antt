@@ -7,7 +7,7 @@ use lib.ListN.{length, length-append}
 use Rattle.mrd_numbers.specs.Little.{Bytes}
 use Rattle.mrd_numbers.specs.ByteLaws.{bytes-split}
 use Rattle.mrd_format.specs.declared.kind.Kind.{Kind}
-use Rattle.mrd_format.specs.Every.{Every}
+use Rattle.mrd_logic.specs.Every.{Every}
 use Rattle.mrd_format.specs.Message.{WellFormed}
 use Rattle.mrd_format.specs.Content.{Record, recordOf, normalOf}
 use Rattle.mrd_format.specs.NormalLaws.{well-normalised, normal-well}

@@ -5,7 +5,7 @@ use mathlib.Core.Path.{_≡_, refl, sym, ap, _∙_}
 use mathlib.Core.List.{List, _∷_, _++_, map}
 use lib.ListN.{length}
 use Rattle.mrd_numbers.specs.Little.{Bytes}
-use Rattle.mrd_format.specs.Every.{Every}
+use Rattle.mrd_logic.specs.Every.{Every}
 use Rattle.mrd_format.specs.Message.{WellFormed}
 use Rattle.mrd_format.specs.Content.{Record, recordOf, normalOf}
 use Rattle.mrd_stream.specs.declared.cursor.Cursor.{Cursor}

@@ -15,7 +15,7 @@ use Rattle.mrd_format.specs.declared.kind.Kind.the-variants.{ConfigurationName,
 use Rattle.mrd_format.specs.Kinds.{idOf}
 use Rattle.mrd_format.specs.IdLaws.{known-id}
 use Rattle.mrd_format.specs.Elements.{Run, values}
-use Rattle.mrd_format.specs.Checks.{first}
+use Rattle.mrd_logic.specs.Checks.{first}
 use Rattle.mrd_format.specs.Message.{idAt, fixedPart, nameLength, textLength, ownChecks, bodySize, sizeOf, WellFormed}
 use Rattle.mrd_format.specs.MessageLaws.{well-least}
 use Rattle.mrd_format.specs.Content.{Record, extentsFrom, partOf, extents, fieldsOf, recordOf, normalOf}

@@ -6,7 +6,7 @@ use mathlib.Core.List.{List, [], _∷_, map}
 use lib.Dec.{eqb, ltb}
 use lib.Count.{ones}
 use Rattle.mrd_format.specs.Elements.{Run, one, many, element, elements, u16, u32, u64, i32, f32}
-use Rattle.mrd_format.specs.Checks.{Check, _when_}
+use Rattle.mrd_logic.specs.Checks.{Check, _when_}
 
 pub data Field : Type 0 where
   version flags measurement-uid scan-counter acquisition-time-stamp physiology-time-stamp : Field

@@ -7,7 +7,7 @@ use lib.Dec.{eqb, ltb}
 use lib.ListN.{getD}
 use Rattle.mrd_numbers.specs.Little.{num}
 use Rattle.mrd_format.specs.Elements.{Run, one, many, element, u16, u32, u64, i32, f32}
-use Rattle.mrd_format.specs.Checks.{Check, _when_}
+use Rattle.mrd_logic.specs.Checks.{Check, _when_}
 
 pub data Field : Type 0 where
   version data-type flags measurement-uid matrix-size field-of-view channels : Field

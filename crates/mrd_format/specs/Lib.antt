@@ -1,7 +1,5 @@
-pub mod Every
 pub mod Kinds
 pub mod Elements
-pub mod Checks
 pub mod Acquisition
 pub mod Image
 pub mod Waveform

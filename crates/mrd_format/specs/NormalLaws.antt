@@ -13,8 +13,8 @@ use lib.Seq.{length-take-le, take-take, take-all, take-at, drop-at, take-add}
 use Rattle.bytes.specs.Bytes.{indexOf, indexAfter}
 use Rattle.mrd_format.specs.declared.kind.Kind.{Kind}
 use Rattle.mrd_format.specs.declared.kind.Kind.the-variants.{ConfigurationName, ConfigurationText, HeaderText, Close, Text, Acquisition, Image, Waveform}
-use Rattle.mrd_format.specs.Checks.{first}
-use Rattle.mrd_format.specs.CheckLaws.{first-passed}
+use Rattle.mrd_logic.specs.Checks.{first}
+use Rattle.mrd_logic.specs.CheckLaws.{first-passed}
 use Rattle.mrd_format.specs.Message.{idAt, fixedPart, nameLength, ownChecks, bodySize, sizeOf, WellFormed}
 use Rattle.mrd_format.specs.MessageLaws.{id-append}
 use Rattle.mrd_format.specs.Content.{extents, fieldsOf, recordOf, normalOf}

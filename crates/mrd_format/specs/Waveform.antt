@@ -5,7 +5,7 @@ use mathlib.Core.Bool.{not}
 use mathlib.Core.List.{List, [], _∷_, map}
 use lib.Dec.{eqb}
 use Rattle.mrd_format.specs.Elements.{Run, one, element, u16, u32, u64, f32}
-use Rattle.mrd_format.specs.Checks.{Check, _when_}
+use Rattle.mrd_logic.specs.Checks.{Check, _when_}
 
 pub data Field : Type 0 where
   version flags measurement-uid scan-counter time-stamp number-of-samples channels sample-time-us waveform-id : Field

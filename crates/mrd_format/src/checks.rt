@@ -3,7 +3,7 @@ ghost use mathlib.Core.Path.{_≡_};
 ghost use mathlib.Core.Bool.{not};
 ghost use mathlib.Core.List.{[], _∷_};
 ghost use lib.Dec.{eqb};
-ghost use Rattle.mrd_format.specs.Checks.{_when_, first};
+ghost use Rattle.mrd_logic.specs.Checks.{_when_, first};
 use crate::refusal;
 
 // The number of the first check that refuses, or 0: 4 where the version is not 1, then the second and the

@@ -3,7 +3,7 @@
 ghost use mathlib.Core.Path.{_≡_};
 ghost use Prim.Native.Nat.{_<_, _≤_, _^_};
 ghost use lib.ListN.{length};
-ghost use Rattle.mrd_format.specs.Checks.{first};
+ghost use Rattle.mrd_logic.specs.Checks.{first};
 ghost use Rattle.mrd_format.specs.Image.{checks, typeUnknown, lengthsDiffer, attributeLength, elementSize, pixelCount, bodySize, numbers};
 ghost use Rattle.mrd_format.specs.Sizes.{capped};
 ghost use Rattle.mrd_format.specs.Shapes.{imageNumbers};

@@ -4,7 +4,7 @@ ghost use mathlib.Core.Path.{_≡_};
 ghost use Prim.Native.Nat.{_<_, _≤_, _^_};
 ghost use lib.ListN.{length};
 ghost use Rattle.mrd_format.specs.Kinds.{fixedSize};
-ghost use Rattle.mrd_format.specs.Checks.{first};
+ghost use Rattle.mrd_logic.specs.Checks.{first};
 ghost use Rattle.mrd_format.specs.Message.{ownChecks, bodySize, sizeOf, numbersOf, nameLength, textLength};
 ghost use Rattle.mrd_format.specs.Sizes.{capped};
 ghost use Rattle.mrd_format.specs.Shapes.{kindOf, toldNumbers};

@@ -3,7 +3,7 @@
 ghost use mathlib.Core.Path.{_≡_};
 ghost use Prim.Native.Nat.{_<_, _^_};
 ghost use lib.ListN.{length};
-ghost use Rattle.mrd_format.specs.Checks.{first};
+ghost use Rattle.mrd_logic.specs.Checks.{first};
 ghost use Rattle.mrd_format.specs.Waveform.{checks, bodySize, numbers};
 ghost use Rattle.mrd_format.specs.Shapes.{waveformNumbers};
 use crate::refusal;

@@ -12,7 +12,7 @@ use Rattle.mrd_format.specs.declared.kind.Kind
 use Rattle.mrd_format.specs.declared.shape.Shape.{Shape}
 use Rattle.mrd_format.specs.declared.shape.Shape.the-variants.{ConfigurationName, ConfigurationText, HeaderText, Close, Text, Acquisition, Image, Waveform}
 use Rattle.mrd_format.specs.Shapes.{kindOf, toldNumbers}
-use Rattle.mrd_format.specs.Checks.{first}
+use Rattle.mrd_logic.specs.Checks.{first}
 use Rattle.mrd_format.specs.Message.{fixedPart, nameLength, ownChecks, bodySize, sizeOf, numbersOf}
 use Rattle.mrd_format.specs.Content.{normalOf}
 use Rattle.mrd_format.specs.NormalLaws.{nameBytes, name-short}

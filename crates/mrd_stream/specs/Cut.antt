@@ -6,7 +6,7 @@ use mathlib.Core.Path.{_≡_}
 use mathlib.Core.List.{List, [], _∷_, _++_}
 use Rattle.mrd_format.specs.declared.kind.Kind.{Kind}
 use Rattle.mrd_format.specs.declared.kind.Kind.the-variants.{ConfigurationName, ConfigurationText, HeaderText, Close, Text, Acquisition, Image, Waveform}
-use Rattle.mrd_format.specs.Every.{Every}
+use Rattle.mrd_logic.specs.Every.{Every}
 use Rattle.mrd_format.specs.Message.{WellFormed}
 
 -- pieces, one after the other

@@ -15,7 +15,7 @@ use Rattle.mrd_format.specs.Content.{counterOf}
 use Rattle.mrd_format.specs.Flags.{flagSet, withBit, bit}
 use Rattle.mrd_format.specs.Counters.{counterStep, signed}
 use Rattle.mrd_stream.specs.Walk.{Verdict, accepted, refused, answer, trace, walk, judge, judgeAs, checksAs, earlyChecks, lateChecks, ended}
-use Rattle.mrd_format.specs.Every.{Every}
+use Rattle.mrd_logic.specs.Every.{Every}
 use Rattle.mrd_stream.specs.Index.{index, entries}
 
 -- a stream and its answer; a stream and its index; a fixed part and its message's size; a flag alone and the flags' value; two scan counters

@@ -13,8 +13,9 @@ use lib.Seq.{length-take-le}
 use Rattle.mrd_format.specs.declared.kind.Kind.{Kind}
 use Rattle.mrd_format.specs.declared.kind.Identified.the-variants.{Known, Unknown}
 use Rattle.mrd_format.specs.Kinds.{fixedSize, identified}
-use Rattle.mrd_format.specs.Checks.{Check, _when_, first}
-use Rattle.mrd_format.specs.CheckLaws.{first-skip, first-passed, first-stops, own-numbered}
+use Rattle.mrd_logic.specs.Checks.{Check, _when_, first}
+use Rattle.mrd_logic.specs.CheckLaws.{first-skip, first-passed, first-stops}
+use Rattle.mrd_format.specs.CheckLaws.{own-numbered}
 use Rattle.mrd_format.specs.Message.{limit, idAt, fixedPart, ownChecks, sizeOf, numbersOf}
 use Rattle.mrd_format.specs.MessageLaws.{size-least, fixed-take}
 use Rattle.mrd_format.specs.Sizes.{capped}

@@ -14,15 +14,16 @@ use Rattle.mrd_format.specs.declared.kind.Kind.{Kind}
 use Rattle.mrd_format.specs.declared.kind.Identified.{Identified}
 use Rattle.mrd_format.specs.declared.kind.Identified.the-variants.{Known, Unknown}
 use Rattle.mrd_format.specs.Kinds.{fixedSize, identified}
-use Rattle.mrd_format.specs.Checks.{Check, _when_, first, Passed, FirstFault}
+use Rattle.mrd_logic.specs.Checks.{Check, _when_, first, Passed, FirstFault}
 use Rattle.mrd_format.specs.Message.{limit, idAt, fixedPart, ownChecks, sizeOf, WellFormed}
 use Rattle.mrd_format.specs.MessageLaws.{size-least, id-take, fixed-take, well-known, well-fixed, well-size}
 use Rattle.mrd_stream.specs.declared.cursor.Cursor.{Cursor}
 use Rattle.mrd_stream.specs.Order.{allowed}
 use Rattle.mrd_stream.specs.Walk.{messageLimit, earlyChecks, sizeChecks, lateChecks, checksAs, faulty, whole, unless, judgeAs, judge}
-use Rattle.mrd_format.specs.Every.{Every}
+use Rattle.mrd_logic.specs.Every.{Every}
 use Rattle.mrd_stream.specs.OrderLaws.{allowed-open}
-use Rattle.mrd_format.specs.CheckLaws.{own-numbered, numbered, first-passed, passed-first, first-fault, fault-first, numbered-append, every-split, every-append, fault-not-zero}
+use Rattle.mrd_logic.specs.CheckLaws.{numbered, first-passed, passed-first, first-fault, fault-first, numbered-append, every-split, every-append, fault-not-zero}
+use Rattle.mrd_format.specs.CheckLaws.{own-numbered}
 
 -- the message at the front of t, of kind k and size z, passes every check where the walk stands at c
 pub record WholeAt (c : Cursor) (t : List ℕ) (k : Kind) (z : ℕ) : Type 0 where

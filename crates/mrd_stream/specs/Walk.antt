@@ -9,7 +9,7 @@ use Rattle.mrd_format.specs.declared.kind.Kind.{Kind}
 use Rattle.mrd_format.specs.declared.kind.Identified.{Identified}
 use Rattle.mrd_format.specs.declared.kind.Identified.the-variants.{Known, Unknown}
 use Rattle.mrd_format.specs.Kinds.{fixedSize, identified}
-use Rattle.mrd_format.specs.Checks.{Check, _when_, first}
+use Rattle.mrd_logic.specs.Checks.{Check, _when_, first}
 use Rattle.mrd_format.specs.Message.{limit, idAt, fixedPart, ownChecks, sizeOf}
 use Rattle.mrd_stream.specs.declared.cursor.Phase.{Phase}
 use Rattle.mrd_stream.specs.declared.cursor.Phase.the-variants.{Start}

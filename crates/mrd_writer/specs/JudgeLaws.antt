@@ -11,8 +11,9 @@ use borrow.Author.Tests.{lt-ltb, le-ltb, eq-eqb, ne-eqb}
 use Rattle.bytes.specs.Bytes.{indexOf}
 use Rattle.mrd_format.specs.declared.kind.Kind.{Kind}
 use Rattle.mrd_format.specs.declared.kind.Kind.the-variants.{ConfigurationName, Text, Close}
-use Rattle.mrd_format.specs.Checks.{Check, _when_, first}
-use Rattle.mrd_format.specs.CheckLaws.{first-skip, first-passed, first-stops, own-numbered, numbered-append}
+use Rattle.mrd_logic.specs.Checks.{Check, _when_, first}
+use Rattle.mrd_logic.specs.CheckLaws.{first-skip, first-passed, first-stops, numbered-append}
+use Rattle.mrd_format.specs.CheckLaws.{own-numbered}
 use Rattle.mrd_format.specs.Sizes.{capped}
 use Rattle.mrd_format.specs.Message as message
 use Rattle.mrd_format.specs.Message.{limit}

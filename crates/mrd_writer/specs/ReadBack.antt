@@ -11,8 +11,8 @@ use Rattle.mrd_format.specs.declared.kind.Kind.{Kind}
 use Rattle.mrd_format.specs.declared.kind.Identified.{Identified}
 use Rattle.mrd_format.specs.declared.kind.Identified.the-variants.{Known, Unknown}
 use Rattle.mrd_format.specs.Kinds.{identified}
-use Rattle.mrd_format.specs.Checks.{_when_, first}
-use Rattle.mrd_format.specs.CheckLaws.{first-passed, passed-first, numbered-append, every-split}
+use Rattle.mrd_logic.specs.Checks.{_when_, first}
+use Rattle.mrd_logic.specs.CheckLaws.{first-passed, passed-first, numbered-append, every-split}
 use Rattle.mrd_stream.specs.declared.cursor.Cursor.{Cursor}
 use Rattle.mrd_stream.specs.Order.{allowed}
 use Rattle.mrd_stream.specs.Walk.{messageLimit, message, walk, after}

@@ -10,7 +10,7 @@ use Rattle.bytes.specs.Bytes.{indexOf}
 use Rattle.mrd_format.specs.declared.kind.Kind.{Kind}
 use Rattle.mrd_format.specs.declared.kind.Kind.the-variants.{ConfigurationName, ConfigurationText, HeaderText, Close, Text, Acquisition, Image, Waveform}
 use Rattle.mrd_format.specs.Kinds.{fixedSize}
-use Rattle.mrd_format.specs.Checks.{Check, _when_, first}
+use Rattle.mrd_logic.specs.Checks.{Check, _when_, first}
 use Rattle.mrd_format.specs.Message.{limit}
 use Rattle.mrd_format.specs.Acquisition as acquisition
 use Rattle.mrd_format.specs.Image as image

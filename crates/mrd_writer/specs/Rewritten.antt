@@ -18,9 +18,10 @@ use Rattle.mrd_format.specs.declared.kind.Kind.the-variants.{ConfigurationName,
 use Rattle.mrd_format.specs.declared.kind.Identified.the-variants.{Known}
 use Rattle.mrd_format.specs.Kinds.{idOf, fixedSize, identified}
 use Rattle.mrd_format.specs.IdLaws.{known-id}
-use Rattle.mrd_format.specs.Every.{Every}
-use Rattle.mrd_format.specs.Checks.{first, Passed}
-use Rattle.mrd_format.specs.CheckLaws.{first-passed, own-numbered}
+use Rattle.mrd_logic.specs.Every.{Every}
+use Rattle.mrd_logic.specs.Checks.{first, Passed}
+use Rattle.mrd_logic.specs.CheckLaws.{first-passed}
+use Rattle.mrd_format.specs.CheckLaws.{own-numbered}
 use Rattle.mrd_format.specs.Message as message
 use Rattle.mrd_format.specs.Message.{limit, idAt, fixedPart, nameLength, textLength, WellFormed}
 use Rattle.mrd_format.specs.Content.{extent, partOf, normalOf}

@@ -12,9 +12,9 @@ use Rattle.mrd_numbers.specs.WriteLaws.{length-toBytes}
 use Rattle.mrd_format.specs.declared.kind.Kind.{Kind}
 use Rattle.mrd_format.specs.declared.kind.Kind.the-variants.{ConfigurationName, ConfigurationText, HeaderText, Close, Text, Acquisition, Image, Waveform}
 use Rattle.mrd_format.specs.Kinds.{fixedSize}
-use Rattle.mrd_format.specs.Every.{Every}
-use Rattle.mrd_format.specs.Checks.{first, Passed}
-use Rattle.mrd_format.specs.CheckLaws.{numbered, numbered-append, first-passed, every-split}
+use Rattle.mrd_logic.specs.Every.{Every}
+use Rattle.mrd_logic.specs.Checks.{first, Passed}
+use Rattle.mrd_logic.specs.CheckLaws.{numbered, numbered-append, first-passed, every-split}
 use Rattle.mrd_format.specs.Message.{limit}
 use Rattle.mrd_format.specs.Acquisition as acquisition
 use Rattle.mrd_format.specs.Waveform as waveform

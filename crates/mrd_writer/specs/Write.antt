@@ -10,7 +10,7 @@ use Rattle.mrd_format.specs.declared.kind.Kind.{Kind}
 use Rattle.mrd_format.specs.declared.kind.Identified.{Identified}
 use Rattle.mrd_format.specs.declared.kind.Identified.the-variants.{Known, Unknown}
 use Rattle.mrd_format.specs.Kinds.{identified}
-use Rattle.mrd_format.specs.Checks.{Check, _when_, first}
+use Rattle.mrd_logic.specs.Checks.{Check, _when_, first}
 use Rattle.mrd_writer.specs.declared.answer.Written.{Written}
 use Rattle.mrd_writer.specs.declared.answer.Written
 use Rattle.mrd_writer.specs.Lent.{Lent, lengthsOf, messageOf}

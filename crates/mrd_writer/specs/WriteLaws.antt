@@ -12,8 +12,8 @@ use Rattle.mrd_numbers.specs.Stored.{stored, front, lentFrom, returned, stored-
 use Rattle.mrd_format.specs.declared.kind.Kind.{Kind}
 use Rattle.mrd_format.specs.declared.kind.Identified.the-variants.{Known, Unknown}
 use Rattle.mrd_format.specs.Kinds.{idOf, identified}
-use Rattle.mrd_format.specs.Checks.{Check, _when_, first}
-use Rattle.mrd_format.specs.CheckLaws.{first-skip, first-passed, first-stops}
+use Rattle.mrd_logic.specs.Checks.{Check, _when_, first}
+use Rattle.mrd_logic.specs.CheckLaws.{first-skip, first-passed, first-stops}
 use Rattle.mrd_writer.specs.Lent.{Lent, lengthsOf, contentOf, messageOf}
 use Rattle.mrd_writer.specs.Refusals.{sizeOf, lentChecks, Answer, done, refused, unless, judged}
 use Rattle.mrd_writer.specs.JudgeLaws.{done-not-refused}

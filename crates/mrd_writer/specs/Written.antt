@@ -17,8 +17,8 @@ use Rattle.mrd_format.specs.declared.kind.Kind.{Kind}
 use Rattle.mrd_format.specs.declared.kind.Kind.the-variants.{ConfigurationName, ConfigurationText, HeaderText, Close, Text, Acquisition, Image, Waveform}
 use Rattle.mrd_format.specs.declared.kind.Identified.the-variants.{Known}
 use Rattle.mrd_format.specs.Kinds.{fixedSize, identified}
-use Rattle.mrd_format.specs.Checks.{first}
-use Rattle.mrd_format.specs.CheckLaws.{passed-first}
+use Rattle.mrd_logic.specs.Checks.{first}
+use Rattle.mrd_logic.specs.CheckLaws.{passed-first}
 use Rattle.mrd_format.specs.Message as message
 use Rattle.mrd_format.specs.Acquisition as acquisition
 use Rattle.mrd_format.specs.Waveform as waveform

@@ -1,0 +1,5 @@
+pub mod Every
+pub mod Choice
+pub mod Checks
+pub mod CheckLaws
+pub mod Answer

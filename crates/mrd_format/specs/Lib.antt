@@ -17,6 +17,8 @@ pub mod Shapes
 pub mod Content
 pub mod PieceLaws
 pub mod NormalLaws
+pub mod HeaderLaws
+pub mod Rewritten
 pub mod IdLaws
 pub mod Flags
 pub mod Counters

@@ -16,6 +16,7 @@ pub mod SizeLaws
 pub mod Shapes
 pub mod Content
 pub mod PieceLaws
+pub mod ReachLaws
 pub mod NormalLaws
 pub mod HeaderLaws
 pub mod Rewritten

@@ -14,8 +14,6 @@ pub mod Shapes
 pub mod Content
 pub mod NormalLaws
 pub mod IdLaws
-pub mod Flags
-pub mod Counters
 pub mod HeaderSize
 pub mod Identity
 pub mod IdentityLaws

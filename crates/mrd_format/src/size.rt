@@ -10,7 +10,11 @@ pub const MAX_MESSAGE_SIZE: u64 = 268435456;
 pub fn cap(n: u64) -> u64
     ensures { λ r. ⌜ r ≡ capped n ⌝ }
 {
-    if MAX_MESSAGE_SIZE < n { MAX_MESSAGE_SIZE + 1 } else { n }
+    if MAX_MESSAGE_SIZE < n {
+        MAX_MESSAGE_SIZE + 1
+    } else {
+        n
+    }
 }
 
 // The whole product of two numbers of a header.

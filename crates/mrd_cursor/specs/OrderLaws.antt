@@ -4,9 +4,9 @@ use mathlib.Core.Path.{_≡_, refl, sym, _∙_}
 use mathlib.Core.Bool.{true, false}
 use Rattle.mrd_format.specs.declared.kind.Kind.{Kind}
 use Rattle.mrd_format.specs.declared.kind.Kind.the-variants.{ConfigurationName, ConfigurationText, HeaderText, Close, Text, Acquisition, Image, Waveform}
-use Rattle.mrd_stream.specs.declared.cursor.Phase.{Phase}
-use Rattle.mrd_stream.specs.declared.cursor.Phase.the-variants.{Start, Configured, Headed, Closed}
-use Rattle.mrd_stream.specs.Order.{allowed, isClosed}
+use Rattle.mrd_cursor.specs.declared.cursor.Phase.{Phase}
+use Rattle.mrd_cursor.specs.declared.cursor.Phase.the-variants.{Start, Configured, Headed, Closed}
+use Rattle.mrd_cursor.specs.Order.{allowed, isClosed}
 
 -- nothing is allowed after a close
 closed-allows-none : (k : Kind) → allowed k Closed ≡ false

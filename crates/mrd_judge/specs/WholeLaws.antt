@@ -1,4 +1,4 @@
--- What the walk finds where it stands, said of the bytes there: a whole message passes every check, which is to be well formed, in order and
+-- What judging finds, said of the bytes: a whole message passes every check, which is to be well formed, in order and
 -- within the count; a refusal's number is that of the first check that refuses.
 -- Assumes nothing.
 use Prim.Native.Nat.{ℕ, zero, suc, _+_, _≤_, _<_}
@@ -17,17 +17,19 @@ use Rattle.mrd_format.specs.Kinds.{fixedSize, identified}
 use Rattle.mrd_logic.specs.Checks.{Check, _when_, first, Passed, FirstFault}
 use Rattle.mrd_format.specs.Message.{limit, idAt, fixedPart, ownChecks, sizeOf, WellFormed}
 use Rattle.mrd_format.specs.MessageLaws.{size-least, id-take, fixed-take, well-known, well-fixed, well-size}
-use Rattle.mrd_stream.specs.declared.cursor.Cursor.{Cursor}
-use Rattle.mrd_stream.specs.Order.{allowed}
-use Rattle.mrd_stream.specs.Walk.{messageLimit, earlyChecks, sizeChecks, lateChecks, checksAs, faulty, whole, unless, judgeAs, judge}
+use Rattle.mrd_cursor.specs.declared.cursor.Cursor.{Cursor}
+use Rattle.mrd_cursor.specs.Order.{allowed}
+use Rattle.mrd_cursor.specs.Cursors.{maxMessages}
+use Rattle.mrd_judge.specs.Stages.{frontChecks, idChecks, fixedChecks, sizeChecks, checksAs}
+use Rattle.mrd_judge.specs.Judge.{faulty, whole, unless, judgeAs, judge}
 use Rattle.mrd_logic.specs.Every.{Every}
-use Rattle.mrd_stream.specs.OrderLaws.{allowed-open}
+use Rattle.mrd_cursor.specs.OrderLaws.{allowed-open}
 use Rattle.mrd_logic.specs.CheckLaws.{numbered, first-passed, passed-first, first-fault, fault-first, numbered-append, every-split, every-append, fault-not-zero}
 use Rattle.mrd_format.specs.CheckLaws.{own-numbered}
 
--- the message at the front of t, of kind k and size z, passes every check where the walk stands at c
+-- the message at the front of t, of kind k and size z, passes every check where the walk is at c
 pub record WholeAt (c : Cursor) (t : List ℕ) (k : Kind) (z : ℕ) : Type 0 where
-  pub counted : c .number < messageLimit
+  pub counted : c .number < maxMessages
   pub known : identified (idAt t) ≡ Known k
   pub ordered : allowed k (c .phase) ≡ true
   pub sound : first (ownChecks k (fixedPart k t)) ≡ 0
@@ -35,20 +37,23 @@ pub record WholeAt (c : Cursor) (t : List ℕ) (k : Kind) (z : ℕ) : Type 0 whe
   pub small : z ≤ limit
   pub fits : z ≤ length t
 
+-- no check has the number 0
+pub all-numbered : (i : Identified) (c : Cursor) (t : List ℕ) → numbered (checksAs i c t) ≡ true
+unfolding checksAs frontChecks idChecks fixedChecks sizeChecks
+all-numbered Unknown c t = refl
+all-numbered (Known k) c t =
+    numbered-append (ownChecks k (fixedPart k t)) (sizeChecks (sizeOf k (fixedPart k t)) t) (own-numbered k (fixedPart k t)) refl
+
 -- every check of a message of kind k passed exactly when the facts of WholeAt hold
 module _ (c : Cursor) (t : List ℕ) (k : Kind) where
-  numbered-known : numbered (checksAs (Known k) c t) ≡ true
-  unfolding checksAs earlyChecks lateChecks
-  numbered-known = numbered-append (ownChecks k (fixedPart k t)) (sizeChecks k t) (own-numbered k (fixedPart k t)) refl
-
   passed-facts : identified (idAt t) ≡ Known k → Every Passed (checksAs (Known k) c t) → WholeAt c t k (sizeOf k (fixedPart k t))
-  unfolding checksAs earlyChecks lateChecks
+  unfolding checksAs frontChecks idChecks fixedChecks sizeChecks
   passed-facts e p =
       let own = ownChecks k (fixedPart k t) in
       let z = sizeOf k (fixedPart k t) in
-      let late = every-split own (sizeChecks k t) (p .1 .1 .1 .1 .1) in
+      let late = every-split own (sizeChecks z t) (p .1 .1 .1 .1 .1) in
       record {
-        counted = leb-false messageLimit (c .number) (p .1 .0);
+        counted = leb-false maxMessages (c .number) (p .1 .0);
         known = e;
         ordered = not-false (allowed k (c .phase)) (p .1 .1 .1 .0);
         sound = passed-first own (late .0);
@@ -58,20 +63,20 @@ module _ (c : Cursor) (t : List ℕ) (k : Kind) where
       }
 
   facts-passed : {z : ℕ} → WholeAt c t k z → Every Passed (checksAs (Known k) c t)
-  unfolding checksAs earlyChecks lateChecks
+  unfolding checksAs frontChecks idChecks fixedChecks sizeChecks
   facts-passed {z} w =
       let own = ownChecks k (fixedPart k t) in
       let least : 2 + fixedSize k ≤ length t = omega (arith, size-least k (fixedPart k t)) in
       let small : sizeOf k (fixedPart k t) ≤ limit = rw (w .size) (w .small) in
       let fits : sizeOf k (fixedPart k t) ≤ length t = rw (w .size) (w .fits) in
       let passed : Every Passed own = first-passed own (own-numbered k (fixedPart k t)) (w .sound) in
-      let late = every-append own (sizeChecks k t) passed (le-ltb _ _ small, (le-ltb _ _ fits, tt)) in
+      let late = every-append own (sizeChecks (sizeOf k (fixedPart k t)) t) passed (le-ltb _ _ small, (le-ltb _ _ fits, tt)) in
       let two : eqb (length t) 1 ≡ false = ne-eqb (length t) 1 (λ e. omega arith) in
       (allowed-open k (c .phase) (w .ordered), (lt-leb _ _ (w .counted), (two, (ap not (w .ordered), (le-ltb _ _ least, late)))))
 
 -- an id that no kind has is always refused
 unknown-refused : (c : Cursor) (t : List ℕ) → first (checksAs Unknown c t) ≡ 0 → ⊥
-unfolding checksAs earlyChecks
+unfolding checksAs frontChecks idChecks
 unknown-refused c t e = true≢false (first-passed (checksAs Unknown c t) refl e .1 .1 .1 .0)
 
 -- a judgement is one or the other
@@ -96,7 +101,7 @@ judge-whole c t {k} {z} e = by-id (identified (idAt t)) refl e
     by-id Unknown n e = absurd (not-both e)
     by-id (Known j) n e =
         let u = unless-whole (first (checksAs (Known j) c t)) j (sizeOf j (fixedPart j t)) e in
-        rw (← u .1, ← u .2) (passed-facts c t j n (first-passed (checksAs (Known j) c t) (numbered-known c t j) (u .0)))
+        rw (← u .1, ← u .2) (passed-facts c t j n (first-passed (checksAs (Known j) c t) (all-numbered (Known j) c t) (u .0)))
 
 -- what passes every check is judged whole
 pub whole-judge : (c : Cursor) (t : List ℕ) {k : Kind} {z : ℕ} → WholeAt c t k z → judge c t ≡ whole k z
@@ -128,7 +133,7 @@ faulty-judge c t {f} r = by-id (identified (idAt t)) r
     by-id : (i : Identified) → FirstFault f (checksAs i c t) → judgeAs i c t ≡ faulty f
     by-id Unknown r = ap faulty (fault-first (checksAs Unknown c t) r)
     by-id (Known k) r =
-        let n = fault-not-zero (checksAs (Known k) c t) (numbered-known c t k) r in
+        let n = fault-not-zero (checksAs (Known k) c t) (all-numbered (Known k) c t) r in
         rw (fault-first (checksAs (Known k) c t) r) (unless-fault f k (sizeOf k (fixedPart k t)) n)
 
 -- the bytes of a whole message are a well-formed message
@@ -146,7 +151,7 @@ wellFormed c t {k} {z} w =
     }
 
 -- a well-formed message that the order and the count allow is whole, whatever follows it
-pub well-whole : (c : Cursor) (m rest : List ℕ) (w : WellFormed m) → allowed (w .kind) (c .phase) ≡ true → c .number < messageLimit →
+pub well-whole : (c : Cursor) (m rest : List ℕ) (w : WellFormed m) → allowed (w .kind) (c .phase) ≡ true → c .number < maxMessages →
     WholeAt c (m ++ rest) (w .kind) (length m)
 well-whole c m rest w a n =
     record {
@@ -160,6 +165,6 @@ well-whole c m rest w a n =
     }
 
 -- so it is judged whole, with its kind and length
-pub well-judge : (c : Cursor) (m rest : List ℕ) (w : WellFormed m) → allowed (w .kind) (c .phase) ≡ true → c .number < messageLimit →
+pub well-judge : (c : Cursor) (m rest : List ℕ) (w : WellFormed m) → allowed (w .kind) (c .phase) ≡ true → c .number < maxMessages →
     judge c (m ++ rest) ≡ whole (w .kind) (length m)
 well-judge c m rest w a n = whole-judge c (m ++ rest) (well-whole c m rest w a n)

@@ -1,13 +1,9 @@
-// Where a walk over a stream stands, and the order of messages.
+// How far the order of messages has come, and where a walk over a stream is.
 ghost use mathlib.Core.Path.{_≡_};
 ghost use Prim.Native.Nat.{_+_, _<_, _^_};
-ghost use Rattle.mrd_stream.specs.Order.{isStart, isBeforeHeader, isHeaded, isOpen, isClosed, allowed, nextPhase};
-ghost use Rattle.mrd_stream.specs.Walk.{messageLimit, refused, ended, after, beginning};
-ghost use Rattle.mrd_stream.specs.Told.{toldChecked};
-use crate::answer::Checked;
-use crate::answer::Refusal;
+ghost use Rattle.mrd_cursor.specs.Order.{isStart, isBeforeHeader, isHeaded, isOpen, isClosed, allowed, nextPhase};
+ghost use Rattle.mrd_cursor.specs.Cursors.{maxMessages, after, beginning};
 use mrd_format::Kind;
-use mrd_format::refusal;
 
 // How far the order of messages has come.
 pub enum Phase {
@@ -21,9 +17,8 @@ pub enum Phase {
     Closed,
 }
 
-// Where a walk stands: the number of the message that is due, the phase, and the message's first byte. The
-// phase stands in the middle so that a loop reads a handed-out cursor back as it was stored, field by field,
-// which is faster.
+// Where a walk is: the number of the message that is due, the phase, and the message's first byte. The phase
+// comes second so that a loop reads a yielded cursor back as it was stored, field by field, which is faster.
 pub struct Cursor {
     pub number: usize,
     pub phase: Phase,
@@ -75,7 +70,7 @@ impl Phase {
         }
     }
 
-    pub(crate) fn is_closed(self) -> bool
+    pub fn is_closed(self) -> bool
         ensures { λ r. ⌜ r ≡ isClosed self ⌝ }
     {
         match self {
@@ -87,7 +82,7 @@ impl Phase {
     }
 
     // Whether the order allows a message of this kind now.
-    pub(crate) fn allows(self, kind: Kind) -> bool
+    pub fn allows(self, kind: Kind) -> bool
         ensures { λ r. ⌜ r ≡ allowed kind self ⌝ }
     {
         match kind {
@@ -131,9 +126,9 @@ impl Cursor {
         }
     }
 
-    // Where the walk stands after a message of this kind and size.
-    pub(crate) fn after(self, kind: Kind, size: usize) -> Cursor
-        requires { ⌜ (self .number < messageLimit) × (self .start + size < 2 ^ 64) ⌝ }
+    // Where the walk is after a message of this kind and size.
+    pub fn after(self, kind: Kind, size: usize) -> Cursor
+        requires { ⌜ (self .number < maxMessages) × (self .start + size < 2 ^ 64) ⌝ }
         ensures { λ r. ⌜ r ≡ after self kind size ⌝ }
     {
         let phase = self.phase;
@@ -142,31 +137,5 @@ impl Cursor {
             start: self.start + size,
             phase: phase.next(kind),
         }
-    }
-
-    // The answer where no bytes are left.
-    pub(crate) fn ended(self) -> Checked
-        ensures { λ r. ⌜ toldChecked r ≡ ended self ⌝ }
-    {
-        let phase = self.phase;
-        if phase.is_closed() {
-            return Checked::Accepted(self.number);
-        }
-        Checked::Refused(Refusal {
-            number: refusal::NO_CLOSE,
-            record: self.number,
-            byte: self.start,
-        })
-    }
-
-    // The answer where the message that is due is refused with this number.
-    pub(crate) fn refused(self, number: u8) -> Checked
-        ensures { λ r. ⌜ toldChecked r ≡ refused number (self .number) (self .start) ⌝ }
-    {
-        Checked::Refused(Refusal {
-            number: number,
-            record: self.number,
-            byte: self.start,
-        })
     }
 }

@@ -1,8 +1,8 @@
--- `mrd_stream::Cursor::after` meets its contract: each field is the definition's.
+-- `mrd_cursor::Cursor::after` meets its contract: each field is the definition's.
 -- Assumes nothing.
 use borrow.Author.Needs.{needs}
-use Rattle.mrd_stream.proofs.cursor.Cursor.after.Statement.{statement}
-use Rattle.mrd_stream.proofs.cursor.Cursor.after.Tie as tie
+use Rattle.mrd_cursor.proofs.cursor.Cursor.after.Statement.{statement}
+use Rattle.mrd_cursor.proofs.cursor.Cursor.after.Tie as tie
 
 add-t5 : tie.Need-add-t5
 add-t5 c = search needs

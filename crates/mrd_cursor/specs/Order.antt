@@ -3,8 +3,8 @@
 use mathlib.Core.Bool.{Bool, true, false}
 use Rattle.mrd_format.specs.declared.kind.Kind.{Kind}
 use Rattle.mrd_format.specs.declared.kind.Kind.the-variants.{ConfigurationName, ConfigurationText, HeaderText, Close, Text, Acquisition, Image, Waveform}
-use Rattle.mrd_stream.specs.declared.cursor.Phase.{Phase}
-use Rattle.mrd_stream.specs.declared.cursor.Phase.the-variants.{Start, Configured, Headed, Closed}
+use Rattle.mrd_cursor.specs.declared.cursor.Phase.{Phase}
+use Rattle.mrd_cursor.specs.declared.cursor.Phase.the-variants.{Start, Configured, Headed, Closed}
 
 -- no configuration, header, data or close yet
 abbrev pub isStart : Phase → Bool

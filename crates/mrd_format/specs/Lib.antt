@@ -1,5 +1,8 @@
-pub mod Kinds
 pub mod Elements
+pub mod Parts
+pub mod Segments
+pub mod Texts
+pub mod Kinds
 pub mod Acquisition
 pub mod Image
 pub mod Waveform
@@ -12,6 +15,7 @@ pub mod Sizes
 pub mod SizeLaws
 pub mod Shapes
 pub mod Content
+pub mod PieceLaws
 pub mod NormalLaws
 pub mod IdLaws
 pub mod Flags

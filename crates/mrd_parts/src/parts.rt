@@ -2,7 +2,9 @@
 ghost use mathlib.Core.Path.{_≡_};
 ghost use lib.ListN.{length};
 ghost use Rattle.mrd_format.specs.Kinds.{fixedSize};
-ghost use Rattle.mrd_parts.specs.Parts.{extentOf, toldSought, reached, Sized};
+ghost use Rattle.mrd_format.specs.Parts.{lies, extent};
+ghost use Rattle.mrd_format.specs.Content.{extentOf};
+ghost use Rattle.mrd_parts.specs.Sought.{partMeaning, soughtMeaning, Sized};
 use mrd_format::Kind;
 use mrd_format::acquisition;
 use mrd_format::image;
@@ -35,7 +37,7 @@ pub enum Sought {
 const ID_SIZE: usize = 2;
 
 fn lies(offset: usize, size: usize) -> Sought
-    ensures { λ r. ⌜ toldSought r ≡ reached offset size ⌝ }
+    ensures { λ r. ⌜ soughtMeaning r ≡ lies (extent offset size) ⌝ }
 {
     Sought::Lies(Extent {
         offset: offset,
@@ -46,7 +48,7 @@ fn lies(offset: usize, size: usize) -> Sought
 // Where a part lies in a message of this kind, with the fixed part h and the size in bytes.
 pub fn locate(kind: Kind, h: &[u8], size: usize, part: Part) -> Sought
     requires { ⌜ Sized kind (now h) size ⌝ }
-    ensures { λ r. ⌜ toldSought r ≡ extentOf part kind (now (h .entry)) ⌝ }
+    ensures { λ r. ⌜ soughtMeaning r ≡ extentOf (partMeaning part) kind (now (h .entry)) ⌝ }
 {
     match kind {
         Kind::ConfigurationName => in_name(h, part),
@@ -63,7 +65,7 @@ pub fn locate(kind: Kind, h: &[u8], size: usize, part: Part) -> Sought
 // A name is what stands before the first zero of the fixed part.
 fn in_name(h: &[u8], part: Part) -> Sought
     requires { ⌜ length (now h) ≡ fixedSize Kind.ConfigurationName ⌝ }
-    ensures { λ r. ⌜ toldSought r ≡ extentOf part Kind.ConfigurationName (now (h .entry)) ⌝ }
+    ensures { λ r. ⌜ soughtMeaning r ≡ extentOf (partMeaning part) Kind.ConfigurationName (now (h .entry)) ⌝ }
 {
     match part {
         Part::Name => lies(ID_SIZE, message::name_length(h)),
@@ -74,7 +76,7 @@ fn in_name(h: &[u8], part: Part) -> Sought
 // A text, of any of its three kinds, is all that follows its length.
 fn in_text(h: &[u8], part: Part) -> Sought
     requires { ⌜ length (now h) ≡ fixedSize Kind.Text ⌝ }
-    ensures { λ r. ⌜ toldSought r ≡ extentOf part Kind.Text (now (h .entry)) ⌝ }
+    ensures { λ r. ⌜ soughtMeaning r ≡ extentOf (partMeaning part) Kind.Text (now (h .entry)) ⌝ }
 {
     match part {
         Part::Text => lies(ID_SIZE + Kind::TEXT_FIXED, message::text_length(h)),
@@ -85,7 +87,7 @@ fn in_text(h: &[u8], part: Part) -> Sought
 // The trajectory follows the header; the channels follow the trajectory.
 fn in_acquisition(h: &[u8], part: Part) -> Sought
     requires { ⌜ length (now h) ≡ fixedSize Kind.Acquisition ⌝ }
-    ensures { λ r. ⌜ toldSought r ≡ extentOf part Kind.Acquisition (now (h .entry)) ⌝ }
+    ensures { λ r. ⌜ soughtMeaning r ≡ extentOf (partMeaning part) Kind.Acquisition (now (h .entry)) ⌝ }
 {
     match part {
         Part::Trajectory => lies(
@@ -100,7 +102,7 @@ fn in_acquisition(h: &[u8], part: Part) -> Sought
 // The samples of channel c: the channels stand one after the other.
 fn channel(h: &[u8], c: usize) -> Sought
     requires { ⌜ length (now h) ≡ fixedSize Kind.Acquisition ⌝ }
-    ensures { λ r. ⌜ toldSought r ≡ extentOf (Part.Channel c) Kind.Acquisition (now (h .entry)) ⌝ }
+    ensures { λ r. ⌜ soughtMeaning r ≡ extentOf (partMeaning (Part.Channel c)) Kind.Acquisition (now (h .entry)) ⌝ }
 {
     if acquisition::active_channels(h) <= c {
         return Sought::Lacks;
@@ -113,7 +115,7 @@ fn channel(h: &[u8], c: usize) -> Sought
 // The attributes follow the fixed part; the pixels are what is left after them.
 fn in_image(h: &[u8], size: usize, part: Part) -> Sought
     requires { ⌜ Sized Kind.Image (now h) size ⌝ }
-    ensures { λ r. ⌜ toldSought r ≡ extentOf part Kind.Image (now (h .entry)) ⌝ }
+    ensures { λ r. ⌜ soughtMeaning r ≡ extentOf (partMeaning part) Kind.Image (now (h .entry)) ⌝ }
 {
     let attributes = image::attribute_length(h) as usize;
     let after = ID_SIZE + Kind::IMAGE_FIXED;
@@ -127,7 +129,7 @@ fn in_image(h: &[u8], size: usize, part: Part) -> Sought
 // The waveform data are what is left after the header.
 fn in_waveform(h: &[u8], size: usize, part: Part) -> Sought
     requires { ⌜ Sized Kind.Waveform (now h) size ⌝ }
-    ensures { λ r. ⌜ toldSought r ≡ extentOf part Kind.Waveform (now (h .entry)) ⌝ }
+    ensures { λ r. ⌜ soughtMeaning r ≡ extentOf (partMeaning part) Kind.Waveform (now (h .entry)) ⌝ }
 {
     let after = ID_SIZE + Kind::WAVEFORM_FIXED;
     match part {

@@ -5,7 +5,7 @@ use native.Mathlib.Omega.{arith}
 use borrow.Author.Needs.{needs}
 use borrow.Author.Tests.{lt-ltb, le-ltb}
 use Rattle.mrd_format.specs.SizeLaws.{product}
-use Rattle.mrd_parts.specs.Parts.{extentOf}
+use Rattle.mrd_format.specs.Content.{extentOf}
 use Rattle.mrd_parts.proofs.parts.channel.Statement.{statement}
 use Rattle.mrd_parts.proofs.parts.channel.Tie as tie
 

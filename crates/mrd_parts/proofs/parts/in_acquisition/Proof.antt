@@ -10,7 +10,9 @@ use types.Run.{OneOf, miss}
 use Rattle.mrd_format.specs.declared.kind.Kind.{Kind}
 use Rattle.mrd_parts.specs.declared.parts.Part.{Part}
 use Rattle.mrd_parts.specs.declared.parts.Part.the-variants.{Name, Text, Attributes, Trajectory, Channel, Pixels, Waveform}
-use Rattle.mrd_parts.specs.Parts.{extentOf, reached, lacks}
+use Rattle.mrd_format.specs.Parts.{lacks, lies, extent}
+use Rattle.mrd_format.specs.Content.{extentOf}
+use Rattle.mrd_parts.specs.Sought.{partMeaning}
 use Rattle.mrd_parts.proofs.parts.Part.{the-type}
 use Rattle.mrd_parts.proofs.parts.in_acquisition.Statement.{statement}
 use Rattle.mrd_parts.proofs.parts.in_acquisition.Tie as tie
@@ -19,7 +21,7 @@ use Rattle.mrd_parts.proofs.parts.in_acquisition.Tie as tie
 abbrev rest : List ℕ
 rest = 0 ∷ 1 ∷ 2 ∷ 5 ∷ 6 ∷ []
 
-others : (p : Part) (h : List ℕ) → OneOf rest (tagOf the-type p) → lacks ≡ extentOf p Kind.Acquisition h
+others : (p : Part) (h : List ℕ) → OneOf rest (tagOf the-type p) → lacks ≡ extentOf (partMeaning p) Kind.Acquisition h
 unfolding extentOf
 others Name h o = refl
 others Text h o = refl
@@ -49,7 +51,7 @@ channel-requires c κs = search needs
 
 returns : tie.Need-returns
 unfolding extentOf
-returns c = rw (c .before .before .enum-told .given .1) (c .lies .ensures ∙ ap (reached 342) (c .before .trajectory-size .ensures .0))
+returns c = rw (c .before .before .enum-told .given .1) (c .lies .ensures ∙ ap (λ (n : ℕ). lies (extent 342 n)) (c .before .trajectory-size .ensures .0))
 
 returns-2 : tie.Need-returns-2
 returns-2 c = rw (c .before .before .part .given .1) (c .channel .ensures)

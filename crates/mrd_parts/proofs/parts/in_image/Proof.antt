@@ -11,8 +11,10 @@ use types.Run.{OneOf, miss}
 use Rattle.mrd_format.specs.declared.kind.Kind.{Kind}
 use Rattle.mrd_parts.specs.declared.parts.Part.{Part}
 use Rattle.mrd_parts.specs.declared.parts.Part.the-variants.{Name, Text, Attributes, Trajectory, Channel, Pixels, Waveform}
+use Rattle.mrd_format.specs.Parts.{lacks, lies, extent}
+use Rattle.mrd_format.specs.Content.{extentOf}
 use Rattle.mrd_parts.specs.PartLaws.{image-rest, image-pixels}
-use Rattle.mrd_parts.specs.Parts.{extentOf, reached, lacks}
+use Rattle.mrd_parts.specs.Sought.{partMeaning}
 use Rattle.mrd_parts.proofs.parts.Part.{the-type}
 use Rattle.mrd_parts.proofs.parts.in_image.Statement.{statement}
 use Rattle.mrd_parts.proofs.parts.in_image.Tie as tie
@@ -21,7 +23,7 @@ use Rattle.mrd_parts.proofs.parts.in_image.Tie as tie
 abbrev rest : List ℕ
 rest = 0 ∷ 1 ∷ 3 ∷ 4 ∷ 6 ∷ []
 
-others : (p : Part) (h : List ℕ) → OneOf rest (tagOf the-type p) → lacks ≡ extentOf p Kind.Image h
+others : (p : Part) (h : List ℕ) → OneOf rest (tagOf the-type p) → lacks ≡ extentOf (partMeaning p) Kind.Image h
 unfolding extentOf
 others Name h o = refl
 others Text h o = refl
@@ -69,7 +71,7 @@ lies-requires-2 c κs = search needs
 
 returns : tie.Need-returns
 unfolding extentOf
-returns c = rw (c .before .enum-told .given .1) (c .lies .ensures ∙ ap (reached 208) (c .before .before .before .attribute-length .ensures))
+returns c = rw (c .before .enum-told .given .1) (c .lies .ensures ∙ ap (λ (n : ℕ). lies (extent 208 n)) (c .before .before .before .attribute-length .ensures))
 
 returns-2 : tie.Need-returns-2
 unfolding extentOf

@@ -11,8 +11,10 @@ use types.Run.{OneOf, miss}
 use Rattle.mrd_format.specs.declared.kind.Kind.{Kind}
 use Rattle.mrd_parts.specs.declared.parts.Part.{Part}
 use Rattle.mrd_parts.specs.declared.parts.Part.the-variants.{Name, Text, Attributes, Trajectory, Channel, Pixels, Waveform}
+use Rattle.mrd_format.specs.Parts.{lacks, lies, extent}
+use Rattle.mrd_format.specs.Content.{extentOf}
 use Rattle.mrd_parts.specs.PartLaws.{waveform-rest, waveform-data}
-use Rattle.mrd_parts.specs.Parts.{extentOf, reached, lacks}
+use Rattle.mrd_parts.specs.Sought.{partMeaning}
 use Rattle.mrd_parts.proofs.parts.Part.{the-type}
 use Rattle.mrd_parts.proofs.parts.in_waveform.Statement.{statement}
 use Rattle.mrd_parts.proofs.parts.in_waveform.Tie as tie
@@ -21,7 +23,7 @@ use Rattle.mrd_parts.proofs.parts.in_waveform.Tie as tie
 abbrev rest : List ℕ
 rest = 0 ∷ 1 ∷ 2 ∷ 3 ∷ 4 ∷ 5 ∷ []
 
-others : (p : Part) (h : List ℕ) → OneOf rest (tagOf the-type p) → lacks ≡ extentOf p Kind.Waveform h
+others : (p : Part) (h : List ℕ) → OneOf rest (tagOf the-type p) → lacks ≡ extentOf (partMeaning p) Kind.Waveform h
 unfolding extentOf
 others Name h o = refl
 others Text h o = refl

@@ -2,7 +2,9 @@
 -- Assumes nothing.
 use mathlib.Core.Path.{sym}
 use borrow.Author.Needs.{needs}
-use Rattle.mrd_parts.specs.Parts.{extentOf}
+use denote.Ref.{now}
+use Rattle.mrd_format.specs.Content.{extentOf}
+use Rattle.mrd_parts.specs.PartLaws.{close-lacks}
 use Rattle.mrd_parts.proofs.parts.locate.Statement.{statement}
 use Rattle.mrd_parts.proofs.parts.locate.Tie as tie
 
@@ -63,8 +65,9 @@ unfolding extentOf
 returns-3 c = rw (c .before .enum-told3 .given .1) (c .in-text2 .ensures)
 
 returns-4 : tie.Need-returns-4
-unfolding extentOf
-returns-4 c = rw (c .enum-told4 .given .1)
+returns-4 c =
+    let a = c .before .before .before .args in
+    rw (c .enum-told4 .given .1) (sym (close-lacks (a .part) (now (a .h))))
 
 returns-5 : tie.Need-returns-5
 returns-5 c = rw (c .before .enum-told5 .given .1) (c .in-text3 .ensures)

@@ -15,8 +15,8 @@ use mrd_stream::Cursor;
 pub fn view_place_at(c: Cursor, s: &[u8], part: Part) -> ViewPlace
     ensures { λ r. ⌜ toldView r ≡ viewBy (placeAt c (now (s .entry))) part (now (s .entry)) ⌝ }
 {
-    let placed = place_at(c, s);
-    placed_view(placed, s, part)
+    let due = place_at(c, s);
+    placed_view(due, s, part)
 }
 
 // That part of the stream, or the empty part at the stream's front where view_place_at is a refusal.

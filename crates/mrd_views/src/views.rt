@@ -69,8 +69,8 @@ pub(crate) fn viewed(place: ViewPlace, s: &[u8]) -> &[u8]
 {
     match place {
         ViewPlace::At(span) => spanned(s, span.start, span.length),
-        ViewPlace::Stream(_) => &s[..0],
-        ViewPlace::Refused(_) => &s[..0],
+        ViewPlace::Stream(_) => spanned(s, 0, 0),
+        ViewPlace::Refused(_) => spanned(s, 0, 0),
     }
 }
 

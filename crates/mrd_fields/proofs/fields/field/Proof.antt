@@ -1,11 +1,11 @@
--- `mrd_record::fields::field` meets its contract: the answered place lies in the stream.
+-- `mrd_fields::fields::field` meets its contract: the answered place lies in the stream.
 -- Assumes nothing.
 use denote.Ref.{now}
-use Rattle.mrd_record.specs.Standing.{place-lies}
-use Rattle.mrd_record.specs.Fields.{fieldOf}
+use Rattle.mrd_record.specs.RecordLaws.{place-lies}
+use Rattle.mrd_fields.specs.Fields.{fieldOf}
 use borrow.Author.Needs.{needs}
-use Rattle.mrd_record.proofs.fields.field.Statement.{statement}
-use Rattle.mrd_record.proofs.fields.field.Tie as tie
+use Rattle.mrd_fields.proofs.fields.field.Statement.{statement}
+use Rattle.mrd_fields.proofs.fields.field.Tie as tie
 
 place-requires : tie.Need-place-requires
 place-requires c κs = search needs

@@ -1,10 +1,10 @@
--- `mrd_record::standing::field_at` meets its contract: the answered place lies in the stream.
+-- `mrd_fields::fields::field_at` meets its contract: the answered place lies in the stream.
 -- Assumes nothing.
 use denote.Ref.{now}
-use Rattle.mrd_record.specs.Standing.{at-lies}
+use Rattle.mrd_record.specs.RecordLaws.{at-lies}
 use borrow.Author.Needs.{needs}
-use Rattle.mrd_record.proofs.standing.field_at.Statement.{statement}
-use Rattle.mrd_record.proofs.standing.field_at.Tie as tie
+use Rattle.mrd_fields.proofs.fields.field_at.Statement.{statement}
+use Rattle.mrd_fields.proofs.fields.field_at.Tie as tie
 
 place-at-requires : tie.Need-place-at-requires
 place-at-requires c κs = search needs

@@ -1,6 +1,6 @@
--- `mrd_record::fields::placed_field` meets its contract: by the answer about the place; a record's fixed part is read.
+-- `mrd_fields::fields::placed_field` meets its contract: by the answer about the place; a record's fixed part is read.
 -- Assumes nothing.
-use mathlib.Core.Path.{_≡_, ap}
+use mathlib.Core.Path.{_≡_, ap, _∙_}
 use denote.Ref.{now}
 use Rattle.mrd_format.specs.Message.{fixedPart}
 use Rattle.mrd_format.specs.Shapes.{kindOf}
@@ -8,11 +8,11 @@ use Rattle.mrd_stream.specs.Told.{toldRecord}
 use Rattle.mrd_cut.specs.Places.{partAt}
 use Rattle.mrd_field.specs.Field as header
 use Rattle.mrd_field.specs.Told.{told}
-use Rattle.mrd_record.specs.Fields.{answered}
-use Rattle.mrd_record.specs.ViewLaws.{fixed-sized}
+use Rattle.mrd_fields.specs.Fields.{valued}
+use Rattle.mrd_record.specs.RecordLaws.{fixed-long}
 use borrow.Author.Needs.{needs}
-use Rattle.mrd_record.proofs.fields.placed_field.Statement.{statement}
-use Rattle.mrd_record.proofs.fields.placed_field.Tie as tie
+use Rattle.mrd_fields.proofs.fields.placed_field.Statement.{statement}
+use Rattle.mrd_fields.proofs.fields.placed_field.Tie as tie
 
 enum-known-placed : tie.Need-enum-known-placed
 enum-known-placed c = search needs
@@ -28,7 +28,10 @@ field-requires c κs =
     let placed = c .before .before .before .placed in
     let start = c .before .before .before .before .before .before in
     rw (c .before .kind .ensures, c .fixed-part .ensures)
-    (fixed-sized (now (start .args .s)) (toldRecord (placed .given .0 .0)) (rw (placed .given .1) at (start .pre)) .long)
+    (fixed-long (now (start .args .s)) (toldRecord (placed .given .0 .0)) (rw (placed .given .1) at (start .pre)))
+
+valued-requires : tie.Need-valued-requires
+valued-requires c κs = c .field .ensures .apart
 
 enum-known-placed-2 : tie.Need-enum-known-placed-2
 enum-known-placed-2 c = search needs
@@ -38,15 +41,15 @@ enum-known-placed-3 c = search needs
 
 returns : tie.Need-returns
 returns c =
-    let placed = c .before .before .before .before .placed in
-    let a = c .before .before .before .before .before .before .before .args in
+    let placed = c .before .before .before .before .before .placed in
+    let a = c .before .before .before .before .before .before .before .before .args in
     let here = placed .given .0 .0 in
-    let k = c .before .before .kind .ensures in
-    let h = c .before .fixed-part .ensures in
-    let says : told (c .field .result) ≡
+    let k = c .before .before .before .kind .ensures in
+    let h = c .before .before .fixed-part .ensures in
+    let says : told (c .before .field .result) ≡
     header.fieldOf (kindOf (here .shape)) (fixedPart (kindOf (here .shape)) (partAt (now (a .s)) (toldRecord here))) (a .offset) = cc
-    (c .field .ensures .says) in
-    record { says = rw (placed .given .1) (ap answered says); apart = c .field .ensures .apart }
+    (c .before .field .ensures .says) in
+    record { says = rw (placed .given .1) (c .valued .ensures .says ∙ ap valued says); apart = c .valued .ensures .apart }
 
 returns-2 : tie.Need-returns-2
 returns-2 c = record { says = rw (c .before .placed2 .given .1); apart = tt }
@@ -62,6 +65,7 @@ placed-field-spec =
     kind-requires
     fixed-part-requires
     field-requires
+    valued-requires
     enum-known-placed-2
     enum-known-placed-3
     returns

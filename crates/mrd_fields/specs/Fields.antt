@@ -5,13 +5,12 @@ use mathlib.Core.Path.{_≡_}
 use mathlib.Core.Bool.{Bool, true}
 use mathlib.Core.List.{List}
 use lib.Dec.{T}
-use Rattle.mrd_logic.specs.Answer.{Answer, answered, stream, number}
+use Rattle.mrd_logic.specs.Answer.{Answer, answered, stream, number, andThen}
 use Rattle.mrd_format.specs.Message.{fixedPart}
-use Rattle.mrd_stream.specs.Places as places
-use Rattle.mrd_stream.specs.Places.{place}
+use Rattle.mrd_stream.specs.Places.{Located, place}
 use Rattle.mrd_cut.specs.Places.{partAt}
-use Rattle.mrd_field.specs.Field as header
-use Rattle.mrd_field.specs.Told.{told, nanApart}
+use Rattle.mrd_element.specs.Field as header
+use Rattle.mrd_element.specs.Told.{told, nanApart}
 use Rattle.mrd_fields.specs.declared.fields.FieldAnswer.{FieldAnswer}
 use Rattle.mrd_fields.specs.declared.fields.FieldAnswer.the-variants.{Value, Stream, Refused}
 
@@ -22,10 +21,9 @@ valued (header.signed z) = answered (header.signed z)
 valued (header.float n) = answered (header.float n)
 valued (header.number n) = number n
 
-abbrev pub fieldBy : places.Answer → ℕ → List ℕ → Answer header.FieldAnswer
-fieldBy (places.found l) o s = valued (header.fieldOf (l .kind) (fixedPart (l .kind) (partAt s l)) o)
-fieldBy (places.stream f r b) o s = stream f r b
-fieldBy (places.number n) o s = number n
+-- the field at an offset of the record whose place is answered
+abbrev pub fieldBy : Answer Located → ℕ → List ℕ → Answer header.FieldAnswer
+fieldBy a o s = andThen a (λ l. valued (header.fieldOf (l .kind) (fixedPart (l .kind) (partAt s l)) o))
 
 -- the field at an offset of record n: the stream's refusal first, then 16, then 20
 unfoldable pub fieldOf : List ℕ → ℕ → ℕ → Answer header.FieldAnswer

@@ -1,15 +1,15 @@
 // A field of a record's header, by its offset.
 ghost use mathlib.Core.Path.{_≡_};
 ghost use lib.Dec.{T};
-ghost use Rattle.mrd_field.specs.Told.{told, nanApart};
+ghost use Rattle.mrd_element.specs.Told.{told, nanApart};
 ghost use Rattle.mrd_stream.specs.Told.{toldPlaced};
 ghost use Rattle.mrd_record.specs.AtCursor.{LiesIn, placeAt};
 ghost use Rattle.mrd_fields.specs.Fields.{valued, fieldBy, fieldOf, TellsField};
-use mrd_field::Value;
+use mrd_cursor::Cursor;
+use mrd_element::Value;
 use mrd_format::refusal;
 use mrd_record::fixed_part;
 use mrd_record::place_at;
-use mrd_stream::Cursor;
 use mrd_stream::Placed;
 use mrd_stream::Refusal;
 
@@ -49,7 +49,7 @@ fn placed_field(placed: Placed, s: &[u8], offset: usize) -> FieldAnswer
     match placed {
         Placed::Found(here) => {
             let shape = here.shape;
-            valued(mrd_field::field(shape.kind(), fixed_part(s, here), offset))
+            valued(mrd_element::field(shape.kind(), fixed_part(s, here), offset))
         }
         Placed::Stream(refusal) => FieldAnswer::Stream(refusal),
         Placed::Refused(number) => FieldAnswer::Refused(number),

@@ -16,7 +16,9 @@ pub mod SizeLaws
 pub mod Shapes
 pub mod Content
 pub mod PieceLaws
+pub mod ReachLaws
 pub mod NormalLaws
+pub mod HeaderLaws
+pub mod Rewritten
 pub mod IdLaws
-pub mod Flags
-pub mod Counters
+pub mod IdentityLaws

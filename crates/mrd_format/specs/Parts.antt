@@ -2,7 +2,7 @@
 -- Assumes nothing.
 use Prim.Native.Nat.{ℕ}
 use mathlib.Core.Bool.{Bool, _&&_}
-use mathlib.Core.List.{List, []}
+use mathlib.Core.List.{List, [], _∷_}
 use lib.Dec.{eqb}
 use lib.ListN.{take, drop}
 
@@ -95,6 +95,10 @@ partIn ps samples = ps .samples
 partIn ps pixels = ps .pixels
 partIn ps waveform = ps .waveform
 partIn ps (channel c) = []
+
+-- the names of those parts
+abbrev pub recordParts : List Part
+recordParts = name ∷ text ∷ trajectory ∷ samples ∷ attributes ∷ pixels ∷ waveform ∷ []
 
 -- what a message is made of beside its id: 'the fixed header's bytes .. and the variable parts'
 pub record Contents : Type 0 where

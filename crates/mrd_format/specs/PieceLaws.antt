@@ -9,6 +9,7 @@ use mathlib.Core.List.{List, [], _∷_, _++_, map, append-nil, map-append}
 use borrow.Author.Tests.{not-true}
 use lib.ListN.{length, take, drop, length-drop, take-append-drop}
 use lib.Seq.{take-add, take-all, drop-drop}
+use Rattle.mrd_logic.specs.Every.{Every}
 use Rattle.mrd_logic.specs.Choice.{both}
 use Rattle.mrd_logic.specs.Joined.{joined, joined-append}
 use Rattle.mrd_format.specs.Parts.{Part, filler, same, Extent}
@@ -72,3 +73,42 @@ module _ (m h : List ℕ) where
 abbrev pub Adjoins : ℕ → ℕ → List Extent → Type 0
 Adjoins a b [] = a ≡ b
 Adjoins a b (e ∷ es) = (e .offset ≡ a) × Adjoins (a + e .size) b es
+
+adjoins-append : (a b c : ℕ) (ds es : List Extent) → Adjoins a b ds → Adjoins b c es → Adjoins a c (ds ++ es)
+adjoins-append a b c [] es p q = rw p q
+adjoins-append a b c (d ∷ ds) es p q = (p .0, adjoins-append (a + d .size) b c ds es (p .1) q)
+
+-- a name is within the bytes that it is filled up to
+abbrev pub Fits : List ℕ → Segment → Type 0
+Fits h (fixed n) = Unit {0}
+Fits h (counted w p) = Unit {0}
+Fits h (padded n) = nameLength h ≤ n
+Fits h (sized p n) = Unit {0}
+Fits h (channels c n) = Unit {0}
+
+abbrev pub placesOf : List Piece → List Extent
+placesOf ps = map (λ (p : Piece). p .place) ps
+
+channels-adjoin : (n c at z : ℕ) → Adjoins at (at + n * z) (placesOf (channelsFrom n c at z))
+channels-adjoin zero c at z = rw zero-mul (sym (add-zero at))
+channels-adjoin (suc n) c at z =
+    let end : at + suc n * z ≡ at + z + n * z = omega (arith, suc-mul n z) in
+    (refl, rw end (channels-adjoin n (suc c) (at + z) z))
+
+module _ (h : List ℕ) where
+  segment-adjoins : (at : ℕ) (s : Segment) → Fits h s → Adjoins at (at + sizeIn s) (placesOf (piecesIn h at s))
+  segment-adjoins at (fixed n) f = (refl, refl)
+  segment-adjoins at (counted w p) f = (refl, refl)
+  segment-adjoins at (padded n) f = (refl, (refl, omega arith))
+  segment-adjoins at (sized p n) f = (refl, refl)
+  segment-adjoins at (channels c n) f = channels-adjoin c 0 at n
+
+  -- the parts of segments adjoin, from the first byte to the last
+  pub segments-adjoin : (at : ℕ) (ss : List Segment) → Every (Fits h) ss → Adjoins at (at + total ss) (placesOf (piecesFrom h at ss))
+  segments-adjoin at [] f = sym (add-zero at)
+  segments-adjoin at (s ∷ []) f = segment-adjoins at s (f .0)
+  segments-adjoin at (s ∷ (t ∷ ss)) f =
+      let end : at + (sizeIn s + total (t ∷ ss)) ≡ at + sizeIn s + total (t ∷ ss) = sym (add-assoc at (sizeIn s) (total (t ∷ ss))) in
+      rw (map-append, end)
+      (adjoins-append at (at + sizeIn s) (at + sizeIn s + total (t ∷ ss)) (placesOf (piecesIn h at s)) _
+      (segment-adjoins at s (f .0)) (segments-adjoin (at + sizeIn s) (t ∷ ss) (f .1)))

@@ -6,9 +6,6 @@ ghost use Rattle.mrd_format.specs.Parts.{lies, extent};
 ghost use Rattle.mrd_format.specs.Content.{extentOf};
 ghost use Rattle.mrd_parts.specs.Sought.{partMeaning, soughtMeaning, Sized};
 use mrd_format::Kind;
-use mrd_format::acquisition;
-use mrd_format::image;
-use mrd_format::message;
 
 pub enum Part {
     Name,
@@ -68,7 +65,7 @@ fn in_name(h: &[u8], part: Part) -> Sought
     ensures { λ r. ⌜ soughtMeaning r ≡ extentOf (partMeaning part) Kind.ConfigurationName (now (h .entry)) ⌝ }
 {
     match part {
-        Part::Name => lies(ID_SIZE, message::name_length(h)),
+        Part::Name => lies(ID_SIZE, mrd_message::name_length(h)),
         _ => Sought::Lacks,
     }
 }
@@ -79,7 +76,7 @@ fn in_text(h: &[u8], part: Part) -> Sought
     ensures { λ r. ⌜ soughtMeaning r ≡ extentOf (partMeaning part) Kind.Text (now (h .entry)) ⌝ }
 {
     match part {
-        Part::Text => lies(ID_SIZE + Kind::TEXT_FIXED, message::text_length(h)),
+        Part::Text => lies(ID_SIZE + Kind::TEXT_FIXED, mrd_message::text_length(h)),
         _ => Sought::Lacks,
     }
 }
@@ -92,7 +89,7 @@ fn in_acquisition(h: &[u8], part: Part) -> Sought
     match part {
         Part::Trajectory => lies(
             ID_SIZE + Kind::ACQUISITION_FIXED,
-            acquisition::trajectory_size(h),
+            mrd_acquisition::trajectory_size(h),
         ),
         Part::Channel(c) => channel(h, c),
         _ => Sought::Lacks,
@@ -104,11 +101,11 @@ fn channel(h: &[u8], c: usize) -> Sought
     requires { ⌜ length (now h) ≡ fixedSize Kind.Acquisition ⌝ }
     ensures { λ r. ⌜ soughtMeaning r ≡ extentOf (partMeaning (Part.Channel c)) Kind.Acquisition (now (h .entry)) ⌝ }
 {
-    if acquisition::active_channels(h) <= c {
+    if mrd_acquisition::active_channels(h) <= c {
         return Sought::Lacks;
     }
-    let samples = acquisition::channel_size(h);
-    let first = ID_SIZE + Kind::ACQUISITION_FIXED + acquisition::trajectory_size(h);
+    let samples = mrd_acquisition::channel_size(h);
+    let first = ID_SIZE + Kind::ACQUISITION_FIXED + mrd_acquisition::trajectory_size(h);
     lies(first + c * samples, samples)
 }
 
@@ -117,7 +114,7 @@ fn in_image(h: &[u8], size: usize, part: Part) -> Sought
     requires { ⌜ Sized Kind.Image (now h) size ⌝ }
     ensures { λ r. ⌜ soughtMeaning r ≡ extentOf (partMeaning part) Kind.Image (now (h .entry)) ⌝ }
 {
-    let attributes = image::attribute_length(h) as usize;
+    let attributes = mrd_image::attribute_length(h) as usize;
     let after = ID_SIZE + Kind::IMAGE_FIXED;
     match part {
         Part::Attributes => lies(after, attributes),

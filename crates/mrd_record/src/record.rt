@@ -7,9 +7,9 @@ ghost use Rattle.mrd_stream.specs.Told.{toldChecked, toldRecord, toldPlaced};
 ghost use Rattle.mrd_cut.specs.Places.{partAt};
 ghost use Rattle.mrd_cut.specs.Inside.{Inside};
 ghost use Rattle.mrd_record.specs.AtCursor.{placeBy, placeAt};
+use mrd_cursor::Cursor;
 use mrd_format::refusal;
 use mrd_stream::Checked;
-use mrd_stream::Cursor;
 use mrd_stream::Placed;
 use mrd_stream::Record;
 use mrd_stream::Step;
@@ -19,7 +19,7 @@ use mrd_stream::Step;
 pub fn place_at(c: Cursor, s: &[u8]) -> Placed
     ensures { λ r. ⌜ toldPlaced r ≡ placeAt c (now (s .entry)) ⌝ }
 {
-    let step = c.next(s);
+    let step = mrd_stream::next(c, s);
     match step {
         Step::Message(here, _) => Placed::Found(here),
         Step::End(answer) => ended(answer),

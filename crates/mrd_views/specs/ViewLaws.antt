@@ -2,17 +2,16 @@
 -- Assumes nothing.
 use Prim.Native.Nat.{ℕ, _+_, _≤_}
 use native.Mathlib.Omega.{arith}
-use mathlib.Core.Path.{_≡_, sym, _∙_}
+use mathlib.Core.Path.{_≡_, refl, sym, _∙_}
 use mathlib.Core.List.{List}
 use lib.ListN.{length}
 use Rattle.mrd_logic.specs.Answer.{Answer, answered, stream, number}
 use Rattle.mrd_format.specs.Message.{fixedPart, sizeOf}
 use Rattle.mrd_format.specs.Parts.{Part, Reach, lies, lacks}
 use Rattle.mrd_format.specs.Content.{extentOf}
+use Rattle.mrd_format.specs.ReachLaws.{part-within}
 use Rattle.mrd_parts.specs.declared.parts.Part as asked
 use Rattle.mrd_parts.specs.Sought.{partMeaning, Sized}
-use Rattle.mrd_parts.specs.PartLaws.{Within, part-within}
-use Rattle.mrd_stream.specs.Places as places
 use Rattle.mrd_stream.specs.Places.{Located}
 use Rattle.mrd_cut.specs.Places.{partAt}
 use Rattle.mrd_cut.specs.Inside.{Inside}
@@ -35,13 +34,14 @@ module _ (s : List ℕ) (l : Located) (i : Inside s l) where
       let size : sizeOf (l .kind) (fixedPart (l .kind) (partAt s l)) ≡ l .size = rw (← i .kind) (i .well .whole ∙ i .long) in
       record { long = fixed-long s l i; size = sym size; small = rw (← size, ← i .kind) (i .well .small) }
 
-  shown-fits : (r : Reach) → Within (l .size) r → ViewIn s (shownAt r (l .start))
-  shown-fits (lies e) w = omega (arith, w, i .fits)
-  shown-fits lacks w = tt
+  shown-fits : (p : Part) (r : Reach) → extentOf p (l .kind) (fixedPart (l .kind) (partAt s l)) ≡ r → ViewIn s (shownAt r (l .start))
+  shown-fits p (lies e) q =
+      omega (arith, part-within (l .kind) (fixedPart (l .kind) (partAt s l)) (fixed-long s l i) p q, fixed-sized .size, i .fits)
+  shown-fits p lacks q = tt
 
   -- so does each part of it
   pub part-fits : (p : Part) → ViewIn s (shownAt (extentOf p (l .kind) (fixedPart (l .kind) (partAt s l))) (l .start))
-  part-fits p = shown-fits (extentOf p (l .kind) (fixedPart (l .kind) (partAt s l))) (part-within fixed-sized p)
+  part-fits p = shown-fits p (extentOf p (l .kind) (fixedPart (l .kind) (partAt s l))) refl
 
   pub start-fits : (p : Part) → startOf (shownAt (extentOf p (l .kind) (fixedPart (l .kind) (partAt s l))) (l .start)) ≤ length s
   start-fits p = by (shownAt (extentOf p (l .kind) (fixedPart (l .kind) (partAt s l))) (l .start)) (part-fits p)
@@ -52,7 +52,7 @@ module _ (s : List ℕ) (l : Located) (i : Inside s l) where
       by (number n) v = omega arith
 
 -- a view of a record that lies in the stream does
-pub view-fits : (s : List ℕ) (a : places.Answer) (p : asked.Part) → LiesIn s a → ViewIn s (viewBy a p s)
-view-fits s (places.found l) p x = part-fits s l x (partMeaning p)
-view-fits s (places.stream f r b) p x = tt
-view-fits s (places.number k) p x = tt
+pub view-fits : (s : List ℕ) (a : Answer Located) (p : asked.Part) → LiesIn s a → ViewIn s (viewBy a p s)
+view-fits s (answered l) p x = part-fits s l x (partMeaning p)
+view-fits s (stream f r b) p x = tt
+view-fits s (number k) p x = tt

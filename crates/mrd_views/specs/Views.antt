@@ -3,14 +3,13 @@
 use Prim.Native.Nat.{ℕ, _+_}
 use mathlib.Core.List.{List, []}
 use lib.ListN.{take, drop}
-use Rattle.mrd_logic.specs.Answer.{Answer, answered, stream, number}
+use Rattle.mrd_logic.specs.Answer.{Answer, answered, stream, number, andThen}
 use Rattle.mrd_format.specs.Message.{fixedPart}
 use Rattle.mrd_format.specs.Parts.{Reach, lies, lacks}
 use Rattle.mrd_format.specs.Content.{extentOf}
 use Rattle.mrd_parts.specs.declared.parts.Part.{Part}
 use Rattle.mrd_parts.specs.Sought.{partMeaning}
-use Rattle.mrd_stream.specs.Places as places
-use Rattle.mrd_stream.specs.Places.{place}
+use Rattle.mrd_stream.specs.Places.{Located, place}
 use Rattle.mrd_cut.specs.Places.{partAt}
 use Rattle.mrd_views.specs.declared.views.Span.{Span}
 use Rattle.mrd_views.specs.declared.views.ViewPlace.{ViewPlace}
@@ -25,10 +24,10 @@ abbrev pub shownAt : Reach → ℕ → Answer Span
 shownAt (lies e) start = answered (span (start + e .offset) (e .size))
 shownAt lacks start = number 17
 
-abbrev pub viewBy : places.Answer → Part → List ℕ → Answer Span
-viewBy (places.found l) p s = shownAt (extentOf (partMeaning p) (l .kind) (fixedPart (l .kind) (partAt s l))) (l .start)
-viewBy (places.stream f r b) p s = stream f r b
-viewBy (places.number n) p s = number n
+-- the place of a part of the record whose place is answered
+abbrev pub viewBy : Answer Located → Part → List ℕ → Answer Span
+viewBy a p s =
+    andThen a (λ l. shownAt (extentOf (partMeaning p) (l .kind) (fixedPart (l .kind) (partAt s l))) (l .start))
 
 -- the place of a part of record n: the stream's refusal first, then 16, then 17
 unfoldable pub viewOf : List ℕ → ℕ → Part → Answer Span

@@ -6,9 +6,9 @@ ghost use Rattle.mrd_views.specs.Views.{viewBy, shown, startOf, toldView
 use crate::views::ViewPlace;
 use crate::views::placed_view;
 use crate::views::viewed;
+use mrd_cursor::Cursor;
 use mrd_parts::Part;
 use mrd_record::place_at;
-use mrd_stream::Cursor;
 
 // Where a part of the record lies that is due at c; the stream's refusal where its message is refused, 16
 // where none is left.

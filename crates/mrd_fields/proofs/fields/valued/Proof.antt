@@ -6,10 +6,10 @@ use borrow.Author.Needs.{needs}
 use denote.Enum.Declared.{tagOf}
 use types.Run.{OneOf, miss}
 use Rattle.mrd_logic.specs.Answer.{answered}
-use Rattle.mrd_field.specs.declared.value.Value.{Value}
-use Rattle.mrd_field.specs.declared.value.Value.the-variants.{Whole, Signed, Float, Nan, Absent}
-use Rattle.mrd_field.specs.Told.{told}
-use Rattle.mrd_field.proofs.value.Value.{the-type}
+use Rattle.mrd_element.specs.declared.value.Value.{Value}
+use Rattle.mrd_element.specs.declared.value.Value.the-variants.{Whole, Signed, Float, Nan, Absent}
+use Rattle.mrd_element.specs.Told.{told}
+use Rattle.mrd_element.proofs.value.Value.{the-type}
 use Rattle.mrd_fields.specs.Fields.{valued}
 use Rattle.mrd_fields.proofs.fields.valued.Statement.{statement}
 use Rattle.mrd_fields.proofs.fields.valued.Tie as tie

@@ -26,11 +26,12 @@ use Rattle.mrd_stream.specs.Output as output
 use Rattle.mrd_stream.specs.Output.{answerBy, answerFor}
 use Rattle.mrd_cut.specs.Places.{partAt}
 use Rattle.mrd_cut.specs.Refused.{FaultAt, refused-why}
-use Rattle.mrd_record.specs.declared.parts.Part.{Part}
-use Rattle.mrd_record.specs.Parts.{Reach, lies, lacks, extentOf}
-use Rattle.mrd_record.specs.Fields.{fieldBy, fieldOf}
-use Rattle.mrd_record.specs.Views as views
-use Rattle.mrd_record.specs.Views.{viewBy, viewOf, shownAt}
+use Rattle.mrd_parts.specs.declared.parts.Part.{Part}
+use Rattle.mrd_format.specs.Parts.{Reach, lies, lacks}
+use Rattle.mrd_format.specs.Content.{extentOf}
+use Rattle.mrd_fields.specs.Fields.{fieldBy, fieldOf}
+use Rattle.mrd_views.specs.Views as views
+use Rattle.mrd_views.specs.Views.{viewBy, viewOf, shownAt}
 use Rattle.mrd_element.specs.Field as header
 use Rattle.mrd_find.specs.Find as find
 use Rattle.mrd_find.specs.Find.{firstMatch, matches, findOf}
@@ -44,6 +45,8 @@ use Rattle.cotterleaf.specs.Answers.{faceChecked, faceView, faceValue, f
 use Rattle.cotterleaf.specs.Placed.{facePlaced}
 use Rattle.mrd_judge.specs.WholeLaws.{all-numbered}
 use Rattle.mrd_logic.specs.Answer as answers
+use Rattle.mrd_views.specs.Views.{span}
+use Rattle.mrd_parts.specs.Sought.{partMeaning}
 
 fault-numbered : (f : ℕ) (c : Cursor) (ks : List Kind) (rest : List ℕ) → FaultAt f c ks rest → f ≡ 0 → ⊥
 fault-numbered f c ks [] a z = omega (arith, a .0, z)
@@ -83,17 +86,17 @@ zero-found s n = by (answer s) refl
     by (refused f r b) e z = absurd (refused-numbered s e z)
 
 -- a view's place
-pub zero-shown : (s : List ℕ) (n : ℕ) (p : Part) → faceView (viewOf s n p) .refusal ≡ 0 → (i z : ℕ) × (viewOf s n p ≡ views.at i z)
+pub zero-shown : (s : List ℕ) (n : ℕ) (p : Part) → faceView (viewOf s n p) .refusal ≡ 0 → (i z : ℕ) × (viewOf s n p ≡ answers.answered (span i z))
 unfolding viewOf
 zero-shown s n p = by (place s n) (zero-found s n)
   where
-    at : (e : Reach) (i : ℕ) → faceView (shownAt e i) .refusal ≡ 0 → (j z : ℕ) × (shownAt e i ≡ views.at j z)
+    at : (e : Reach) (i : ℕ) → faceView (shownAt e i) .refusal ≡ 0 → (j z : ℕ) × (shownAt e i ≡ answers.answered (span j z))
     at (lies e) i z = (i + e .offset, e .size, refl)
     at lacks i z = absurd (none z)
 
     by : (a : answers.Answer places.Located) → (facePlaced a .refusal ≡ 0 → (l : Located) × (a ≡ answered l)) → faceView (viewBy a p s) .refusal ≡ 0 →
-        (i z : ℕ) × (viewBy a p s ≡ views.at i z)
-    by (answered l) g z = at (extentOf p (l .kind) (fixedPart (l .kind) (partAt s l))) (l .start) z
+        (i z : ℕ) × (viewBy a p s ≡ answers.answered (span i z))
+    by (answered l) g z = at (extentOf (partMeaning p) (l .kind) (fixedPart (l .kind) (partAt s l))) (l .start) z
     by (stream f r b) g z = let x : _≡_ {A = ℕ} 0 1 = cc (g z .1) in absurd (omega (arith, x))
     by (number m) g z = let x : _≡_ {A = ℕ} 0 1 = cc (g z .1) in absurd (omega (arith, x))
 

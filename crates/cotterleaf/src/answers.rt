@@ -5,7 +5,8 @@ ghost use lib.Dec.{T};
 ghost use Rattle.mrd_element.specs.Told.{told as toldValue, nanApart};
 ghost use Rattle.mrd_find.specs.Told.{told as toldFound};
 ghost use Rattle.mrd_index.specs.Compare.{toldMatched};
-ghost use Rattle.mrd_record.specs.Told.{toldView, toldField, fieldApart};
+ghost use Rattle.mrd_views.specs.Views.{toldView};
+ghost use Rattle.mrd_fields.specs.Fields.{toldField, fieldApart};
 ghost use Rattle.mrd_stream.specs.Output.{toldWritten};
 ghost use Rattle.mrd_stream.specs.Told.{toldChecked};
 ghost use Rattle.mrd_writer.specs.Write.{told as toldPut};
@@ -118,13 +119,13 @@ impl ViewPlace {
         }
     }
 
-    pub(crate) fn of(answer: mrd_record::ViewPlace) -> ViewPlace
+    pub(crate) fn of(answer: mrd_views::ViewPlace) -> ViewPlace
         ensures { λ r. ⌜ r ≡ faceView (toldView answer) ⌝ }
     {
         match answer {
-            mrd_record::ViewPlace::At(span) => ViewPlace::new(0, 0, 0, span.start, span.length),
-            mrd_record::ViewPlace::Stream(r) => ViewPlace::new(r.number, r.record, r.byte, 0, 0),
-            mrd_record::ViewPlace::Refused(number) => ViewPlace::new(number, 0, 0, 0, 0),
+            mrd_views::ViewPlace::At(span) => ViewPlace::new(0, 0, 0, span.start, span.length),
+            mrd_views::ViewPlace::Stream(r) => ViewPlace::new(r.number, r.record, r.byte, 0, 0),
+            mrd_views::ViewPlace::Refused(number) => ViewPlace::new(number, 0, 0, 0, 0),
         }
     }
 }
@@ -176,14 +177,14 @@ impl FieldAnswer {
         }
     }
 
-    pub(crate) fn of(answer: mrd_record::FieldAnswer) -> FieldAnswer
+    pub(crate) fn of(answer: mrd_fields::FieldAnswer) -> FieldAnswer
         requires { ⌜ T (fieldApart answer) ⌝ }
         ensures { λ r. ⌜ r ≡ faceField (toldField answer) ⌝ }
     {
         match answer {
-            mrd_record::FieldAnswer::Value(value) => FieldAnswer::value(value),
-            mrd_record::FieldAnswer::Stream(r) => FieldAnswer::refused(r.number, r.record, r.byte),
-            mrd_record::FieldAnswer::Refused(number) => FieldAnswer::refused(number, 0, 0),
+            mrd_fields::FieldAnswer::Value(value) => FieldAnswer::value(value),
+            mrd_fields::FieldAnswer::Stream(r) => FieldAnswer::refused(r.number, r.record, r.byte),
+            mrd_fields::FieldAnswer::Refused(number) => FieldAnswer::refused(number, 0, 0),
         }
     }
 }

@@ -17,17 +17,19 @@ use Rattle.mrd_element.specs.Field as header
 use Rattle.mrd_element.specs.Field.{Start, starts, none, startOf}
 use Rattle.mrd_index.specs.Compare.{MatchAnswer, same, stream, number}
 use Rattle.mrd_index.specs.Exactly.{Differs, Compared}
-use Rattle.mrd_record.specs.declared.parts.Part.{Part}
-use Rattle.mrd_record.specs.Parts.{Reach, lies, lacks, extentOf}
-use Rattle.mrd_record.specs.Views as views
-use Rattle.mrd_record.specs.Views.{viewOf}
-use Rattle.mrd_record.specs.Fields as fields
-use Rattle.mrd_record.specs.Fields.{fieldOf}
+use Rattle.mrd_parts.specs.declared.parts.Part.{Part}
+use Rattle.mrd_format.specs.Parts.{Reach, lies, lacks}
+use Rattle.mrd_format.specs.Content.{extentOf}
+use Rattle.mrd_views.specs.Views as views
+use Rattle.mrd_views.specs.Views.{viewOf}
+use Rattle.mrd_fields.specs.Fields as fields
+use Rattle.mrd_fields.specs.Fields.{fieldOf}
 use Rattle.mrd_find.specs.Find as find
 use Rattle.mrd_find.specs.Find.{findOf}
 use Rattle.mrd_lent.specs.Lending.{Refusing, lending, ofPlace, ofView, ofField, ofFind}
 use Rattle.mrd_logic.specs.Answer as answers
 use Rattle.mrd_logic.specs.Choice.{pick}
+use Rattle.mrd_parts.specs.Sought.{partMeaning}
 
 -- the answer a of a question about s with no index lent: a refused stream's refusal comes first, and none is 15
 pub record Question {A : Type 0} (r : Refusing A) (s : List ℕ) (a : A) : Type 0 where
@@ -77,7 +79,7 @@ place-question s n =
     never (refused f r b) e = let z : _≡_ {A = ℕ} 0 1 = cc in omega arith
 
 -- a view
-reach-never : (x : Reach) (start : ℕ) → views.shownAt x start ≡ views.refusal 15 → ⊥
+reach-never : (x : Reach) (start : ℕ) → views.shownAt x start ≡ answers.number 15 → ⊥
 reach-never (lies e) start p = let z : _≡_ {A = ℕ} 0 1 = cc in omega arith
 reach-never lacks start p = let z : _≡_ {A = ℕ} 17 15 = cc in omega arith
 
@@ -90,20 +92,20 @@ view-question s n p =
       apart = λ e. let z : _≡_ {A = ℕ} 0 1 = cc in omega arith;
     }
   where
-    never : (a : Answer Located) → (a ≡ answers.number 15 → ⊥) → views.viewBy a p s ≡ views.refusal 15 → ⊥
-    never (answers.answered l) h e = reach-never (extentOf p (l .kind) (fixedPart (l .kind) (partAt s l))) (l .start) e
+    never : (a : Answer Located) → (a ≡ answers.number 15 → ⊥) → views.viewBy a p s ≡ answers.number 15 → ⊥
+    never (answers.answered l) h e = reach-never (extentOf (partMeaning p) (l .kind) (fixedPart (l .kind) (partAt s l))) (l .start) e
     never (answers.stream f r b) h e = let z : _≡_ {A = ℕ} 0 1 = cc in omega arith
     never (answers.number k) h e = h (let z : _≡_ {A = ℕ} k 15 = cc in ap answers.number z)
 
 -- a field
-value-never : (t : ElementType) (n : ℕ) → fields.answered (header.valueOf t n) ≡ fields.answered (header.number 15) → ⊥
+value-never : (t : ElementType) (n : ℕ) → fields.valued (header.valueOf t n) ≡ answers.number 15 → ⊥
 value-never u16 n e = let z : _≡_ {A = ℕ} 0 1 = cc in omega arith
 value-never u32 n e = let z : _≡_ {A = ℕ} 0 1 = cc in omega arith
 value-never u64 n e = let z : _≡_ {A = ℕ} 0 1 = cc in omega arith
 value-never i32 n e = let z : _≡_ {A = ℕ} 0 1 = cc in omega arith
 value-never f32 n e = let z : _≡_ {A = ℕ} 0 1 = cc in omega arith
 
-start-never : (x : Start) (h : List ℕ) (o : ℕ) → fields.answered (header.answered x h o) ≡ fields.answered (header.number 15) → ⊥
+start-never : (x : Start) (h : List ℕ) (o : ℕ) → fields.valued (header.answered x h o) ≡ answers.number 15 → ⊥
 start-never (starts t) h o e = value-never t _ e
 start-never none h o e = let z : _≡_ {A = ℕ} 20 15 = cc in omega arith
 
@@ -116,7 +118,7 @@ field-question s n o =
       apart = λ e. let z : _≡_ {A = ℕ} 0 1 = cc in omega arith;
     }
   where
-    never : (a : Answer Located) → (a ≡ answers.number 15 → ⊥) → fields.fieldBy a o s ≡ fields.answered (header.number 15) → ⊥
+    never : (a : Answer Located) → (a ≡ answers.number 15 → ⊥) → fields.fieldBy a o s ≡ answers.number 15 → ⊥
     never (answers.answered l) h e = start-never (startOf (l .kind) o) (fixedPart (l .kind) (partAt s l)) o e
     never (answers.stream f r b) h e = let z : _≡_ {A = ℕ} 0 1 = cc in omega arith
     never (answers.number k) h e = h (let z : _≡_ {A = ℕ} k 15 = cc in ap answers.number z)

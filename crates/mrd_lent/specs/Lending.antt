@@ -4,10 +4,11 @@ use Prim.Native.Nat.{ℕ}
 use Rattle.mrd_stream.specs.Places as places
 use Rattle.mrd_index.specs.Compare.{MatchAnswer, same, stream, number}
 use Rattle.mrd_element.specs.Field as header
-use Rattle.mrd_record.specs.Views as views
-use Rattle.mrd_record.specs.Fields as fields
+use Rattle.mrd_views.specs.Views as views
+use Rattle.mrd_fields.specs.Fields as fields
 use Rattle.mrd_find.specs.Find as find
 use Rattle.mrd_logic.specs.Answer as answers
+use Rattle.mrd_views.specs.declared.views.Span.{Span}
 
 -- how a question's answers say a refusal: the stream's, with record and byte, and a number alone
 pub record Refusing (A : Type 0) : Type 0 where
@@ -24,11 +25,11 @@ lending r (number n) a = r .alone n
 abbrev pub ofPlace : Refusing (answers.Answer places.Located)
 ofPlace = record { of-stream = answers.stream; alone = answers.number }
 
-abbrev pub ofView : Refusing views.Shown
-ofView = record { of-stream = views.faulty; alone = views.refusal }
+abbrev pub ofView : Refusing (answers.Answer Span)
+ofView = record { of-stream = answers.stream; alone = answers.number }
 
-abbrev pub ofField : Refusing fields.Fielded
-ofField = record { of-stream = fields.faulty; alone = λ n. fields.answered (header.number n) }
+abbrev pub ofField : Refusing (answers.Answer header.FieldAnswer)
+ofField = record { of-stream = answers.stream; alone = answers.number }
 
 abbrev pub ofFind : Refusing (answers.Answer ℕ)
 ofFind = record { of-stream = answers.stream; alone = answers.number }

@@ -3,3 +3,5 @@ pub mod Choice
 pub mod Checks
 pub mod CheckLaws
 pub mod Answer
+pub mod Lists
+pub mod ListLaws

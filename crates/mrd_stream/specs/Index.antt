@@ -4,6 +4,7 @@ use Prim.Native.Nat.{ℕ, suc}
 use mathlib.Core.List.{List, [], _∷_, _++_, map}
 use lib.ListN.{length}
 use Rattle.mrd_numbers.specs.Little.{toBytes}
+use Rattle.mrd_tagged.specs.Tagged.{tagged}
 use Rattle.mrd_format.specs.Kinds.{idOf}
 use Rattle.mrd_format.specs.Message.{fixedPart}
 use Rattle.mrd_format.specs.Content.{counterOf}
@@ -23,10 +24,6 @@ entriesOf (done v) = []
 -- an entry for each record, in order
 unfoldable pub entries : List ℕ → List Entry
 entries s = entriesOf (trace s)
-
--- 'tagged fields: one-byte tag, two-byte length, body'
-abbrev pub tagged : ℕ → List ℕ → List ℕ
-tagged tag body = tag ∷ (toBytes 2 (length body) ++ body)
 
 -- 'tag 3 for each record'
 abbrev pub entryFields : List Entry → List ℕ

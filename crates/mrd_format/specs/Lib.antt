@@ -16,3 +16,6 @@ pub mod NormalLaws
 pub mod IdLaws
 pub mod Flags
 pub mod Counters
+pub mod HeaderSize
+pub mod Identity
+pub mod IdentityLaws

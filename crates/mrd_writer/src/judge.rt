@@ -10,9 +10,8 @@ ghost use Rattle.mrd_writer.specs.Refusals.{toldJudged, judged, headed};
 ghost use Rattle.mrd_writer.specs.JudgeLaws.{sized, bodied};
 use crate::answer::Judged;
 use crate::lengths::Lengths;
+use mrd_acquisition::trajectory_size;
 use mrd_format::Kind;
-use mrd_format::acquisition::trajectory_size;
-use mrd_format::message;
 use mrd_format::refusal;
 use mrd_format::size::LIMIT;
 use mrd_numbers::put_u64;
@@ -160,11 +159,11 @@ fn checked_size(kind: Kind, h: &[u8]) -> Judged
     requires { ⌜ length (now h) ≡ fixedSize kind ⌝ }
     ensures { λ r. ⌜ toldJudged r ≡ sized kind (now (h .entry)) ⌝ }
 {
-    let fault = message::fault(kind, h);
+    let fault = mrd_message::fault(kind, h);
     if fault != 0 {
         return Judged::Refused(fault);
     }
-    let size = message::size(kind, h);
+    let size = mrd_message::size(kind, h);
     if LIMIT < size as u64 {
         return Judged::Refused(refusal::MESSAGE_LIMIT);
     }

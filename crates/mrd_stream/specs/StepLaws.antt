@@ -10,7 +10,7 @@ use Rattle.mrd_format.specs.declared.kind.Kind.{Kind}
 use Rattle.mrd_format.specs.Message.{fixedPart, WellFormed}
 use Rattle.mrd_format.specs.MessageLaws.{size-least}
 use Rattle.mrd_stream.specs.declared.cursor.Cursor.{Cursor}
-use Rattle.mrd_stream.specs.Walk.{Judged, faulty, whole, judge, after, Verdict, Trace, message, done, beginning, walk, trace}
+use Rattle.mrd_stream.specs.Walk.{messageLimit, Judged, faulty, whole, judge, after, Verdict, Trace, message, done, beginning, walk, trace}
 use Rattle.mrd_stream.specs.WalkLaws.{walk-end, walk-fault, walk-next}
 use Rattle.mrd_stream.specs.Judged.{WholeAt, judge-whole, wellFormed}
 use Rattle.mrd_stream.specs.Places.{Located, located, Stepped, handed, over, stepBy, stepAt, step}
@@ -28,6 +28,7 @@ pub record Passes (c : Cursor) (s : List ℕ) (l : Located) (d : Cursor) : Type 
   pub ahead : c .start < d .start
   pub within : d .start ≤ length s
   pub counted : d .number ≡ c .number + 1
+  pub few : c .number < messageLimit
   pub well : WellFormed bytes
   pub known : well .kind ≡ kind
   pub split : drop (c .start) s ≡ bytes ++ drop (d .start) s
@@ -70,6 +71,7 @@ step-handed c s {l} {d} e = at (drop (c .start) s) refl e
           ahead = rw next (omega arith);
           within = rw next (omega (arith, w .fits));
           counted = rw next;
+          few = w .counted;
           well = wellFormed c (b ∷ t) w;
           known = refl;
           split = rw (next, ← rest) (here ∙ sym (take-append-drop z (b ∷ t)));

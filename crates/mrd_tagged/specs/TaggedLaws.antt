@@ -9,7 +9,7 @@ use mathlib.Core.Bool.{Bool, true, false, _&&_}
 use mathlib.Core.List.{List, [], _∷_, _++_}
 use borrow.Author.Tests.{eq-eqb, ne-eqb, eqb-true, eqb-false}
 use lib.Dec.{eqb}
-use lib.ListN.{length, getD, take, drop, set, length-drop}
+use lib.ListN.{length, getD, take, drop, set, length-append, length-drop}
 use lib.Seq.{set-split}
 use mir.Val.{Fits}
 use mir.Syntax.{w8}
@@ -59,3 +59,19 @@ module _ (f : List ℕ) (at tag size : ℕ) (h : at + 3 ≤ length f) where
   pub heading-same : (eqb (getD f at 0) tag && begins (toBytes 2 size) (drop (at + 1) f)) ≡ begins (heading tag size) (drop at f)
   heading-same = sym (begins-next f (tag ∷ []) (toBytes 2 size) at (at + 1) refl ∙
       ap (λ (b : Bool). b && begins (toBytes 2 size) (drop (at + 1) f)) (place-tested f at tag (omega arith)))
+
+-- bytes put one after the other, from `at` on: two, and four
+pub two-stored : (o a b : List ℕ) (at i : ℕ) → i ≡ at + length a → i ≤ length o → stored i b (stored at a o) ≡ stored at (a ++ b) o
+two-stored o a b at i p h = rw p (stored-next at a b o (omega arith))
+
+module _ (o a b c d : List ℕ) (at i j k : ℕ) (p : i ≡ at + length a) (q : j ≡ i + length b) (r : k ≡ j + length c) where
+  pub four-stored : k ≤ length o → stored k d (stored j c (stored i b (stored at a o))) ≡ stored at (((a ++ b) ++ c) ++ d) o
+  four-stored h =
+      rw (two-stored o a b at i p (omega arith), two-stored o (a ++ b) c at j (omega (arith, length-append a b)) (omega arith))
+      (two-stored o ((a ++ b) ++ c) d at k (omega (arith, length-append a b, length-append (a ++ b) c)) h)
+
+  -- and compared
+  pub four-same : (f : List ℕ) →
+      (begins a (drop at f) && (begins b (drop i f) && (begins c (drop j f) && begins d (drop k f)))) ≡ begins (a ++ (b ++ (c ++ d))) (drop at f)
+  four-same f = sym (begins-next f a (b ++ (c ++ d)) at i p ∙ ap (λ (x : Bool). begins a (drop at f) && x)
+      (begins-next f b (c ++ d) i j q ∙ ap (λ (x : Bool). begins b (drop i f) && x) (begins-next f c d j k r)))

@@ -1,85 +1,69 @@
--- `mrd_index::columns::put_places` meets its contract. The loop's invariant: the columns hold the entries of the records that were passed. The measure
--- is the bytes of the stream left.
--- Assumes nothing.
-use Prim.Native.Nat.{_-_}
-use native.Mathlib.Omega.{arith}
-use mathlib.Core.Path.{_≡_, sym, ap, _∙_}
-use borrow.Author.Needs.{needs}
-use denote.Ref.{now}
-use lib.ListN.{length}
-use Rattle.mrd_stream.specs.Places.{handed, step}
-use Rattle.mrd_stream.specs.StepLaws.{step-handed, on-less}
-use Rattle.mrd_stream.specs.Told.{toldRecord, toldStep}
-use Rattle.mrd_index.specs.Entries.{passes-within}
-use Rattle.mrd_index.specs.Columns.{FillingAll, start, few, start-place, id-place, counter-place, next, starts-size, ids-size, counters-size, finish}
 use Rattle.mrd_index.proofs.columns.put_places.Statement.{statement}
 use Rattle.mrd_index.proofs.columns.put_places.Tie as tie
+use Rattle.mrd_index.proofs.columns.put_places.Reads as reads
+use Rattle.mrd_index.proofs.columns.put_places.Lts as lts
+use Rattle.mrd_index.proofs.columns.put_place.Reads as put-place-reads
+use Rattle.mrd_index.proofs.entry.entry_of.Reads as entry-of-reads
+use Rattle.mrd_stream.proofs.cursor.Cursor.beginning.Reads as beginning-reads
+use Rattle.mrd_stream.proofs.cursor.Cursor.next.Reads as next-reads
 
 abbrev Inv-loop : tie.InvT-loop
-Inv-loop s starts₀ ids₀ counters₀ c₀ starts ids counters c = FillingAll s starts₀ ids₀ counters₀ c starts ids counters
+Inv-loop s starts₀ ids₀ counters₀ c₀ starts ids counters c = ?
 
 abbrev μ-loop : tie.MeasureT-loop
-μ-loop s starts₀ ids₀ counters₀ c₀ starts ids counters c = length s - c .start
+μ-loop s starts₀ ids₀ counters₀ c₀ starts ids counters c = ?
 
+-- src/columns.rt:64:9
 beginning-requires : tie.Need-beginning-requires Inv-loop μ-loop
-beginning-requires c κs = search needs
+beginning-requires c κs = ?
 
+-- src/columns.rt:65:5
 loop-holds : tie.Need-loop-holds Inv-loop μ-loop
-loop-holds c = rw (c .beginning .ensures) (start (c .before .before .before .before .before .pre))
+loop-holds c = ?
 
+-- src/columns.rt:66:13
 next-requires : tie.Need-next-requires Inv-loop μ-loop
-next-requires c κs = search needs
+next-requires c κs = ?
 
+-- src/columns.rt:68:27
 enum-known-step : tie.Need-enum-known-step Inv-loop μ-loop
-enum-known-step c = search needs
+enum-known-step c = ?
 
-passed : (c : tie.After-step Inv-loop μ-loop) →
-    let given = c .step .given .0 in
-    step (c .before .before .before .loop .c) (now
-    (c .before .before .before .before .before .before .before .before .before .args .s)) ≡ handed (toldRecord (given .0)) (given .1 .0)
-passed c = sym (c .before .before .next .ensures) ∙ ap toldStep (c .step .given .1)
-
+-- src/columns.rt:70:21
 entry-of-requires : tie.Need-entry-of-requires Inv-loop μ-loop
-entry-of-requires c κs = passes-within (step-handed _ _ (passed (c .before .before)))
+entry-of-requires c κs = ?
 
-mul-starts : tie.Need-mul-starts Inv-loop μ-loop
-mul-starts c = omega (arith, few (c .before .before .before .before .before .before .loop .inv) (passed (c .before .before .before)))
+-- src/columns.rt:71:17
+put-place-requires : tie.Need-put-place-requires Inv-loop μ-loop
+put-place-requires c κs = ?
 
-slice-write-starts : tie.Need-slice-write-starts Inv-loop μ-loop
-slice-write-starts c = start-place (c .before .before .before .before .before .before .loop .inv) (passed (c .before .before .before))
-
-mul-ids : tie.Need-mul-ids Inv-loop μ-loop
-mul-ids c = omega (arith, few (c .before .before .before .before .before .before .loop .inv) (passed (c .before .before .before)))
-
-slice-write-ids : tie.Need-slice-write-ids Inv-loop μ-loop
-slice-write-ids c = id-place (c .before .before .before .before .before .before .loop .inv) (passed (c .before .before .before))
-
-mul-counters : tie.Need-mul-counters Inv-loop μ-loop
-mul-counters c = omega (arith, few (c .before .before .before .before .before .before .loop .inv) (passed (c .before .before .before)))
-
-slice-write-counters : tie.Need-slice-write-counters Inv-loop μ-loop
-slice-write-counters c = counter-place (c .before .before .before .before .before .before .loop .inv) (passed (c .before .before .before))
-
+-- src/columns.rt:65:5
 loop-less : tie.Need-loop-less Inv-loop μ-loop
-loop-less c = on-less _ (step-handed _ _ (passed (c .before .before .before)))
+loop-less c = ?
 
+-- src/columns.rt:65:5
 loop-again : tie.Need-loop-again Inv-loop μ-loop
-loop-again c = next (c .before .before .before .before .before .before .loop .inv) (passed (c .before .before .before)) (c .entry-of .ensures)
+loop-again c = ?
 
+-- src/columns.rt:75:17
 enum-told : tie.Need-enum-told Inv-loop μ-loop
-enum-told c = search needs
+enum-told c = ?
 
+-- src/columns.rt:75:17
 same-length : tie.Need-same-length Inv-loop μ-loop
-same-length c = starts-size (c .before .before .before .loop .inv)
+same-length c = ?
 
+-- src/columns.rt:75:17
 same-length-2 : tie.Need-same-length-2 Inv-loop μ-loop
-same-length-2 c = ids-size (c .before .before .before .loop .inv)
+same-length-2 c = ?
 
+-- src/columns.rt:75:17
 same-length-3 : tie.Need-same-length-3 Inv-loop μ-loop
-same-length-3 c = counters-size (c .before .before .before .loop .inv)
+same-length-3 c = ?
 
+-- src/columns.rt:75:17
 returns : tie.Need-returns Inv-loop μ-loop
-returns c = finish (c .before .before .before .loop .inv) (sym (c .before .before .next .ensures) ∙ ap toldStep (c .enum-told .given .1))
+returns c = ?
 
 pub put-places-spec : {M : Type 1} → statement M
 put-places-spec =
@@ -92,12 +76,7 @@ put-places-spec =
     next-requires
     enum-known-step
     entry-of-requires
-    mul-starts
-    slice-write-starts
-    mul-ids
-    slice-write-ids
-    mul-counters
-    slice-write-counters
+    put-place-requires
     loop-less
     loop-again
     enum-told

@@ -1,97 +1,69 @@
--- `mrd_index::file::put_entries` meets its contract. The loop's invariant: out holds the entries of the records that were passed from byte 16 on.
--- The measure is the bytes of the stream left.
--- Assumes nothing.
-use Prim.Native.Nat.{_+_, _*_, _-_, _≤_}
-use native.Mathlib.Omega.{arith}
-use mathlib.Core.Path.{sym, ap, _∙_}
-use borrow.Author.Needs.{needs}
-use denote.Ref.{now}
-use mathlib.Core.List.{_++_}
-use lib.ListN.{length, drop, length-drop}
-use Rattle.mrd_numbers.specs.Stored.{stored-lent, lent-is, lentFrom}
-use Rattle.mrd_stream.specs.Index.{Entry}
-use Rattle.mrd_stream.specs.StepLaws.{Passes, step-handed, on-less}
-use Rattle.mrd_stream.specs.Told.{toldRecord, toldStep}
-use Rattle.mrd_index.specs.Entries.{entryAt, passes-within}
-use Rattle.mrd_index.specs.File.{entryField}
-use Rattle.mrd_index.specs.Filling.{inFile, Filling, start, same-size, room, next, finish}
 use Rattle.mrd_index.proofs.file.put_entries.Statement.{statement}
 use Rattle.mrd_index.proofs.file.put_entries.Tie as tie
+use Rattle.mrd_index.proofs.file.put_entries.Reads as reads
+use Rattle.mrd_index.proofs.file.put_entries.Lts as lts
+use Rattle.mrd_index.proofs.entry.entry_of.Reads as entry-of-reads
+use Rattle.mrd_index.proofs.file.put_entry.Reads as put-entry-reads
+use Rattle.mrd_stream.proofs.cursor.Cursor.beginning.Reads as beginning-reads
+use Rattle.mrd_stream.proofs.cursor.Cursor.next.Reads as next-reads
 
 abbrev Inv-loop : tie.InvT-loop
-Inv-loop s out₀ c₀ out c = Filling inFile s out₀ c out
+Inv-loop s out₀ c₀ out c = ?
 
 abbrev μ-loop : tie.MeasureT-loop
-μ-loop s out₀ c₀ out c = length s - c .start
+μ-loop s out₀ c₀ out c = ?
 
+-- src/file.rt:69:9
 beginning-requires : tie.Need-beginning-requires Inv-loop μ-loop
-beginning-requires c κs = search needs
+beginning-requires c κs = ?
 
+-- src/file.rt:70:5
 loop-holds : tie.Need-loop-holds Inv-loop μ-loop
-loop-holds c = rw (c .beginning .ensures) (start {f = inFile} (c .before .before .before .pre))
+loop-holds c = ?
 
+-- src/file.rt:71:13
 next-requires : tie.Need-next-requires Inv-loop μ-loop
-next-requires c κs = search needs
+next-requires c κs = ?
 
+-- src/file.rt:73:27
 enum-known-step : tie.Need-enum-known-step Inv-loop μ-loop
-enum-known-step c = search needs
+enum-known-step c = ?
 
-passed : (c : tie.After-step Inv-loop μ-loop) →
-    let step = c .step .given .0 in
-    Passes (c .before .before .before .loop .c) (now (c .before .before .before .before .before .before .before .args .s))
-    (toldRecord (step .0)) (step .1 .0)
-passed c =
-    let loop = c .before .before .before .loop in
-    step-handed (loop .c) (now (c .before .before .before .before .before .before .before .args .s))
-    (sym (c .before .before .next .ensures) ∙ ap toldStep (c .step .given .1))
-
-fits : (c : tie.After-step Inv-loop μ-loop) → 16 + 17 * c .step .given .0 .0 .place .number + 17 ≤ length (c .before .before .before .loop .out)
-fits c = room (c .before .before .before .loop .inv) (passed c)
-
+-- src/file.rt:75:21
 entry-of-requires : tie.Need-entry-of-requires Inv-loop μ-loop
-entry-of-requires c κs = passes-within (passed (c .before .before))
+entry-of-requires c κs = ?
 
-mul-at : tie.Need-mul-at Inv-loop μ-loop
-mul-at c = omega (arith, fits (c .before .before .before .before), same-size (c .before .before .before .before .before .before .before .loop .inv))
+-- src/file.rt:76:40
+mul-put-entry : tie.Need-mul-put-entry Inv-loop μ-loop
+mul-put-entry c = ?
 
-add-at : tie.Need-add-at Inv-loop μ-loop
-add-at c = omega (arith, fits (c .before .before .before .before), same-size (c .before .before .before .before .before .before .before .loop .inv))
+-- src/file.rt:76:32
+add-put-entry : tie.Need-add-put-entry Inv-loop μ-loop
+add-put-entry c = ?
 
-sub-put-entry : tie.Need-sub-put-entry Inv-loop μ-loop
-sub-put-entry c = omega (arith, fits (c .before .before .before .before))
-
-part-put-entry-start : tie.Need-part-put-entry-start Inv-loop μ-loop
-part-put-entry-start c = omega (arith, fits (c .before .before .before .before))
-
-part-put-entry-end : tie.Need-part-put-entry-end Inv-loop μ-loop
-part-put-entry-end c = omega arith
-
+-- src/file.rt:76:17
 put-entry-requires : tie.Need-put-entry-requires Inv-loop μ-loop
-put-entry-requires c κs = rw lent-is (simp length-drop (omega (arith, fits (c .before .before .before .before .before))))
+put-entry-requires c κs = ?
 
+-- src/file.rt:70:5
 loop-less : tie.Need-loop-less Inv-loop μ-loop
-loop-less c =
-    let step = c .before .before .before .before .before .before .before .before in
-    on-less (now (step .before .before .before .before .before .before .before .args .s)) (passed step)
+loop-less c = ?
 
+-- src/file.rt:70:5
 loop-again : tie.Need-loop-again Inv-loop μ-loop
-loop-again c =
-    let step = c .before .before .before .before .before .before .before .before in
-    let s = now (step .before .before .before .before .before .before .before .args .s) in
-    let at = 16 + 17 * step .step .given .0 .0 .place .number in
-    let out = step .before .before .before .loop .out in
-    next (step .before .before .before .loop .inv) (passed step)
-    (stored-lent at out (entryField (entryAt s (toldRecord (step .step .given .0 .0)))) _ (c .before .before .put-entry .ensures ∙
-    ap (λ (e : Entry). entryField e ++ drop 17 (lentFrom at out)) (c .before .before .before .before .before .entry-of .ensures)))
+loop-again c = ?
 
+-- src/file.rt:80:17
 enum-told : tie.Need-enum-told Inv-loop μ-loop
-enum-told c = search needs
+enum-told c = ?
 
+-- src/file.rt:80:17
 same-length : tie.Need-same-length Inv-loop μ-loop
-same-length c = same-size (c .before .before .before .loop .inv)
+same-length c = ?
 
+-- src/file.rt:80:17
 returns : tie.Need-returns Inv-loop μ-loop
-returns c = finish (c .before .before .before .loop .inv) (sym (c .before .before .next .ensures) ∙ ap toldStep (c .enum-told .given .1))
+returns c = ?
 
 pub put-entries-spec : {M : Type 1} → statement M
 put-entries-spec =
@@ -104,11 +76,8 @@ put-entries-spec =
     next-requires
     enum-known-step
     entry-of-requires
-    mul-at
-    add-at
-    sub-put-entry
-    part-put-entry-start
-    part-put-entry-end
+    mul-put-entry
+    add-put-entry
     put-entry-requires
     loop-less
     loop-again

@@ -10,10 +10,11 @@ use lib.Dec.{ltb, leb}
 use lib.ListN.{length, drop, length-map}
 use Rattle.mrd_logic.specs.Choice.{neither}
 use Rattle.mrd_numbers.specs.Stored.{stored, front, stored-front}
-use Rattle.mrd_stream.specs.declared.cursor.Cursor.{Cursor}
-use Rattle.mrd_stream.specs.Walk.{Verdict, accepted, refused, answer, beginning}
+use Rattle.mrd_cursor.specs.declared.cursor.Cursor.{Cursor}
+use Rattle.mrd_logic.specs.Answer.{Verdict, accepted, refused, answered, stream, number}
+use Rattle.mrd_stream.specs.Walk.{answer}
+use Rattle.mrd_cursor.specs.Cursors.{beginning}
 use Rattle.mrd_stream.specs.Index.{Entry, entries, startColumn, idColumn, counterColumn}
-use Rattle.mrd_stream.specs.Output.{written, stream, number}
 use Rattle.mrd_stream.specs.Places.{Located, over, step}
 use Rattle.mrd_stream.specs.StepLaws.{Passes}
 use Rattle.mrd_index.specs.Counted.{entries-count}
@@ -32,7 +33,7 @@ rooms n a b c e =
 -- place n of columns that have more places is not missing
 pub place-there : (n a b c : ℕ) → Rooms (n + 1) a b c → (leb a n || (leb b n || leb c n)) ≡ true → ⊥
 place-there n a b c r e =
-    false≢true (simp (lt-leb n a (omega (arith, r .starts)), lt-leb n b (omega (arith, r .ids)), lt-leb n c (omega (arith, r .counters))) at e)
+    false≢true (simp (lt-leb a n (omega (arith, r .starts)), lt-leb b n (omega (arith, r .ids)), lt-leb c n (omega (arith, r .counters))) at e)
 
 -- a refused stream
 pub stream-refused : (s : List ℕ) {f r b : ℕ} → answer s ≡ refused f r b → (x y z : ℕ) → columnsAnswer s x y z ≡ stream f r b
@@ -46,7 +47,7 @@ module _ (s : List ℕ) {n : ℕ} (e : answer s ≡ accepted n) where
   unfolding columnsAnswer
   column-short a b c h = simp (e, entries-count s e, h)
 
-  pub columns-fit : (a b c : ℕ) → (ltb a n || (ltb b n || ltb c n)) ≡ false → columnsAnswer s a b c ≡ written n
+  pub columns-fit : (a b c : ℕ) → (ltb a n || (ltb b n || ltb c n)) ≡ false → columnsAnswer s a b c ≡ answered n
   unfolding columnsAnswer
   columns-fit a b c h = simp (e, entries-count s e, h)
 

@@ -7,10 +7,11 @@ use lib.Dec.{ltb}
 use lib.ListN.{length}
 use Rattle.mrd_stream.specs.Walk.{answer}
 use Rattle.mrd_stream.specs.Index.{entries}
-use Rattle.mrd_stream.specs.Output.{OutputAnswer, answerBy}
+use Rattle.mrd_logic.specs.Answer.{Answer}
+use Rattle.mrd_stream.specs.Output.{answerBy}
 
 -- 'the stream refusal, then 14 if any column is too short', by the lengths of the three; else the number of records
-unfoldable pub columnsAnswer : List ℕ → ℕ → ℕ → ℕ → OutputAnswer
+unfoldable pub columnsAnswer : List ℕ → ℕ → ℕ → ℕ → Answer ℕ
 columnsAnswer s a b c =
     answerBy (answer s) (ltb a (length (entries s)) || (ltb b (length (entries s)) || ltb c (length (entries s)))) (length (entries s))
 

@@ -4,7 +4,9 @@ use Prim.Native.Nat.{ℕ, suc, _≤_}
 use mathlib.Core.Path.{_≡_, refl, sym, ap, _∙_}
 use mathlib.Core.List.{List}
 use lib.ListN.{length}
-use Rattle.mrd_stream.specs.Walk.{messageLimit, Trace, message, done, accepted, trace, answer}
+use Rattle.mrd_cursor.specs.Cursors.{maxMessages}
+use Rattle.mrd_stream.specs.Walk.{Trace, message, done, trace, answer}
+use Rattle.mrd_logic.specs.Answer.{accepted}
 use Rattle.mrd_stream.specs.Index.{entriesOf, entries}
 use Rattle.mrd_cut.specs.Walked.{piecesOf}
 use Rattle.mrd_cut.specs.Accepted.{accepted-cut}
@@ -18,5 +20,5 @@ module _ (s : List ℕ) {n : ℕ} (e : answer s ≡ accepted n) where
   unfolding entries
   entries-count = let a = accepted-cut s e in one-each (trace s) ∙ ap length (sym (a .1)) ∙ a .2
 
-  pub few : n ≤ messageLimit
+  pub few : n ≤ maxMessages
   few = let a = accepted-cut s e in rw (← a .2) (a .0 .few)

@@ -7,9 +7,10 @@ use mathlib.Core.List.{List, [], _∷_, _++_, append-assoc}
 use lib.ListN.{length, length-append}
 use Rattle.mrd_numbers.specs.Stored.{stored, stored-front, length-stored}
 use Rattle.mrd_tagged.specs.TaggedLaws.{two-stored}
-use Rattle.mrd_stream.specs.Walk.{accepted, answer}
+use Rattle.mrd_logic.specs.Answer.{accepted, answered}
+use Rattle.mrd_stream.specs.Walk.{answer}
 use Rattle.mrd_stream.specs.Index.{Entry, entries, frontField, entryField, entryFields, endField, index}
-use Rattle.mrd_stream.specs.Output.{written, Answered, output-fits}
+use Rattle.mrd_stream.specs.Output.{Answered, output-fits}
 use Rattle.mrd_index.specs.Counted.{entries-count}
 
 -- an entry's field has 17 bytes
@@ -36,7 +37,7 @@ module _ (s : List ℕ) {n : ℕ} (e : answer s ≡ accepted n) where
 
     -- then the entries and the end
     pub all-written : (b c : List ℕ) → b ≡ stored 16 (entryFields (entries s)) a → c ≡ stored (16 + 17 * n) (endField n) b →
-        Answered s (length (index s)) (index s) o (written (16 + 17 * n + 7)) c
+        Answered s (length (index s)) (index s) o (answered (16 + 17 * n + 7)) c
     all-written b c p q =
         let f = frontField (length s) in
         let es = entryFields (entries s) in
@@ -46,4 +47,4 @@ module _ (s : List ℕ) {n : ℕ} (e : answer s ≡ accepted n) where
         let ended : c ≡ stored 0 ((f ++ es) ++ t) o = q ∙ ap (stored (16 + 17 * n) t) filled ∙ two-stored o (f ++ es) t 0 (16 + 17 * n) place (omega arith) in
         let whole : (f ++ es) ++ t ≡ index s = append-assoc f es t ∙ sym index-fields in
         let right = output-fits s (length (index s)) (index s) o e (rw index-long h) in
-        (ap written (sym index-long) ∙ right .0, ended ∙ rw whole (stored-front (index s) o ∙ right .1))
+        (ap answered (sym index-long) ∙ right .0, ended ∙ rw whole (stored-front (index s) o ∙ right .1))

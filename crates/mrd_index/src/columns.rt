@@ -4,15 +4,16 @@ ghost use Prim.Native.Nat.{_+_};
 ghost use mathlib.Core.List.{[], _∷_};
 ghost use lib.ListN.{length};
 ghost use Rattle.mrd_numbers.specs.Stored.{stored, front};
-ghost use Rattle.mrd_stream.specs.Walk.{accepted, answer};
+ghost use Rattle.mrd_logic.specs.Answer.{accepted};
+ghost use Rattle.mrd_stream.specs.Walk.{answer};
 ghost use Rattle.mrd_stream.specs.Index.{entries, startColumn, idColumn, counterColumn};
 ghost use Rattle.mrd_stream.specs.Output.{toldWritten, outputBy};
 ghost use Rattle.mrd_index.specs.Columns.{columnsAnswer, Rooms};
 use crate::entry::Entry;
 use crate::entry::entry_of;
+use mrd_cursor::Cursor;
 use mrd_format::refusal;
 use mrd_stream::Checked;
-use mrd_stream::Cursor;
 use mrd_stream::Step;
 use mrd_stream::Written;
 use mrd_stream::check;
@@ -63,7 +64,7 @@ fn put_places(s: &[u8], starts: &mut [u64], ids: &mut [u16], counters: &mut [u32
 {
     let mut c = Cursor::beginning();
     loop {
-        let step = c.next(s);
+        let step = mrd_stream::next(c, s);
         match step {
             Step::Message(record, next) => {
                 let place = record.place;

@@ -1,12 +1,8 @@
 // The index's entry for one record: where it starts, its id and its scan counter.
 ghost use mathlib.Core.Path.{_≡_};
-ghost use Prim.Native.Nat.{_+_, _≤_};
-ghost use lib.ListN.{length, drop};
-ghost use Rattle.mrd_format.specs.Kinds.{fixedSize};
-ghost use Rattle.mrd_format.specs.Message.{fixedPart};
 ghost use Rattle.mrd_stream.specs.Told.{toldRecord};
 ghost use Rattle.mrd_index.specs.Entries.{toldEntry, entryAt, Within};
-use mrd_format::Kind;
+use mrd_judge::fixed_part;
 use mrd_message::scan_counter;
 use mrd_stream::Record;
 
@@ -28,16 +24,6 @@ pub fn entry_of(s: &[u8], here: Record) -> Entry
     Entry {
         start: start as u64,
         id: kind.id(),
-        counter: scan_counter(kind, fixed_part(s, start, kind)),
+        counter: scan_counter(kind, fixed_part(kind, &s[start..])),
     }
-}
-
-// The fixed part of the message of this kind that starts there.
-fn fixed_part(s: &[u8], start: usize, kind: Kind) -> &[u8]
-    requires { ⌜ start + (2 + fixedSize kind) ≤ length (now s) ⌝ }
-    ensures { λ r. ⌜ now r ≡ fixedPart kind (drop start (now (s .entry))) ⌝ }
-{
-    let from = start + 2;
-    let to = from + kind.fixed_size();
-    &s[from..to]
 }

@@ -9,11 +9,12 @@ use lib.ListN.{length, drop}
 use lib.Seq.{drop-drop}
 use Rattle.mrd_logic.specs.Lists.{begins, equal}
 use Rattle.mrd_logic.specs.ListLaws.{begins-next, equal-append}
-use Rattle.mrd_stream.specs.Walk.{Verdict, accepted, refused, answer}
+use Rattle.mrd_logic.specs.Answer.{Verdict, accepted, refused}
+use Rattle.mrd_stream.specs.Walk.{answer}
 use Rattle.mrd_stream.specs.Index.{Entry, entries, frontField, entryField, entryFields, endField, index, startColumn, idColumn, counterColumn}
 use Rattle.mrd_index.specs.FileLaws.{entries-long, index-fields}
 use Rattle.mrd_index_match.specs.declared.compare.Form.the-variants.{File, Columns}
-use Rattle.mrd_index_match.specs.Compare.{believed, unlessRefused, fileMatch, columnsMatch, Given, given, allSame, endBy, conclusion}
+use Rattle.mrd_index_match.specs.Compare.{believed, fileMatch, columnsMatch, Given, given, allSame, endBy, conclusion}
 
 -- in a file, the entries' fields stand one after the other
 fields-held : (f a b c : List ℕ) (i : ℕ) (es : List Entry) →

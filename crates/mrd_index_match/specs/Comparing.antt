@@ -5,8 +5,10 @@ use native.Mathlib.Numerals.{add-one}
 use mathlib.Core.Path.{_≡_, refl, sym, ap, _∙_}
 use mathlib.Core.Bool.{Bool, true, false, _&&_, and-assoc, and-true}
 use mathlib.Core.List.{List}
-use Rattle.mrd_stream.specs.declared.cursor.Cursor.{Cursor}
-use Rattle.mrd_stream.specs.Walk.{Verdict, accepted, refused, beginning, verdict, answer}
+use Rattle.mrd_cursor.specs.declared.cursor.Cursor.{Cursor}
+use Rattle.mrd_logic.specs.Answer.{Verdict, accepted, refused}
+use Rattle.mrd_cursor.specs.Cursors.{beginning}
+use Rattle.mrd_stream.specs.Walk.{verdict, answer}
 use Rattle.mrd_stream.specs.Index.{Entry, entryOf, entriesOf, entries}
 use Rattle.mrd_stream.specs.Places.{Located, over, step}
 use Rattle.mrd_stream.specs.StepLaws.{Passes, On, on-start, on-next, on-end}

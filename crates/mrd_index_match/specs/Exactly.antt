@@ -10,10 +10,11 @@ use lib.ListN.{length, take}
 use Rattle.mrd_logic.specs.Choice.{both, is-false}
 use Rattle.mrd_logic.specs.Lists.{begins, equal}
 use Rattle.mrd_logic.specs.ListLaws.{equal-refl, equal-same, begins-take, take-begins}
-use Rattle.mrd_logic.specs.Answer.{Answer, answered, stream, number}
-use Rattle.mrd_stream.specs.Walk.{Verdict, accepted, refused, answer}
+use Rattle.mrd_logic.specs.Answer.{Answer, stream, number, Verdict, accepted, refused}
+use Rattle.mrd_stream.specs.Walk.{answer}
 use Rattle.mrd_stream.specs.Index.{index, startColumn, idColumn, counterColumn}
-use Rattle.mrd_index_match.specs.Compare.{believed, unlessRefused, fileMatch, columnsMatch}
+use Rattle.mrd_index_match.specs.Compare.{believed, fileMatch, columnsMatch}
+use Rattle.mrd_logic.specs.Answer as answers
 
 -- columns: 'none is too short and the records' places hold its numbers'
 pub record Held (s starts ids counters : List ℕ) : Type 0 where
@@ -30,7 +31,7 @@ pub record Accepted (s : List ℕ) (P : Type 0) : Type 0 where
 -- m is answered for an index given with s, where `own` says that it is the one that s yields: it is believed exactly when s is accepted and it is;
 -- refused with a number, which is 15, exactly when s is accepted and it is not; and else the stream's refusal
 pub record Exactly (s : List ℕ) (own : Type 0) (m : Answer (Unit {0})) : Type 0 where
-  pub own-believed : (m ≡ answered tt) ↔ Accepted s own
+  pub own-believed : (m ≡ answers.answered tt) ↔ Accepted s own
   pub other-15 : (m ≡ number 15) ↔ Accepted s (own → ⊥)
   pub no-other-number : {k : ℕ} → m ≡ number k → k ≡ 15
   pub stream-first : {f r b : ℕ} → (m ≡ stream f r b) ↔ (answer s ≡ refused f r b)

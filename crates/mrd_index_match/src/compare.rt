@@ -5,18 +5,19 @@ ghost use Prim.Native.Nat.{_<_, _≤_, _^_};
 ghost use mathlib.Core.List.{[], _∷_};
 ghost use lib.ListN.{drop};
 ghost use Rattle.mrd_logic.specs.Lists.{begins, equal};
-ghost use Rattle.mrd_stream.specs.Walk.{messageLimit, answer as streamAnswer};
+ghost use Rattle.mrd_cursor.specs.Cursors.{maxMessages};
+ghost use Rattle.mrd_stream.specs.Walk.{answer as streamAnswer};
 ghost use Rattle.mrd_stream.specs.Index.{entries, frontField, entryField, endField};
 ghost use Rattle.mrd_stream.specs.Told.{toldChecked, toldRecord};
 ghost use Rattle.mrd_index.specs.Entries.{toldEntry, entryAt, Within};
 ghost use Rattle.mrd_index_match.specs.Compare.{toldMatched, fileMatch, columnsMatch, given, entryBy, allSame, endBy, Counts, conclusion};
+use mrd_cursor::Cursor;
 use mrd_index::END;
 use mrd_index::ENTRY;
 use mrd_index::Entry;
 use mrd_index::FRONT;
 use mrd_index::entry_of;
 use mrd_stream::Checked;
-use mrd_stream::Cursor;
 use mrd_stream::Record;
 use mrd_stream::Refusal;
 use mrd_stream::Step;
@@ -76,7 +77,7 @@ fn compare(
     let mut same = front;
     let mut c = Cursor::beginning();
     loop {
-        let step = c.next(s);
+        let step = mrd_stream::next(c, s);
         match step {
             Step::Message(record, next) => {
                 if same {
@@ -101,7 +102,7 @@ fn record_same(
     ids: &[u16],
     counters: &[u32],
 ) -> bool
-    requires { ⌜ Within (now s) (toldRecord here) × (here .place .number < messageLimit) ⌝ }
+    requires { ⌜ Within (now s) (toldRecord here) × (here .place .number < maxMessages) ⌝ }
     ensures { λ r. ⌜ r ≡ entryBy form (given form (now (file .entry)) (now (starts .entry)) (now (ids .entry)) (now (counters .entry))) (here .place .number) (entryAt (now (s .entry)) (toldRecord here)) ⌝ }
 {
     let place = here.place;
@@ -169,7 +170,7 @@ fn concluded(same: bool, answer: Checked, form: Form, file: &[u8]) -> Matched
 
 // Whether the given form ends as the index of a stream of so many records.
 fn end_same(form: Form, file: &[u8], count: usize) -> bool
-    requires { ⌜ count ≤ messageLimit ⌝ }
+    requires { ⌜ count ≤ maxMessages ⌝ }
     ensures { λ r. ⌜ r ≡ endBy form (now (file .entry)) count ⌝ }
 {
     match form {

@@ -6,7 +6,7 @@ use mathlib.Core.List.{List, [], _∷_}
 use lib.ListN.{drop}
 use Rattle.mrd_logic.specs.Choice.{pick}
 use Rattle.mrd_logic.specs.Lists.{begins, equal}
-use Rattle.mrd_logic.specs.Answer.{Answer, stream, number, Verdict, accepted, refused}
+use Rattle.mrd_logic.specs.Answer.{Verdict, accepted, refused, Answer, answered, stream, number, unlessRefused}
 use Rattle.mrd_cursor.specs.Cursors.{maxMessages}
 use Rattle.mrd_stream.specs.Walk.{answer}
 use Rattle.mrd_stream.specs.Index.{Entry, entryField, endField, index, startColumn, idColumn, counterColumn}
@@ -14,17 +14,16 @@ use Rattle.mrd_index_match.specs.declared.compare.Form.{Form}
 use Rattle.mrd_index_match.specs.declared.compare.Form
 use Rattle.mrd_index_match.specs.declared.compare.Matched.{Matched}
 use Rattle.mrd_index_match.specs.declared.compare.Matched
-use Rattle.mrd_logic.specs.Answer as answers
 
 -- what each case of the enum says: the paper's number and values
 abbrev pub toldMatched : Matched → Answer (Unit {0})
-toldMatched Matched.Same = answers.answered tt
+toldMatched Matched.Same = answered tt
 toldMatched Matched.Differs = number 15
 toldMatched (Matched.Stream r) = stream (r .number) (r .record) (r .byte)
 
 -- 15 for an index that is found not to be the one that the stream yields
 abbrev pub believed : Bool → Answer (Unit {0})
-believed x = pick x (answers.answered tt) (number 15)
+believed x = pick x (answered tt) (number 15)
 
 -- 'its stream refusal first, then 15', for a given file, which is to be the index byte for byte
 unfoldable pub fileMatch : List ℕ → List ℕ → Answer (Unit {0})

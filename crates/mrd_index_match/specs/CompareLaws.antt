@@ -9,7 +9,7 @@ use lib.ListN.{length, drop}
 use lib.Seq.{drop-drop}
 use Rattle.mrd_logic.specs.Lists.{begins, equal}
 use Rattle.mrd_logic.specs.ListLaws.{begins-next, equal-append}
-use Rattle.mrd_logic.specs.Answer.{Verdict, accepted, refused}
+use Rattle.mrd_logic.specs.Answer.{Verdict, accepted, refused, unlessRefused}
 use Rattle.mrd_stream.specs.Walk.{answer}
 use Rattle.mrd_stream.specs.Index.{Entry, entries, frontField, entryField, entryFields, endField, index, startColumn, idColumn, counterColumn}
 use Rattle.mrd_index.specs.FileLaws.{entries-long, index-fields}

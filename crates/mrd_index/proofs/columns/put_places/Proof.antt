@@ -1,69 +1,69 @@
+-- `mrd_index::columns::put_places` meets its contract. The loop's invariant: the columns hold the entries of the records that were passed. The measure
+-- is the bytes of the stream left.
+-- Assumes nothing.
+use Prim.Native.Nat.{_-_}
+use mathlib.Core.Path.{sym, ap, _∙_}
+use borrow.Author.Needs.{needs}
+use denote.Ref.{now}
+use lib.ListN.{length}
+use Rattle.mrd_stream.specs.StepLaws.{Passes, step-handed, on-less}
+use Rattle.mrd_stream.specs.Told.{toldRecord, toldStep}
+use Rattle.mrd_index.specs.Entries.{passes-within}
+use Rattle.mrd_index.specs.Filling.{same-size}
+use Rattle.mrd_index.specs.ColumnLaws.{FillingAll, start, has-place, next, finish}
 use Rattle.mrd_index.proofs.columns.put_places.Statement.{statement}
 use Rattle.mrd_index.proofs.columns.put_places.Tie as tie
-use Rattle.mrd_index.proofs.columns.put_places.Reads as reads
-use Rattle.mrd_index.proofs.columns.put_places.Lts as lts
-use Rattle.mrd_index.proofs.columns.put_place.Reads as put-place-reads
-use Rattle.mrd_index.proofs.entry.entry_of.Reads as entry-of-reads
-use Rattle.mrd_stream.proofs.cursor.Cursor.beginning.Reads as beginning-reads
-use Rattle.mrd_stream.proofs.cursor.Cursor.next.Reads as next-reads
 
 abbrev Inv-loop : tie.InvT-loop
-Inv-loop s starts₀ ids₀ counters₀ c₀ starts ids counters c = ?
+Inv-loop s starts₀ ids₀ counters₀ c₀ starts ids counters c = FillingAll s starts₀ ids₀ counters₀ c starts ids counters
 
 abbrev μ-loop : tie.MeasureT-loop
-μ-loop s starts₀ ids₀ counters₀ c₀ starts ids counters c = ?
+μ-loop s starts₀ ids₀ counters₀ c₀ starts ids counters c = length s - c .start
 
--- src/columns.rt:64:9
 beginning-requires : tie.Need-beginning-requires Inv-loop μ-loop
-beginning-requires c κs = ?
+beginning-requires c κs = search needs
 
--- src/columns.rt:65:5
 loop-holds : tie.Need-loop-holds Inv-loop μ-loop
-loop-holds c = ?
+loop-holds c = rw (c .beginning .ensures) (start (c .before .before .before .before .before .pre))
 
--- src/columns.rt:66:13
 next-requires : tie.Need-next-requires Inv-loop μ-loop
-next-requires c κs = ?
+next-requires c κs = search needs
 
--- src/columns.rt:68:27
 enum-known-step : tie.Need-enum-known-step Inv-loop μ-loop
-enum-known-step c = ?
+enum-known-step c = search needs
 
--- src/columns.rt:70:21
+passed : (c : tie.After-step Inv-loop μ-loop) →
+    let given = c .step .given .0 in
+    Passes (c .before .before .before .loop .c) (now (c .before .before .before .before .before .before .before .before .before .args .s))
+    (toldRecord (given .0)) (given .1 .0)
+passed c = step-handed _ _ (sym (c .before .before .next .ensures) ∙ ap toldStep (c .step .given .1))
+
 entry-of-requires : tie.Need-entry-of-requires Inv-loop μ-loop
-entry-of-requires c κs = ?
+entry-of-requires c κs = passes-within (passed (c .before .before))
 
--- src/columns.rt:71:17
 put-place-requires : tie.Need-put-place-requires Inv-loop μ-loop
 put-place-requires c κs = ?
 
--- src/columns.rt:65:5
 loop-less : tie.Need-loop-less Inv-loop μ-loop
 loop-less c = ?
 
--- src/columns.rt:65:5
 loop-again : tie.Need-loop-again Inv-loop μ-loop
 loop-again c = ?
 
--- src/columns.rt:75:17
 enum-told : tie.Need-enum-told Inv-loop μ-loop
-enum-told c = ?
+enum-told c = search needs
 
--- src/columns.rt:75:17
 same-length : tie.Need-same-length Inv-loop μ-loop
-same-length c = ?
+same-length c = same-size (c .before .before .before .loop .inv .at-starts)
 
--- src/columns.rt:75:17
 same-length-2 : tie.Need-same-length-2 Inv-loop μ-loop
-same-length-2 c = ?
+same-length-2 c = same-size (c .before .before .before .loop .inv .at-ids)
 
--- src/columns.rt:75:17
 same-length-3 : tie.Need-same-length-3 Inv-loop μ-loop
-same-length-3 c = ?
+same-length-3 c = same-size (c .before .before .before .loop .inv .at-counters)
 
--- src/columns.rt:75:17
 returns : tie.Need-returns Inv-loop μ-loop
-returns c = ?
+returns c = finish (c .before .before .before .loop .inv) (sym (c .before .before .next .ensures) ∙ ap toldStep (c .enum-told .given .1))
 
 pub put-places-spec : {M : Type 1} → statement M
 put-places-spec =

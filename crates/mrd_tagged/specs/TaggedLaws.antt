@@ -61,14 +61,17 @@ module _ (f : List ℕ) (at tag size : ℕ) (h : at + 3 ≤ length f) where
       ap (λ (b : Bool). b && begins (toBytes 2 size) (drop (at + 1) f)) (place-tested f at tag (omega arith)))
 
 -- bytes put one after the other, from `at` on: two, and four
-pub two-stored : (o a b : List ℕ) (at i : ℕ) → i ≡ at + length a → i ≤ length o → stored i b (stored at a o) ≡ stored at (a ++ b) o
-two-stored o a b at i p h = rw p (stored-next at a b o (omega arith))
+pub two-stored : (o a b : List ℕ) (at i : ℕ) {x y : List ℕ} → x ≡ stored at a o → y ≡ stored i b x → i ≡ at + length a → i ≤ length o →
+    y ≡ stored at (a ++ b) o
+two-stored o a b at i e f p h = f ∙ ap (stored i b) e ∙ rw p (stored-next at a b o (omega arith))
 
 module _ (o a b c d : List ℕ) (at i j k : ℕ) (p : i ≡ at + length a) (q : j ≡ i + length b) (r : k ≡ j + length c) where
-  pub four-stored : k ≤ length o → stored k d (stored j c (stored i b (stored at a o))) ≡ stored at (((a ++ b) ++ c) ++ d) o
-  four-stored h =
-      rw (two-stored o a b at i p (omega arith), two-stored o (a ++ b) c at j (omega (arith, length-append a b)) (omega arith))
-      (two-stored o ((a ++ b) ++ c) d at k (omega (arith, length-append a b, length-append (a ++ b) c)) h)
+  pub four-stored : {x y z w : List ℕ} → k ≤ length o → x ≡ stored at a o → y ≡ stored i b x → z ≡ stored j c y → w ≡ stored k d z →
+      w ≡ stored at (((a ++ b) ++ c) ++ d) o
+  four-stored h e f g l =
+      let two = two-stored o a b at i e f p (omega arith) in
+      let three = two-stored o (a ++ b) c at j two g (omega (arith, length-append a b)) (omega arith) in
+      two-stored o ((a ++ b) ++ c) d at k three l (omega (arith, length-append a b, length-append (a ++ b) c)) h
 
   -- and compared
   pub four-same : (f : List ℕ) →

@@ -1,7 +1,6 @@
 -- `mrd_index::columns::put_place` meets its contract: the columns have the place, and each number is stored there.
 -- Assumes nothing.
 use native.Mathlib.Omega.{arith}
-use mathlib.Core.Path.{refl, _∙_}
 use borrow.Author.Needs.{needs}
 use denote.Ref.{now}
 use Rattle.mrd_tagged.specs.TaggedLaws.{set-stored}
@@ -43,7 +42,15 @@ same-length-3 : tie.Need-same-length-3
 same-length-3 c = search needs
 
 returns-2 : tie.Need-returns-2
-returns-2 c = ?
+returns-2 c =
+    let start = c .before in
+    let a = start .args in (
+      set-stored (now (a .starts)) (a .n) (a .entry .start) (omega (arith, start .pre .starts)),
+      (
+        set-stored (now (a .ids)) (a .n) (a .entry .id) (omega (arith, start .pre .ids)),
+        set-stored (now (a .counters)) (a .n) (a .entry .counter) (omega (arith, start .pre .counters)),
+      ),
+    )
 
 pub put-place-spec : {M : Type 1} → statement M
 put-place-spec =

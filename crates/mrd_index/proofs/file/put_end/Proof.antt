@@ -1,7 +1,8 @@
 -- `mrd_index::file::put_end` meets its contract: the count is stored right after its tag.
 -- Assumes nothing.
+use Prim.Native.Nat.{_+_}
 use native.Mathlib.Omega.{arith}
-use mathlib.Core.Path.{refl, _∙_}
+use mathlib.Core.Path.{refl}
 use borrow.Author.Needs.{needs}
 use denote.Ref.{now}
 use Rattle.mrd_numbers.specs.Little.{toBytes}
@@ -23,7 +24,12 @@ same-length : tie.Need-same-length
 same-length c = search needs
 
 returns : tie.Need-returns
-returns c = ?
+returns c =
+    let tag = c .before .before .before .before .before .before in
+    let start = tag .before .before .before in
+    let a = start .args in
+    two-stored (now (a .out)) (heading 4 4) (toBytes 4 (a .count)) (a .at) (a .at + 3) (tag .put-tag .ensures)
+    (c .before .before .put-u32-at .ensures) refl (omega (arith, start .pre))
 
 pub put-end-spec : {M : Type 1} → statement M
 put-end-spec =

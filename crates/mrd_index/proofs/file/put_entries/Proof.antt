@@ -47,19 +47,24 @@ entry-of-requires : tie.Need-entry-of-requires Inv-loop μ-loop
 entry-of-requires c κs = passes-within (passed (c .before .before))
 
 mul-put-entry : tie.Need-mul-put-entry Inv-loop μ-loop
-mul-put-entry c = omega (arith, fits (c .before .before .before .before), same-size (c .before .before .before .before .before .before .before .loop .inv))
+mul-put-entry c = omega (arith, fits (c .before .before .before .before .before), same-size (c .before .before .before .before .before .before .before .before .loop .inv))
 
 add-put-entry : tie.Need-add-put-entry Inv-loop μ-loop
-add-put-entry c = omega (arith, fits (c .before .before .before .before), same-size (c .before .before .before .before .before .before .before .loop .inv))
+add-put-entry c = omega (arith, fits (c .before .before .before .before .before), same-size (c .before .before .before .before .before .before .before .before .loop .inv))
 
 put-entry-requires : tie.Need-put-entry-requires Inv-loop μ-loop
-put-entry-requires c κs = fits (c .before .before .before .before)
+put-entry-requires c κs = fits (c .before .before .before .before .before)
 
 loop-less : tie.Need-loop-less Inv-loop μ-loop
-loop-less c = on-less _ (passed (c .before .before .before .before .before .before .before))
+loop-less c = on-less _ (passed (c .before .before .before .before .before .before .before .before))
 
 loop-again : tie.Need-loop-again Inv-loop μ-loop
-loop-again c = ?
+loop-again c =
+    let step = c .before .before .before .before .before .before .before .before in
+    let at = 16 + 17 * step .step .given .0 .0 .place .number in
+    next (step .before .before .before .loop .inv) (passed step)
+    (c .before .before .put-entry .ensures ∙ ap (λ (e : Entry). stored at (entryField e) (step .before .before .before .loop .out))
+    (c .before .before .before .before .before .entry-of .ensures))
 
 enum-told : tie.Need-enum-told Inv-loop μ-loop
 enum-told c = search needs

@@ -2,7 +2,7 @@
 -- Assumes nothing.
 use Prim.Native.Nat.{_+_}
 use native.Mathlib.Omega.{arith}
-use mathlib.Core.Path.{refl, _∙_}
+use mathlib.Core.Path.{refl}
 use borrow.Author.Needs.{needs}
 use denote.Ref.{now}
 use Rattle.mrd_numbers.specs.Little.{toBytes}
@@ -15,7 +15,7 @@ add-if1 : tie.Need-add-if1
 add-if1 c = search needs
 
 returns : tie.Need-returns
-returns c = absurd (omega (arith, c .if1 .taken, c .before .before .before .pre))
+returns c = absurd (omega (arith, c .if1 .taken, c .before .before .pre))
 
 put-tag-requires : tie.Need-put-tag-requires
 put-tag-requires c κs = search needs
@@ -42,7 +42,13 @@ same-length : tie.Need-same-length
 same-length c = search needs
 
 returns-2 : tie.Need-returns-2
-returns-2 c = ?
+returns-2 c =
+    let tag = c .before .before .before .before .before .before .before .before .before .before .before .before .before .before in
+    let start = tag .before .before .before .before in
+    let a = start .args in
+    four-stored (now (a .out)) (heading 3 14) (toBytes 8 (a .entry .start)) (toBytes 2 (a .entry .id)) (toBytes 4 (a .entry .counter))
+    (a .at) (a .at + 3) (a .at + 11) (a .at + 13) refl (omega arith) (omega arith) (omega (arith, start .pre)) (tag .put-tag .ensures)
+    (c .before .before .before .before .before .before .before .before .before .before .put-u64-at .ensures) (c .before .before .before .before .before .before .put-u16-at .ensures) (c .before .before .put-u32-at .ensures)
 
 pub put-entry-spec : {M : Type 1} → statement M
 put-entry-spec =

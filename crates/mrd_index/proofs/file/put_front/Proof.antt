@@ -1,7 +1,7 @@
 -- `mrd_index::file::put_front` meets its contract: the fields are stored one after the other.
 -- Assumes nothing.
 use native.Mathlib.Omega.{arith}
-use mathlib.Core.Path.{refl, _∙_}
+use mathlib.Core.Path.{refl}
 use borrow.Author.Needs.{needs}
 use denote.Ref.{now}
 use Rattle.mrd_numbers.specs.Little.{toBytes}
@@ -26,7 +26,13 @@ same-length : tie.Need-same-length
 same-length c = search needs
 
 returns : tie.Need-returns
-returns c = ?
+returns c =
+    let tag = c .before .before .before .before .before .before .before .before .before .before .before .before .before .before in
+    let start = tag .before .before .before in
+    let a = start .args in
+    four-stored (now (a .out)) (heading 1 2) (toBytes 2 1) (heading 2 8) (toBytes 8 (a .total)) 0 3 5 8 refl refl refl
+    (omega (arith, start .pre)) (tag .put-tag .ensures) (c .before .before .before .before .before .before .before .before .before .before .put-u16-at .ensures)
+    (c .before .before .before .before .before .before .put-tag2 .ensures) (c .before .before .put-u64-at .ensures)
 
 pub put-front-spec : {M : Type 1} → statement M
 put-front-spec =

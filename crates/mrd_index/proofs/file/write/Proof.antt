@@ -1,51 +1,63 @@
+-- `mrd_index::file::write` meets its contract: an output too short for the index is left as it is; else it holds the front, the entries and the end.
+-- Assumes nothing.
+use native.Mathlib.Omega.{arith}
 use borrow.Author.Needs.{needs}
+use denote.Ref.{now}
+use lib.ListN.{length}
+use Rattle.mrd_stream.specs.Index.{index}
+use Rattle.mrd_stream.specs.Output.{output-short}
+use Rattle.mrd_index.specs.Counted.{few}
+use Rattle.mrd_index.specs.FileLaws.{index-long, entries-room, all-written}
 use Rattle.mrd_index.proofs.file.write.Statement.{statement}
 use Rattle.mrd_index.proofs.file.write.Tie as tie
-use Rattle.mrd_index.proofs.file.write.Reads as reads
-use Rattle.mrd_index.proofs.file.write.Lts as lts
-use Rattle.mrd_index.proofs.file.put_end.Reads as put-end-reads
-use Rattle.mrd_index.proofs.file.put_entries.Reads as put-entries-reads
-use Rattle.mrd_index.proofs.file.put_front.Reads as put-front-reads
 
--- src/file.rt:54:23
 mul-end : tie.Need-mul-end
-mul-end c = ?
+mul-end c =
+    let start = c .before .before in
+    omega (arith, few (now (start .args .s)) (start .pre))
 
--- src/file.rt:54:15
 add-end : tie.Need-add-end
-add-end c = ?
+add-end c =
+    let start = c .before .before in
+    omega (arith, few (now (start .args .s)) (start .pre))
 
--- src/file.rt:55:16
 add-size : tie.Need-add-size
-add-size c = ?
+add-size c =
+    let start = c .before .before in
+    omega (arith, few (now (start .args .s)) (start .pre))
 
--- src/file.rt:57:9
 returns : tie.Need-returns
-returns c = ?
+returns c =
+    let start = c .before .before .before in
+    let s = now (start .args .s) in
+    output-short s (length (index s)) (index s) (now (start .args .out)) (start .pre) (rw (index-long s (start .pre)) (c .if1 .taken))
 
--- src/file.rt:59:5
 put-front-requires : tie.Need-put-front-requires
 put-front-requires c κs = search needs
 
--- src/file.rt:60:5
 put-entries-requires : tie.Need-put-entries-requires
-put-entries-requires c κs = ?
+put-entries-requires c κs =
+    let test = c .before .before .before .before .before in
+    let start = test .before .before .before in
+    entries-room (now (start .args .s)) (start .pre) (now (start .args .out)) _ (test .if1 .left) (c .before .before .before .put-front .ensures)
 
--- src/file.rt:61:23
 cast-put-end : tie.Need-cast-put-end
-cast-put-end c = ?
+cast-put-end c =
+    let start = c .before .before .before .before .before .before .before .before .before .before .before .before in
+    omega (arith, few (now (start .args .s)) (start .pre))
 
--- src/file.rt:61:5
 put-end-requires : tie.Need-put-end-requires
 put-end-requires c κs = search needs
 
--- src/file.rt:49:1
 same-length : tie.Need-same-length
 same-length c = search needs
 
--- src/file.rt:49:1
 returns-2 : tie.Need-returns-2
-returns-2 c = ?
+returns-2 c =
+    let test = c .before .before .before .before .before .before .before .before .before .before .before .before in
+    let start = test .before .before .before in
+    all-written (now (start .args .s)) (start .pre) (now (start .args .out)) _ (test .if1 .left)
+    (c .before .before .before .before .before .before .before .before .before .before .put-front .ensures) _ _ (c .before .before .before .before .before .before .put-entries .ensures) (c .before .before .put-end .ensures)
 
 pub write-spec : {M : Type 1} → statement M
 write-spec =

@@ -37,19 +37,22 @@ pub record Exactly (s : List ℕ) (own : Type 0) (m : Answer (Unit {0})) : Type 
   pub stream-first : {f r b : ℕ} → (m ≡ stream f r b) ↔ (answer s ≡ refused f r b)
 
 -- two answers of different cases are not the same
-own-not-number : {k : ℕ} → answered {A = Unit {0}} tt ≡ number k → ⊥
+abbrev Same : Answer (Unit {0}) → Answer (Unit {0}) → Type 0
+Same a b = a ≡ b
+
+own-not-number : {k : ℕ} → Same (answered tt) (number k) → ⊥
 own-not-number e = let z : _≡_ {A = ℕ} 0 1 = cc in omega arith
 
-own-not-stream : {f r b : ℕ} → answered {A = Unit {0}} tt ≡ stream f r b → ⊥
+own-not-stream : {f r b : ℕ} → Same (answered tt) (stream f r b) → ⊥
 own-not-stream e = let z : _≡_ {A = ℕ} 0 1 = cc in omega arith
 
-stream-not-number : {f r b k : ℕ} → stream {A = Unit {0}} f r b ≡ number k → ⊥
+stream-not-number : {f r b k : ℕ} → Same (stream f r b) (number k) → ⊥
 stream-not-number e = let z : _≡_ {A = ℕ} 0 1 = cc in omega arith
 
-same-number : {n k : ℕ} → number {A = Unit {0}} n ≡ number k → k ≡ n
+same-number : {n k : ℕ} → Same (number n) (number k) → k ≡ n
 same-number e = cc
 
-same-stream : {f r b g q c : ℕ} → stream {A = Unit {0}} f r b ≡ stream g q c → refused f r b ≡ refused g q c
+same-stream : {f r b g q c : ℕ} → Same (stream f r b) (stream g q c) → refused f r b ≡ refused g q c
 same-stream e = cc
 
 -- a test that tells whether the index is the stream's own

@@ -1,8 +1,8 @@
--- `mrd_index::compare::end_same` meets its contract: it goes by the form.
+-- `mrd_index_match::compare::end_same` meets its contract: it goes by the form.
 -- Assumes nothing.
 use borrow.Author.Needs.{needs}
-use Rattle.mrd_index.proofs.compare.end_same.Statement.{statement}
-use Rattle.mrd_index.proofs.compare.end_same.Tie as tie
+use Rattle.mrd_index_match.proofs.compare.end_same.Statement.{statement}
+use Rattle.mrd_index_match.proofs.compare.end_same.Tie as tie
 
 enum-told : tie.Need-enum-told
 enum-told c = search needs

@@ -1,59 +1,36 @@
--- `mrd_index::compare::places_same` meets its contract: the first column that is too short or holds another number decides.
+-- `mrd_index_match::compare::places_same` meets its contract: a column too short decides; else each place is tested.
 -- Assumes nothing.
+use native.Mathlib.Omega.{arith}
+use mathlib.Core.Path.{sym}
+use mathlib.Core.Bool.{and-false}
+use mathlib.Core.List.{[], _∷_}
 use borrow.Author.Needs.{needs}
 use denote.Ref.{now}
-use Rattle.mrd_index.specs.FieldLaws.{place-short, place-same, place-other, place-tested}
-use Rattle.mrd_index.proofs.compare.places_same.Statement.{statement}
-use Rattle.mrd_index.proofs.compare.places_same.Tie as tie
+use lib.ListN.{drop}
+use Rattle.mrd_logic.specs.Lists.{begins}
+use Rattle.mrd_logic.specs.ListLaws.{rest-short, place-tested}
+use Rattle.mrd_index_match.proofs.compare.places_same.Statement.{statement}
+use Rattle.mrd_index_match.proofs.compare.places_same.Tie as tie
 
 returns : tie.Need-returns
 returns c =
     let a = c .before .args in
-    rw (place-short (now (a .starts)) (a .n) (a .entry .start) (c .if1 .taken))
-
-mul-if2 : tie.Need-mul-if2
-mul-if2 c = search needs
-
-shared-slice-read-if2 : tie.Need-shared-slice-read-if2
-shared-slice-read-if2 c = search needs
+    rw (rest-short (now (a .starts)) (a .entry .start ∷ []) (a .n) (omega arith) (omega (arith, c .if1 .taken)))
 
 returns-2 : tie.Need-returns-2
 returns-2 c =
-    let a = c .before .before .before .before .args in
-    rw (place-other (now (a .starts)) (a .n) (a .entry .start) (c .before .before .before .if1 .left) (c .if2 .taken))
+    let a = c .before .before .args in
+    rw (rest-short (now (a .ids)) (a .entry .id ∷ []) (a .n) (omega arith) (omega (arith, c .if2 .taken)))
+    (sym (and-false (begins (a .entry .start ∷ []) (drop (a .n) (now (a .starts))))))
 
 returns-3 : tie.Need-returns-3
 returns-3 c =
-    let a = c .before .before .before .before .before .args in
-    simp (
-      place-same (now (a .starts)) (a .n) (a .entry .start) (c .before .before .before .before .if1 .left) (c .before .if2 .left),
-      place-short (now (a .ids)) (a .n) (a .entry .id) (c .if3 .taken),
+    let a = c .before .before .before .args in
+    rw (
+      rest-short (now (a .counters)) (a .entry .counter ∷ []) (a .n) (omega arith) (omega (arith, c .if3 .taken)),
+      and-false (begins (a .entry .id ∷ []) (drop (a .n) (now (a .ids)))),
     )
-
-mul-if4 : tie.Need-mul-if4
-mul-if4 c = search needs
-
-shared-slice-read-if4 : tie.Need-shared-slice-read-if4
-shared-slice-read-if4 c = search needs
-
-returns-4 : tie.Need-returns-4
-returns-4 c =
-    let a = c .before .before .before .before .before .before .before .before .args in
-    simp (
-      place-same (now (a .starts)) (a .n) (a .entry .start) (c .before .before .before .before .before .before .before .if1 .left)
-          (c .before .before .before .before .if2 .left),
-      place-other (now (a .ids)) (a .n) (a .entry .id) (c .before .before .before .if3 .left) (c .if4 .taken),
-    )
-
-returns-5 : tie.Need-returns-5
-returns-5 c =
-    let a = c .before .before .before .before .before .before .before .before .before .args in
-    simp (
-      place-same (now (a .starts)) (a .n) (a .entry .start)
-          (c .before .before .before .before .before .before .before .before .if1 .left) (c .before .before .before .before .before .if2 .left),
-      place-same (now (a .ids)) (a .n) (a .entry .id) (c .before .before .before .before .if3 .left) (c .before .if4 .left),
-      place-short (now (a .counters)) (a .n) (a .entry .counter) (c .if5 .taken),
-    )
+    (sym (and-false (begins (a .entry .start ∷ []) (drop (a .n) (now (a .starts))))))
 
 mul-result : tie.Need-mul-result
 mul-result c = search needs
@@ -61,16 +38,25 @@ mul-result c = search needs
 shared-slice-read-result : tie.Need-shared-slice-read-result
 shared-slice-read-result c = search needs
 
-returns-6 : tie.Need-returns-6
-returns-6 c =
-    let a = c .before .before .before .before .before .before .before .before .before .before .before .args in
-    simp (
-      place-same (now (a .starts)) (a .n) (a .entry .start)
-          (c .before .before .before .before .before .before .before .before .before .before .if1 .left)
-          (c .before .before .before .before .before .before .before .if2 .left),
-      place-same (now (a .ids)) (a .n) (a .entry .id) (c .before .before .before .before .before .before .if3 .left)
-          (c .before .before .before .if4 .left),
-      place-tested (now (a .counters)) (a .n) (a .entry .counter) (c .before .before .if5 .left),
+mul-result-2 : tie.Need-mul-result-2
+mul-result-2 c = search needs
+
+shared-slice-read-result-2 : tie.Need-shared-slice-read-result-2
+shared-slice-read-result-2 c = search needs
+
+mul-result-3 : tie.Need-mul-result-3
+mul-result-3 c = search needs
+
+shared-slice-read-result-3 : tie.Need-shared-slice-read-result-3
+shared-slice-read-result-3 c = search needs
+
+returns-4 : tie.Need-returns-4
+returns-4 c =
+    let a = c .before .before .before .before .before .before .before .before .before .args in
+    rw (
+      place-tested (now (a .starts)) (a .n) (a .entry .start) (c .before .before .before .before .before .before .before .before .if1 .left),
+      place-tested (now (a .ids)) (a .n) (a .entry .id) (c .before .before .before .before .before .before .before .if2 .left),
+      place-tested (now (a .counters)) (a .n) (a .entry .counter) (c .before .before .before .before .before .before .if3 .left),
     )
 
 pub places-same-spec : {M : Type 1} → statement M
@@ -78,14 +64,12 @@ places-same-spec =
     tie.close
     (tie.spec
     returns
-    mul-if2
-    shared-slice-read-if2
     returns-2
     returns-3
-    mul-if4
-    shared-slice-read-if4
-    returns-4
-    returns-5
     mul-result
     shared-slice-read-result
-    returns-6)
+    mul-result-2
+    shared-slice-read-result-2
+    mul-result-3
+    shared-slice-read-result-3
+    returns-4)

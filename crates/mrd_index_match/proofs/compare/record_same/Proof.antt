@@ -1,12 +1,13 @@
--- `mrd_index::compare::record_same` meets its contract: the record's entry is looked for where the form has it.
+-- `mrd_index_match::compare::record_same` meets its contract: it goes by the form.
 -- Assumes nothing.
+use Prim.Native.Nat.{_+_, _*_}
+use mathlib.Core.Path.{ap, _∙_}
 use borrow.Author.Needs.{needs}
 use denote.Ref.{now}
-use Rattle.mrd_index.specs.declared.compare.Form.the-variants.{File, Columns}
-use Rattle.mrd_index.specs.Compare.{lent}
-use Rattle.mrd_index.specs.Comparing.{entry-by}
-use Rattle.mrd_index.proofs.compare.record_same.Statement.{statement}
-use Rattle.mrd_index.proofs.compare.record_same.Tie as tie
+use Rattle.mrd_index_match.specs.declared.compare.Form.the-variants.{File, Columns}
+use Rattle.mrd_index_match.specs.Compare.{given, entryBy}
+use Rattle.mrd_index_match.proofs.compare.record_same.Statement.{statement}
+use Rattle.mrd_index_match.proofs.compare.record_same.Tie as tie
 
 entry-of-requires : tie.Need-entry-of-requires
 entry-of-requires c κs = search needs
@@ -32,14 +33,17 @@ places-same-requires c κs = search needs
 returns : tie.Need-returns
 returns c =
     let a = c .before .before .before .before .before .before .before .before .before .before .before .args in
-    entry-by File (lent (a .form) (now (a .file)) (now (a .starts)) (now (a .ids)) (now (a .counters))) (a .here .place .number)
-    (c .before .before .enum-told .given .1) (c .before .before .before .before .entry-of .ensures) (c .field-same .ensures)
+    rw (c .before .before .enum-told .given .1)
+    (c .field-same .ensures ∙ ap (entryBy File (given File (now (a .file)) (now (a .starts)) (now (a .ids)) (now (a .counters))) (a .here .place .number))
+    (c .before .before .before .before .entry-of .ensures))
 
 returns-2 : tie.Need-returns-2
 returns-2 c =
     let a = c .before .before .before .before .before .before .before .before .before .before .args in
-    entry-by Columns (lent (a .form) (now (a .file)) (now (a .starts)) (now (a .ids)) (now (a .counters))) (a .here .place .number)
-    (c .before .enum-told2 .given .1) (c .before .before .before .entry-of .ensures) (c .places-same .ensures)
+    rw (c .before .enum-told2 .given .1)
+    (c .places-same .ensures ∙
+    ap (entryBy Columns (given Columns (now (a .file)) (now (a .starts)) (now (a .ids)) (now (a .counters))) (a .here .place .number))
+    (c .before .before .before .entry-of .ensures))
 
 pub record-same-spec : {M : Type 1} → statement M
 record-same-spec =

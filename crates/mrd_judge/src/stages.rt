@@ -12,7 +12,7 @@ use mrd_cursor::Cursor;
 use mrd_format::Identified;
 use mrd_format::Kind;
 use mrd_format::refusal;
-use mrd_format::size::LIMIT;
+use mrd_format::size::MAX_MESSAGE_SIZE;
 use mrd_numbers::read_u16;
 
 // The most messages that a stream may have.
@@ -57,10 +57,10 @@ pub fn judge_front(c: Cursor, t: &[u8]) -> u8
         return refusal::ORDER;
     }
     if MAX_MESSAGES <= c.number {
-        return refusal::MESSAGE_COUNT;
+        return refusal::TOO_MANY;
     }
     if t.len() == 1 {
-        return refusal::LONE_BYTE;
+        return refusal::ID_CUT;
     }
     0
 }
@@ -104,7 +104,7 @@ pub fn judge_fixed(kind: Kind, t: &[u8]) -> u8
     ensures { λ r. ⌜ r ≡ first (fixedChecks kind (now (t .entry))) ⌝ }
 {
     if t.len() - 2 < kind.fixed_size() {
-        return refusal::FIXED_PART;
+        return refusal::FIXED_PART_CUT;
     }
     mrd_message::fault(kind, fixed_part(kind, t))
 }
@@ -113,8 +113,8 @@ pub fn judge_fixed(kind: Kind, t: &[u8]) -> u8
 pub fn judge_size(size: usize, t: &[u8]) -> u8
     ensures { λ r. ⌜ r ≡ first (sizeChecks size (now (t .entry))) ⌝ }
 {
-    if LIMIT < size as u64 {
-        return refusal::MESSAGE_LIMIT;
+    if MAX_MESSAGE_SIZE < size as u64 {
+        return refusal::TOO_LARGE;
     }
     if t.len() < size {
         return refusal::MESSAGE_CUT;

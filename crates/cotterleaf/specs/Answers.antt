@@ -4,11 +4,10 @@ use Prim.Native.Nat.{ℕ}
 use lib.IntN.{ℤ, pos}
 use Rattle.mrd_element.specs.Field as header
 use Rattle.mrd_find.specs.Find as find
-use Rattle.mrd_index.specs.Compare as compare
 use Rattle.mrd_fields.specs.Fields as fields
 use Rattle.mrd_views.specs.Views as views
 use Rattle.mrd_stream.specs.Output as output
-use Rattle.mrd_logic.specs.Answer.{Verdict, accepted, refused}
+use Rattle.mrd_logic.specs.Answer.{Verdict, accepted, refused, Answer, answered, number, stream}
 use Rattle.mrd_writer.specs.Refusals as writer
 use Rattle.cotterleaf.specs.declared.answers.Checked.{Checked}
 use Rattle.cotterleaf.specs.declared.answers.ViewPlace.{ViewPlace}
@@ -78,10 +77,10 @@ faceWritten (answers.number n) = writtenAs n 0 0 0
 abbrev pub matchedAs : (refusal r byte : ℕ) → Matched
 matchedAs f r b = record { refusal = f; «record» = r; byte = b }
 
-abbrev pub faceMatched : compare.MatchAnswer → Matched
-faceMatched compare.same = matchedAs 0 0 0
-faceMatched (compare.stream f r b) = matchedAs f r b
-faceMatched (compare.number n) = matchedAs n 0 0
+abbrev pub faceMatched : Answer (Unit {0}) → Matched
+faceMatched (answered x) = matchedAs 0 0 0
+faceMatched (stream f r b) = matchedAs f r b
+faceMatched (number n) = matchedAs n 0 0
 
 -- the writer's answer
 abbrev pub putAs : (refusal position : ℕ) → Put

@@ -31,13 +31,11 @@ use Rattle.mrd_format.specs.Parts.{Reach, lies, lacks}
 use Rattle.mrd_format.specs.Content.{extentOf}
 use Rattle.mrd_fields.specs.Fields.{fieldBy, fieldOf}
 use Rattle.mrd_views.specs.Views as views
-use Rattle.mrd_views.specs.Views.{viewBy, viewOf, shownAt}
+use Rattle.mrd_views.specs.Views.{viewBy, viewOf, shownAt, span}
 use Rattle.mrd_element.specs.Field as header
 use Rattle.mrd_find.specs.Find as find
 use Rattle.mrd_find.specs.Find.{firstMatch, matches, findOf}
 use Rattle.mrd_logic.specs.Choice.{pick}
-use Rattle.mrd_index.specs.Compare as compare
-use Rattle.mrd_index.specs.Compare.{matchedBy}
 use Rattle.mrd_writer.specs.Refusals as writer
 use Rattle.mrd_writer.specs.Lent.{Lent, lengthsOf}
 use Rattle.mrd_writer.specs.Write.{writeChecks, answerAs, writeAnswer}
@@ -45,8 +43,8 @@ use Rattle.cotterleaf.specs.Answers.{faceChecked, faceView, faceValue, f
 use Rattle.cotterleaf.specs.Placed.{facePlaced}
 use Rattle.mrd_judge.specs.WholeLaws.{all-numbered}
 use Rattle.mrd_logic.specs.Answer as answers
-use Rattle.mrd_views.specs.Views.{span}
 use Rattle.mrd_parts.specs.Sought.{partMeaning}
+use Rattle.mrd_index_match.specs.Compare.{believed}
 
 fault-numbered : (f : ℕ) (c : Cursor) (ks : List Kind) (rest : List ℕ) → FaultAt f c ks rest → f ≡ 0 → ⊥
 fault-numbered f c ks [] a z = omega (arith, a .0, z)
@@ -152,10 +150,10 @@ zero-written s n room = by (answer s) (ltb room n) refl
     by (refused f r b) short e z = absurd (refused-numbered s e z)
 
 -- a lent index, of which b says whether it is the stream's
-pub zero-same : (s : List ℕ) (b : Bool) → faceMatched (matchedBy (answer s) b) .refusal ≡ 0 → matchedBy (answer s) b ≡ compare.same
+pub zero-same : (s : List ℕ) (b : Bool) → faceMatched (unlessRefused (answer s) (believed b)) .refusal ≡ 0 → unlessRefused (answer s) (believed b) ≡ answered tt
 zero-same s b = by (answer s) b refl
   where
-    by : (v : Verdict) (b : Bool) → answer s ≡ v → faceMatched (matchedBy v b) .refusal ≡ 0 → matchedBy v b ≡ compare.same
+    by : (v : Verdict) (b : Bool) → answer s ≡ v → faceMatched (unlessRefused v (believed b)) .refusal ≡ 0 → unlessRefused v (believed b) ≡ answered tt
     by (accepted k) true e z = refl
     by (accepted k) false e z = absurd (none z)
     by (refused f r a) b e z = absurd (refused-numbered s e z)

@@ -4,7 +4,7 @@ ghost use mathlib.Core.Path.{_≡_};
 ghost use lib.Dec.{T};
 ghost use Rattle.mrd_element.specs.Told.{told as toldValue, nanApart};
 ghost use Rattle.mrd_find.specs.Told.{told as toldFound};
-ghost use Rattle.mrd_index.specs.Compare.{toldMatched};
+ghost use Rattle.mrd_index_match.specs.Compare.{toldMatched};
 ghost use Rattle.mrd_views.specs.Views.{toldView};
 ghost use Rattle.mrd_fields.specs.Fields.{toldField, fieldApart};
 ghost use Rattle.mrd_stream.specs.Output.{toldWritten};
@@ -246,13 +246,13 @@ impl Matched {
         }
     }
 
-    pub(crate) fn of(answer: mrd_index::Matched) -> Matched
+    pub(crate) fn of(answer: mrd_index_match::Matched) -> Matched
         ensures { λ r. ⌜ r ≡ faceMatched (toldMatched answer) ⌝ }
     {
         match answer {
-            mrd_index::Matched::Same => Matched::new(0, 0, 0),
-            mrd_index::Matched::Differs => Matched::new(refusal::INDEX_DIFFERS, 0, 0),
-            mrd_index::Matched::Stream(r) => Matched::new(r.number, r.record, r.byte),
+            mrd_index_match::Matched::Same => Matched::new(0, 0, 0),
+            mrd_index_match::Matched::Differs => Matched::new(refusal::INDEX_DIFFERS, 0, 0),
+            mrd_index_match::Matched::Stream(r) => Matched::new(r.number, r.record, r.byte),
         }
     }
 }

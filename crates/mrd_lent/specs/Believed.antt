@@ -8,15 +8,14 @@ use mathlib.Core.Bool.{Bool, true, false}
 use mathlib.Core.List.{List, [], _∷_}
 use Rattle.mrd_format.specs.Elements.{ElementType, u16, u32, u64, i32, f32}
 use Rattle.mrd_format.specs.Message.{fixedPart}
-use Rattle.mrd_logic.specs.Answer.{Verdict, accepted, refused, Answer}
+use Rattle.mrd_logic.specs.Answer.{Verdict, accepted, refused, Answer, answered, number, stream}
 use Rattle.mrd_stream.specs.Walk.{Trace, message, done, trace, answer}
 use Rattle.mrd_stream.specs.Places as places
 use Rattle.mrd_stream.specs.Places.{Located, nth, place}
 use Rattle.mrd_cut.specs.Places.{partAt}
 use Rattle.mrd_element.specs.Field as header
 use Rattle.mrd_element.specs.Field.{Start, starts, none, startOf}
-use Rattle.mrd_index.specs.Compare.{MatchAnswer, same, stream, number}
-use Rattle.mrd_index.specs.Exactly.{Differs, Compared}
+use Rattle.mrd_index_match.specs.Exactly.{Differs, Compared}
 use Rattle.mrd_parts.specs.declared.parts.Part.{Part}
 use Rattle.mrd_format.specs.Parts.{Reach, lies, lacks}
 use Rattle.mrd_format.specs.Content.{extentOf}
@@ -38,7 +37,7 @@ pub record Question {A : Type 0} (r : Refusing A) (s : List ℕ) (a : A) : Type 
   pub apart : {f n b : ℕ} → r .of-stream f n b ≡ r .alone 15 → ⊥
 
 -- with an index lent, which is found to be m
-module _ {A : Type 0} {r : Refusing A} {s : List ℕ} {a : A} (q : Question r s a) {own : Type 0} {m : MatchAnswer} (c : Compared s own m) where
+module _ {A : Type 0} {r : Refusing A} {s : List ℕ} {a : A} (q : Question r s a) {own : Type 0} {m : Answer (Unit {0})} (c : Compared s own m) where
   -- the stream's own index is believed: the answer is that with none lent
   pub own-believed : own → lending r m a ≡ a
   own-believed o = by (answer s) refl
@@ -54,7 +53,7 @@ module _ {A : Type 0} {r : Refusing A} {s : List ℕ} {a : A} (q : Question r s 
   pub only-other-15 : lending r m a ≡ r .alone 15 → Differs s own
   only-other-15 e = by m refl e
     where
-      by : (x : MatchAnswer) → m ≡ x → lending r x a ≡ r .alone 15 → Differs s own
+      by : (x : Answer (Unit {0})) → m ≡ x → lending r x a ≡ r .alone 15 → Differs s own
       by same h e = absurd (q .never-15 e)
       by (stream f n b) h e = absurd (q .apart e)
       by (number k) h e = c .number-differs h

@@ -2,7 +2,7 @@
 ghost use mathlib.Core.Path.{_≡_};
 ghost use Rattle.mrd_stream.specs.Told.{toldPlaced};
 ghost use Rattle.mrd_stream.specs.Places.{place};
-ghost use Rattle.mrd_index.specs.Compare.{fileMatch};
+ghost use Rattle.mrd_index_match.specs.Compare.{fileMatch};
 ghost use Rattle.mrd_views.specs.Views.{viewOf, shown};
 ghost use Rattle.mrd_fields.specs.Fields.{fieldOf};
 ghost use Rattle.mrd_views.specs.Views.{toldView};
@@ -16,7 +16,7 @@ use crate::questions::place_if;
 use crate::questions::view_if;
 use crate::questions::view_place_if;
 use mrd_find::Found;
-use mrd_index::index_matches;
+use mrd_index_match::index_matches;
 use mrd_fields::FieldAnswer;
 use mrd_parts::Part;
 use mrd_views::ViewPlace;

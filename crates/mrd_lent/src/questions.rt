@@ -3,7 +3,7 @@
 ghost use mathlib.Core.Path.{_≡_};
 ghost use Rattle.mrd_stream.specs.Told.{toldPlaced};
 ghost use Rattle.mrd_stream.specs.Places.{place};
-ghost use Rattle.mrd_index.specs.Compare.{toldMatched};
+ghost use Rattle.mrd_index_match.specs.Compare.{toldMatched};
 ghost use Rattle.mrd_views.specs.Views.{viewOf, shown};
 ghost use Rattle.mrd_fields.specs.Fields.{fieldOf};
 ghost use Rattle.mrd_views.specs.Views.{toldView};
@@ -13,7 +13,7 @@ ghost use Rattle.mrd_find.specs.Told.{told};
 ghost use Rattle.mrd_lent.specs.Lending.{lending, ofPlace, ofView, ofField, ofFind};
 use mrd_find::Found;
 use mrd_format::refusal;
-use mrd_index::Matched;
+use mrd_index_match::Matched;
 use mrd_fields::FieldAnswer;
 use mrd_parts::Part;
 use mrd_views::ViewPlace;

@@ -3,6 +3,8 @@
 use mathlib.Core.Path.{refl, ap, _∙_}
 use borrow.Author.Needs.{needs}
 use Rattle.mrd_format.specs.Kinds.{fixedSize}
+use Rattle.mrd_format.specs.Acquisition as acquisition
+use Rattle.mrd_format.specs.Image as image
 use Rattle.mrd_format.specs.Message.{bodySize}
 use Rattle.mrd_format.specs.Sizes.{capped}
 use Rattle.mrd_format.proofs.message.body_size.Statement.{statement}
@@ -71,11 +73,11 @@ unfolding bodySize
 returns-5 c = rw (c .before .enum-told5 .given .1) (ap capped (c .text-length3 .ensures .0), search needs)
 
 returns-6 : tie.Need-returns-6
-unfolding bodySize
+unfolding bodySize acquisition.bodySize
 returns-6 c = rw (c .before .enum-told6 .given .1) (ap capped (c .body-size .ensures .0), c .body-size .ensures .1)
 
 returns-7 : tie.Need-returns-7
-unfolding bodySize
+unfolding bodySize image.bodySize
 returns-7 c = rw (c .before .enum-told7 .given .1) (c .body-size2 .ensures)
 
 returns-8 : tie.Need-returns-8

@@ -1,7 +1,7 @@
 -- A header is fixed by its fields: the header tables leave no byte out, so the numbers of all fields, written one after the other, are the header.
 -- Assumes nothing.
 use Prim.Native.Nat.{ℕ, zero, suc, _+_, _*_, _≤_}
-use native.Mathlib.Nat.{add-comm, zero-mul, suc-mul, le-of-eq}
+use native.Mathlib.Nat.{zero-mul, suc-mul, le-of-eq}
 use native.Mathlib.Omega.{arith}
 use mathlib.Core.Path.{_≡_, refl, sym, ap, _∙_}
 use mathlib.Core.Bool.{Bool, true, _&&_, and-eq-true-iff}
@@ -9,13 +9,14 @@ use mathlib.Core.List.{List, [], _∷_, _++_, append-nil, append-assoc}
 use borrow.Author.Tests.{eqb-true}
 use lib.Dec.{eqb}
 use lib.ListN.{length, take, drop, replicate}
-use lib.Seq.{take-add, drop-drop}
-use Rattle.mrd_numbers.specs.Little.{toBytes, Bytes}
+use lib.Seq.{take-add}
+use Rattle.mrd_numbers.specs.Little.{Bytes}
 use Rattle.mrd_numbers.specs.ByteLaws.{write-num}
-use Rattle.mrd_format.specs.Elements.{Run, width, elementsFrom, values}
+use Rattle.mrd_format.specs.Elements.{Run, width, elementsFrom, values, widths, written}
+use Rattle.mrd_format.specs.PieceLaws.{take-parts}
 use Rattle.mrd_format.specs.Acquisition as acquisition
 use Rattle.mrd_format.specs.Image as image
 use Rattle.mrd_format.specs.Waveform as waveform
 
 -- whether the runs stand one after the other, without a gap, from the byte `at` to the byte `end`
 abbrev pub packed : ℕ → ℕ → List Run → Bool
@@ -30,21 +31,6 @@ image-packed = refl
 
 pub waveform-packed : packed 0 32 waveform.table ≡ true
 waveform-packed = refl
-
--- the widths of all elements of a table, in order
-abbrev pub widths : List Run → List ℕ
-widths [] = []
-widths (r ∷ rs) = replicate (r .count) (width (r .type)) ++ widths rs
-
--- numbers written one after the other, each at its width
-abbrev pub written : List ℕ → List ℕ → List ℕ
-written [] vs = []
-written (w ∷ ws) [] = []
-written (w ∷ ws) (v ∷ vs) = toBytes w v ++ written ws vs
-
--- the bytes of n parts of w bytes each are those of the first, and then those of the others
-pub take-parts : (n w at : ℕ) (s : List ℕ) → take (suc n * w) (drop at s) ≡ take w (drop at s) ++ take (n * w) (drop (at + w) s)
-take-parts n w at s = rw (suc-mul n w, add-comm (n * w) w, take-add, drop-drop)
 
 -- elements of one width are written as the bytes that they were read from
 elements-written : (n w at : ℕ) (h ws vs : List ℕ) → Bytes h → at + n * w ≤ length h →

@@ -21,5 +21,6 @@ pub mod NormalLaws
 pub mod HeaderLaws
 pub mod Rewritten
 pub mod IdLaws
-pub mod Flags
-pub mod Counters
+pub mod HeaderSize
+pub mod Identity
+pub mod IdentityLaws

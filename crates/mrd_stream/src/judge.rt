@@ -11,7 +11,6 @@ ghost use Rattle.mrd_stream.specs.Told.{toldJudgement};
 use crate::cursor::Cursor;
 use mrd_format::Identified;
 use mrd_format::Kind;
-use mrd_format::message;
 use mrd_format::refusal;
 use mrd_format::size::LIMIT;
 use mrd_numbers::read_u16;
@@ -70,11 +69,11 @@ fn judge_fixed(c: Cursor, kind: Kind, t: &[u8], h: &[u8]) -> Judgement
     requires { ⌜ Fixed kind c (now t) (now h) ⌝ }
     ensures { λ r. ⌜ toldJudgement r ≡ judgeAs (Known kind) c (now (t .entry)) ⌝ }
 {
-    let fault = message::fault(kind, h);
+    let fault = mrd_message::fault(kind, h);
     if fault != 0 {
         return Judgement::Faulty(fault);
     }
-    let size = message::size(kind, h);
+    let size = mrd_message::size(kind, h);
     if LIMIT < size as u64 {
         return Judgement::Faulty(refusal::MESSAGE_LIMIT);
     }

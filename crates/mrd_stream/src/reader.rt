@@ -19,7 +19,6 @@ use crate::judge::Judgement;
 use crate::judge::fixed_part;
 use crate::judge::judge;
 use mrd_format::Kind;
-use mrd_format::message;
 use mrd_format::refusal;
 
 impl Cursor {
@@ -56,7 +55,7 @@ fn handed(c: Cursor, kind: Kind, h: &[u8], size: usize) -> Step
     };
     let record = Record {
         place: place,
-        shape: message::shape(kind, h),
+        shape: mrd_message::shape(kind, h),
     };
     Step::Message(record, c.after(kind, size))
 }

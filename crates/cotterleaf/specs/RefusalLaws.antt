@@ -29,7 +29,7 @@ use Rattle.mrd_record.specs.Parts.{Reach, lies, lacks, extentOf}
 use Rattle.mrd_record.specs.Fields.{fieldBy, fieldOf}
 use Rattle.mrd_record.specs.Views as views
 use Rattle.mrd_record.specs.Views.{viewBy, viewOf, shownAt}
-use Rattle.mrd_field.specs.Field as header
+use Rattle.mrd_element.specs.Field as header
 use Rattle.mrd_find.specs.Find as find
 use Rattle.mrd_find.specs.Find.{firstMatch, matches, pick, unlessRefused, findOf}
 use Rattle.mrd_index.specs.Compare as compare

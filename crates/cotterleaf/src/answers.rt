@@ -2,7 +2,7 @@
 // is refused, and what an answer lacks is 0.
 ghost use mathlib.Core.Path.{_≡_};
 ghost use lib.Dec.{T};
-ghost use Rattle.mrd_field.specs.Told.{told as toldValue, nanApart};
+ghost use Rattle.mrd_element.specs.Told.{told as toldValue, nanApart};
 ghost use Rattle.mrd_find.specs.Told.{told as toldFound};
 ghost use Rattle.mrd_index.specs.Compare.{toldMatched};
 ghost use Rattle.mrd_record.specs.Told.{toldView, toldField, fieldApart};
@@ -10,7 +10,7 @@ ghost use Rattle.mrd_stream.specs.Output.{toldWritten};
 ghost use Rattle.mrd_stream.specs.Told.{toldChecked};
 ghost use Rattle.mrd_writer.specs.Write.{told as toldPut};
 ghost use Rattle.cotterleaf.specs.Answers.{checkedAs, faceChecked, viewAs, faceView, refusedField, faceValue, faceField, foundAs, faceFound, writtenAs, faceWritten, matchedAs, faceMatched, facePut};
-use mrd_field::Value;
+use mrd_element::Value;
 use mrd_format::refusal;
 
 // A stream's answer: accepted with `count` records, or refused.
@@ -250,7 +250,7 @@ impl Matched {
     {
         match answer {
             mrd_index::Matched::Same => Matched::new(0, 0, 0),
-            mrd_index::Matched::Differs => Matched::new(refusal::INDEX, 0, 0),
+            mrd_index::Matched::Differs => Matched::new(refusal::INDEX_DIFFERS, 0, 0),
             mrd_index::Matched::Stream(r) => Matched::new(r.number, r.record, r.byte),
         }
     }

@@ -45,13 +45,13 @@ fn fill(
     ensures { λ r. ⌜ now (counters .exit) ≡ outputBy (toldWritten r) (counterColumn (now (s .entry))) (now (counters .entry)) ⌝ }
 {
     if starts.len() < count {
-        return Written::Refused(refusal::OUTPUT);
+        return Written::Refused(refusal::OUTPUT_SHORT);
     }
     if ids.len() < count {
-        return Written::Refused(refusal::OUTPUT);
+        return Written::Refused(refusal::OUTPUT_SHORT);
     }
     if counters.len() < count {
-        return Written::Refused(refusal::OUTPUT);
+        return Written::Refused(refusal::OUTPUT_SHORT);
     }
     put_places(s, starts, ids, counters);
     Written::Length(count)

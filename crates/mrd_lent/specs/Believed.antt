@@ -12,8 +12,8 @@ use Rattle.mrd_stream.specs.Walk.{Verdict, accepted, refused, Trace, message, d
 use Rattle.mrd_stream.specs.Places as places
 use Rattle.mrd_stream.specs.Places.{Located, Answer, nth, place}
 use Rattle.mrd_cut.specs.Places.{partAt}
-use Rattle.mrd_field.specs.Field as header
-use Rattle.mrd_field.specs.Field.{Start, starts, none, startOf}
+use Rattle.mrd_element.specs.Field as header
+use Rattle.mrd_element.specs.Field.{Start, starts, none, startOf}
 use Rattle.mrd_index.specs.Compare.{MatchAnswer, same, stream, number}
 use Rattle.mrd_index.specs.Exactly.{Differs, Compared}
 use Rattle.mrd_record.specs.declared.parts.Part.{Part}

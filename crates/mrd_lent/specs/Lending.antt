@@ -3,7 +3,7 @@
 use Prim.Native.Nat.{ℕ}
 use Rattle.mrd_stream.specs.Places as places
 use Rattle.mrd_index.specs.Compare.{MatchAnswer, same, stream, number}
-use Rattle.mrd_field.specs.Field as header
+use Rattle.mrd_element.specs.Field as header
 use Rattle.mrd_record.specs.Views as views
 use Rattle.mrd_record.specs.Fields as fields
 use Rattle.mrd_find.specs.Find as find

@@ -24,7 +24,7 @@ pub(crate) fn place_if(index: Matched, s: &[u8], n: usize) -> Placed
 {
     match index {
         Matched::Same => mrd_stream::place(s, n),
-        Matched::Differs => Placed::Refused(refusal::INDEX),
+        Matched::Differs => Placed::Refused(refusal::INDEX_DIFFERS),
         Matched::Stream(refusal) => Placed::Stream(refusal),
     }
 }
@@ -35,7 +35,7 @@ pub(crate) fn view_place_if(index: Matched, s: &[u8], n: usize, part: Part) -> V
 {
     match index {
         Matched::Same => mrd_record::view_place(s, n, part),
-        Matched::Differs => ViewPlace::Refused(refusal::INDEX),
+        Matched::Differs => ViewPlace::Refused(refusal::INDEX_DIFFERS),
         Matched::Stream(refusal) => ViewPlace::Stream(refusal),
     }
 }
@@ -57,7 +57,7 @@ pub(crate) fn field_if(index: Matched, s: &[u8], n: usize, offset: usize) -> Fie
 {
     match index {
         Matched::Same => mrd_record::field(s, n, offset),
-        Matched::Differs => FieldAnswer::Refused(refusal::INDEX),
+        Matched::Differs => FieldAnswer::Refused(refusal::INDEX_DIFFERS),
         Matched::Stream(refusal) => FieldAnswer::Stream(refusal),
     }
 }
@@ -68,7 +68,7 @@ pub(crate) fn find_if(index: Matched, s: &[u8], n: usize, counters: &[u16; 17]) 
 {
     match index {
         Matched::Same => mrd_find::find(s, n, counters),
-        Matched::Differs => Found::Refused(refusal::INDEX),
+        Matched::Differs => Found::Refused(refusal::INDEX_DIFFERS),
         Matched::Stream(refusal) => Found::Stream(refusal),
     }
 }

@@ -37,7 +37,7 @@ fn write(s: &[u8], out: &mut [u8]) -> Written
     ensures { λ _. ⌜ now (out .exit) ≡ normalOutput (now (s .entry)) (now (out .entry)) ⌝ }
 {
     if out.len() < s.len() {
-        return Written::Refused(refusal::OUTPUT);
+        return Written::Refused(refusal::OUTPUT_SHORT);
     }
     let length = bytes::copy(s, out);
     filler::clear_fillers(s, out);

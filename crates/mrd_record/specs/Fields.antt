@@ -5,8 +5,8 @@ use mathlib.Core.List.{List}
 use Rattle.mrd_format.specs.Message.{fixedPart}
 use Rattle.mrd_stream.specs.Places.{Answer, found, stream, number, place}
 use Rattle.mrd_cut.specs.Places.{partAt}
-use Rattle.mrd_field.specs.Field as header
-use Rattle.mrd_field.specs.Field.{FieldAnswer}
+use Rattle.mrd_element.specs.Field as header
+use Rattle.mrd_element.specs.Field.{FieldAnswer}
 
 -- the answer about a record's field: that of its header, or the stream's refusal
 pub data Fielded : Type 0 where

@@ -12,8 +12,8 @@ use Rattle.mrd_format.specs.Kinds.{identified}
 use Rattle.mrd_format.specs.Message.{fixedPart, ownChecks, bodySize, sizeOf, textLength}
 use Rattle.mrd_format.specs.Acquisition as acquisition
 use Rattle.mrd_format.specs.Content.{counterOf}
-use Rattle.mrd_format.specs.Flags.{flagSet, withBit, bit}
-use Rattle.mrd_format.specs.Counters.{counterStep, signed}
+use Rattle.mrd_flags.specs.Flags.{flagSet, withBit, bit}
+use Rattle.mrd_counter_step.specs.Counters.{counterStep, signed}
 use Rattle.mrd_stream.specs.Walk.{Verdict, accepted, refused, answer, trace, walk, judge, judgeAs, checksAs, earlyChecks, lateChecks, ended}
 use Rattle.mrd_logic.specs.Every.{Every}
 use Rattle.mrd_stream.specs.Index.{index, entries}

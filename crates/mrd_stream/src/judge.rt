@@ -12,7 +12,7 @@ use crate::cursor::Cursor;
 use mrd_format::Identified;
 use mrd_format::Kind;
 use mrd_format::refusal;
-use mrd_format::size::LIMIT;
+use mrd_format::size::MAX_MESSAGE_SIZE;
 use mrd_numbers::read_u16;
 
 // The most messages that a stream may have.
@@ -36,10 +36,10 @@ pub(crate) fn judge(c: Cursor, t: &[u8]) -> Judgement
         return Judgement::Faulty(refusal::ORDER);
     }
     if MESSAGE_LIMIT <= c.number {
-        return Judgement::Faulty(refusal::MESSAGE_COUNT);
+        return Judgement::Faulty(refusal::TOO_MANY);
     }
     if t.len() == 1 {
-        return Judgement::Faulty(refusal::LONE_BYTE);
+        return Judgement::Faulty(refusal::ID_CUT);
     }
     let identified = Kind::of_id(read_u16(t, 0));
     match identified {
@@ -59,7 +59,7 @@ fn judge_known(c: Cursor, kind: Kind, t: &[u8]) -> Judgement
     }
     let fixed = kind.fixed_size();
     if t.len() - 2 < fixed {
-        return Judgement::Faulty(refusal::FIXED_PART);
+        return Judgement::Faulty(refusal::FIXED_PART_CUT);
     }
     judge_fixed(c, kind, t, fixed_part(kind, t))
 }
@@ -74,8 +74,8 @@ fn judge_fixed(c: Cursor, kind: Kind, t: &[u8], h: &[u8]) -> Judgement
         return Judgement::Faulty(fault);
     }
     let size = mrd_message::size(kind, h);
-    if LIMIT < size as u64 {
-        return Judgement::Faulty(refusal::MESSAGE_LIMIT);
+    if MAX_MESSAGE_SIZE < size as u64 {
+        return Judgement::Faulty(refusal::TOO_LARGE);
     }
     if t.len() < size {
         return Judgement::Faulty(refusal::MESSAGE_CUT);

@@ -1,4 +1,4 @@
--- Putting a message into a part of the output, field by field: o is that part, and x, y and z are the parts of it lent on, as they came back.
+-- Putting a message into a part of the output, field by field: o is that part, and x, y and z are the parts of it given on, as they came back.
 -- Assumes nothing.
 use Prim.Native.Nat.{ℕ, _+_, _-_, _^_, _≤_, _<_}
 use native.Mathlib.Omega.{arith}
@@ -12,16 +12,17 @@ use Rattle.mrd_numbers.specs.Stored.{front, lentFrom, returned, front-next, fro
 use Rattle.mrd_format.specs.declared.kind.Kind.{Kind}
 use Rattle.mrd_format.specs.declared.kind.Kind.the-variants.{ConfigurationName, Acquisition, Image, Waveform}
 use Rattle.mrd_format.specs.Kinds.{fixedSize}
-use Rattle.mrd_writer.specs.Lent.{Lent, fixedOf, bodyOf, contentOf}
+use Rattle.mrd_format.specs.Parts.{Contents}
+use Rattle.mrd_format.specs.Content.{fixedOf, bodyOf, contentOf}
 
--- what is lent makes a whole fixed part, and a text's length fits its four bytes
-pub record Ready (k : Kind) (l : Lent) : Type 0 where
-  pub fixed : length (fixedOf k l) ≡ fixedSize k
-  pub text : length (l .text) < 2 ^ 32
+-- what is given makes a whole fixed part, and a text's length fits its four bytes
+pub record Ready (k : Kind) (c : Contents) : Type 0 where
+  pub fixed : length (fixedOf k c) ≡ fixedSize k
+  pub text : length (c .parts .text) < 2 ^ 32
 
--- what is lent is ready, and the part o of the output has room for what follows the id
-abbrev pub Roomy : Kind → Lent → List ℕ → Type 0
-Roomy k l o = Ready k l × (length (contentOf k l) ≤ length o)
+-- what is given is ready, and the part o of the output has room for what follows the id
+abbrev pub Roomy : Kind → Contents → List ℕ → Type 0
+Roomy k c o = Ready k c × (length (contentOf k c) ≤ length o)
 
 -- what a copy of all of a leaves in r
 abbrev copied : List ℕ → List ℕ → List ℕ
@@ -73,41 +74,41 @@ pub image-put : (h : List ℕ) (n : ℕ) (b o x y z : List ℕ) → length h ≡
 image-put h n b o x y z e room p q r = image-put-by h (toBytes 8 n) b o x y z e (length-toBytes 8 n) room p q r
 
 -- a name's message ends with its fixed part
-pub content-name : (l : Lent) → contentOf ConfigurationName l ≡ l .name ++ replicate (1024 - length (l .name)) 0
+pub content-name : (c : Contents) → contentOf ConfigurationName c ≡ c .parts .name ++ replicate (1024 - length (c .parts .name)) 0
 unfolding contentOf fixedOf bodyOf
-content-name l = append-nil _
+content-name c = append-nil _
 
 -- what follows the id fits in the part o: so do the parts that it is made of
-module _ (k : Kind) (l : Lent) (o : List ℕ) (ready : Ready k l) (room : length (contentOf k l) ≤ length o) where
+module _ (k : Kind) (c : Contents) (o : List ℕ) (ready : Ready k c) (room : length (contentOf k c) ≤ length o) where
   -- by its kind
-  content-room : {j : Kind} → k ≡ j → length (contentOf j l) ≤ length o
+  content-room : {j : Kind} → k ≡ j → length (contentOf j c) ≤ length o
   content-room e = rw e at room
 
-  pub name-room : k ≡ ConfigurationName → (length (l .name) ≤ 1024) × (1024 ≤ length o)
+  pub name-room : k ≡ ConfigurationName → (length (c .parts .name) ≤ 1024) × (1024 ≤ length o)
   unfolding fixedOf
   name-room e =
-      let fixed : length (fixedOf ConfigurationName l) ≡ 1024 = rw e at (ready .fixed) in
-      let whole : length (l .name) + (1024 - length (l .name)) ≡ 1024 = simp (length-append, length-replicate) at fixed in
+      let fixed : length (fixedOf ConfigurationName c) ≡ 1024 = rw e at (ready .fixed) in
+      let whole : length (c .parts .name) + (1024 - length (c .parts .name)) ≡ 1024 = simp (length-append, length-replicate) at fixed in
       let fits = simp (length-append, length-replicate) at (rw content-name at (content-room e)) in
       (omega arith, omega (arith, fits))
 
-  pub text-room : (j : Kind) → k ≡ j → contentOf j l ≡ toBytes 4 (length (l .text)) ++ l .text →
-      (length (l .text) < 2 ^ 32) × (4 + length (l .text) ≤ length o)
-  text-room j e c = (ready .text, rw (c, length-append, length-toBytes) at (content-room e))
+  pub text-room : contentOf k c ≡ toBytes 4 (length (c .parts .text)) ++ c .parts .text →
+      (length (c .parts .text) < 2 ^ 32) × (4 + length (c .parts .text) ≤ length o)
+  text-room made = (ready .text, rw (made, length-append, length-toBytes) at room)
 
-  pub acquisition-room : k ≡ Acquisition → length (l .header) + (length (l .trajectory) + length (l .samples)) ≤ length o
+  pub acquisition-room : k ≡ Acquisition → length (c .header) + (length (c .parts .trajectory) + length (c .parts .samples)) ≤ length o
   unfolding contentOf fixedOf bodyOf
   acquisition-room e = simp length-append at (content-room e)
 
-  pub image-room : k ≡ Image → (length (l .header) ≡ 198) × (206 + (length (l .attributes) + length (l .pixels)) ≤ length o)
+  pub image-room : k ≡ Image → (length (c .header) ≡ 198) × (206 + (length (c .parts .attributes) + length (c .parts .pixels)) ≤ length o)
   unfolding contentOf fixedOf bodyOf
   image-room e =
-      let fixed : length (l .header ++ toBytes 8 (length (l .attributes))) ≡ 206 = rw e at (ready .fixed) in
-      let header : length (l .header) + 8 ≡ 206 = rw (length-append, length-toBytes) at fixed in
-      let fits : length (l .header ++ toBytes 8 (length (l .attributes))) + length (l .attributes ++ l .pixels) ≤ length o =
+      let fixed : length (c .header ++ toBytes 8 (length (c .parts .attributes))) ≡ 206 = rw e at (ready .fixed) in
+      let header : length (c .header) + 8 ≡ 206 = rw (length-append, length-toBytes) at fixed in
+      let fits : length (c .header ++ toBytes 8 (length (c .parts .attributes))) + length (c .parts .attributes ++ c .parts .pixels) ≤ length o =
       rw length-append at (content-room e) in
       (omega arith, rw (fixed, length-append) at fits)
 
-  pub waveform-room : k ≡ Waveform → length (l .header) + length (l .waveform) ≤ length o
+  pub waveform-room : k ≡ Waveform → length (c .header) + length (c .parts .waveform) ≤ length o
   unfolding contentOf fixedOf bodyOf
   waveform-room e = simp length-append at (content-room e)

@@ -1,20 +1,21 @@
-// What follows a message's id, put at the front of a lent part of the output, field by field: each
-// writer is lent the part from its own place on.
+// What follows a message's id, put at the front of a part of the output, field by field: each field's
+// writer gets the part from its own place on.
 ghost use mathlib.Core.Path.{_≡_};
 ghost use Prim.Native.Nat.{_+_, _-_, _≤_, _<_, _^_};
 ghost use mathlib.Core.List.{_++_};
 ghost use lib.ListN.{length, replicate};
 ghost use Rattle.mrd_numbers.specs.Little.{toBytes};
 ghost use Rattle.mrd_numbers.specs.Stored.{front};
-ghost use Rattle.mrd_writer.specs.Lent.{lent, contentOf};
-ghost use Rattle.mrd_writer.specs.PutLaws.{Roomy};
+ghost use Rattle.mrd_format.specs.Parts.{contents};
+ghost use Rattle.mrd_format.specs.Content.{contentOf};
+ghost use Rattle.mrd_put.specs.PutLaws.{Roomy};
 use mrd_format::Kind;
 use mrd_numbers::put_u32;
 use mrd_numbers::put_u64;
 use mrd_numbers::put_zeros;
 
 // The bytes after the id, by kind.
-pub(crate) fn put_content(
+pub fn put_content(
     kind: Kind,
     header: &[u8],
     name: &[u8],
@@ -27,19 +28,17 @@ pub(crate) fn put_content(
     out: &mut [u8],
 )
     requires { ⌜ Roomy kind
-        (lent (now header) (now name) (now text) (now trajectory) (now samples) (now attributes) (now pixels) (now waveform))
+        (contents (now header) (now name) (now text) (now trajectory) (now samples) (now attributes) (now pixels) (now waveform))
         (now out) ⌝ }
     ensures { λ _. ⌜ now (out .exit) ≡ front (contentOf kind
-        (lent (now (header .entry)) (now (name .entry)) (now (text .entry)) (now (trajectory .entry)) (now (samples .entry))
+        (contents (now (header .entry)) (now (name .entry)) (now (text .entry)) (now (trajectory .entry)) (now (samples .entry))
         (now (attributes .entry)) (now (pixels .entry)) (now (waveform .entry))))
         (now (out .entry)) ⌝ }
 {
     match kind {
         Kind::ConfigurationName => put_name(name, out),
-        Kind::ConfigurationText => put_text(text, out),
-        Kind::HeaderText => put_text(text, out),
+        Kind::ConfigurationText | Kind::HeaderText | Kind::Text => put_text(text, out),
         Kind::Close => {}
-        Kind::Text => put_text(text, out),
         Kind::Acquisition => put_acquisition(header, trajectory, samples, out),
         Kind::Image => put_image(header, attributes, pixels, out),
         Kind::Waveform => put_joined(header, waveform, out),

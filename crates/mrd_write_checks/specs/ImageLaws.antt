@@ -1,4 +1,4 @@
--- An image's fixed part, the header with the attributes' length after it: its checks and its size are those of the header and that length.
+-- An image's fixed part, the header with the attributes' length after it: its size is that by the header and that length.
 -- Assumes nothing.
 use Prim.Native.Nat.{ℕ, _+_, _*_, _^_, _≤_, _<_}
 use native.Mathlib.Nat.{le-of-eq}
@@ -38,16 +38,6 @@ module _ (h : List ℕ) (a : ℕ) (e : length h ≡ 198) (fits : a < 256 ^ 8) wh
     field image.data-type 0 (omega arith),
   )
 
-  pub image-checks : (name : List ℕ) (n : Lengths) → n .attributes ≡ a → ownChecks Image h name n ≡ message.ownChecks Image (h ++ toBytes 8 a)
-  unfolding ownChecks message.ownChecks image.checks
-  image-checks name n q = rw (
-    attribute-length,
-    field image.version 0 (omega arith),
-    field image.data-type 0 (omega arith),
-    field image.attribute-string-len 0 (omega arith),
-    q,
-  )
-
   pub image-size : (n : Lengths) → n .attributes ≡ a → sizeOf Image h n ≡ message.sizeOf Image (h ++ toBytes 8 a)
   unfolding sizeOf bodySize message.sizeOf message.bodySize image.bodySize
   image-size n q = rw (attribute-length, pixels-size, q)
@@ -55,8 +45,9 @@ module _ (h : List ℕ) (a : ℕ) (e : length h ≡ 198) (fits : a < 256 ^ 8) wh
 -- so checks 4 to 10 of an image are those of its fixed part
 pub image-sized : (h name : List ℕ) (n : Lengths) → length h ≡ 198 → n .attributes < 256 ^ 8 →
     sized Image h name n ≡ sizedBy Image (h ++ toBytes 8 (n .attributes))
+unfolding ownChecks message.ownChecks
 image-sized h name n e fits =
-    sized-headed Image h name n _ (image-checks h (n .attributes) e fits name n refl) (image-size h (n .attributes) e fits n refl)
+    sized-headed Image h name n _ refl (image-size h (n .attributes) e fits n refl)
 
 -- the fixed part made of a header and eight bytes: x is the part after the copy, y the last eight bytes as they came back
 pub fixed-made : (h zeros x y : List ℕ) (a : ℕ) → length h ≡ 198 → length x ≡ 206 → x ≡ take (length h) h ++ drop (length h) zeros →

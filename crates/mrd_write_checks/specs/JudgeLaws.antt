@@ -18,11 +18,12 @@ use Rattle.mrd_format.specs.CheckLaws as format
 use Rattle.mrd_format.specs.Acquisition as acquisition
 use Rattle.mrd_format.specs.Image as image
 use Rattle.mrd_format.specs.Waveform as waveform
+use Rattle.mrd_format.specs.HeaderSize.{headerSize}
 use Rattle.mrd_format.specs.Sizes.{capped}
 use Rattle.mrd_format.specs.Message as message
 use Rattle.mrd_format.specs.Message.{limit}
 use Rattle.mrd_write_checks.specs.declared.lengths.Lengths.{Lengths}
-use Rattle.mrd_write_checks.specs.WriteChecks.{nameUnfit, headerSize, ownChecks, bodySize, sizeOf, partLengths, dueLengths, sameLengths, sizedChecks, contentsChecks, unless, judged}
+use Rattle.mrd_write_checks.specs.WriteChecks.{nameUnfit, ownChecks, bodySize, sizeOf, partLengths, dueLengths, sameLengths, sizedChecks, contentsChecks, unless, judged}
 
 -- an answer is one or the other
 pub answered-not-number : {z x : ℕ} → _≡_ {A = Answer ℕ} (answered z) (number x) → ⊥
@@ -49,7 +50,7 @@ module _ (cs ds : List Check) (all : numbered cs ≡ true) (z : ℕ) where
 
 -- no check has the number 0
 own-numbered : (k : Kind) (h name : List ℕ) (n : Lengths) → numbered (ownChecks k h name n) ≡ true
-unfolding ownChecks acquisition.checks waveform.checks
+unfolding ownChecks acquisition.checks image.checks waveform.checks
 own-numbered ConfigurationName h name n = refl
 own-numbered ConfigurationText h name n = refl
 own-numbered HeaderText h name n = refl
@@ -177,7 +178,7 @@ unfolding sized sizedChecks sizedBy
 sized-headed k h name n f own size = rw (own, size)
 
 pub sized-acquisition : (h name : List ℕ) (n : Lengths) → sized Acquisition h name n ≡ sizedBy Acquisition h
-unfolding ownChecks message.ownChecks sizeOf bodySize message.sizeOf message.bodySize
+unfolding ownChecks message.ownChecks sizeOf bodySize message.sizeOf message.bodySize acquisition.bodySize
 sized-acquisition h name n = sized-headed Acquisition h name n h refl refl
 
 pub sized-waveform : (h name : List ℕ) (n : Lengths) → sized Waveform h name n ≡ sizedBy Waveform h

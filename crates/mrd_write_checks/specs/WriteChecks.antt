@@ -7,9 +7,12 @@ use mathlib.Core.List.{List, [], _∷_, _++_}
 use lib.Dec.{eqb, ltb}
 use lib.ListN.{length}
 use Rattle.bytes.specs.Bytes.{indexOf}
+use Rattle.mrd_numbers.specs.Little.{toBytes}
 use Rattle.mrd_format.specs.declared.kind.Kind.{Kind}
 use Rattle.mrd_format.specs.declared.kind.Kind.the-variants.{ConfigurationName, ConfigurationText, HeaderText, Close, Text, Acquisition, Image, Waveform}
 use Rattle.mrd_format.specs.Kinds.{fixedSize}
+use Rattle.mrd_format.specs.HeaderSize.{headerSize}
+use Rattle.mrd_format.specs.Parts.{Contents}
 use Rattle.mrd_logic.specs.Checks.{Check, _when_, first}
 use Rattle.mrd_logic.specs.Answer.{Answer, answered, number}
 use Rattle.mrd_format.specs.Message.{limit}
@@ -20,22 +23,12 @@ use Rattle.mrd_write_checks.specs.declared.lengths.Lengths.{Lengths}
 use Rattle.mrd_write_checks.specs.declared.contents.ContentsJudged.{ContentsJudged}
 use Rattle.mrd_write_checks.specs.declared.contents.ContentsJudged
 
--- 'the fixed header's bytes (340, 198 or 32; none for other kinds)'
-abbrev pub headerSize : Kind → ℕ
-headerSize ConfigurationName = 0
-headerSize ConfigurationText = 0
-headerSize HeaderText = 0
-headerSize Close = 0
-headerSize Text = 0
-headerSize Acquisition = 340
-headerSize Image = 198
-headerSize Waveform = 32
-
 -- 'writer: name over 1,023 bytes or holding a zero'
 unfoldable pub nameUnfit : List ℕ → Bool
 nameUnfit name = ltb 1023 (length name) || ltb (indexOf 0 name) (length name)
 
--- checks 4 to 9 'in number order where they apply', of the given header h, name and lengths n
+-- checks 4 to 9 'in number order where they apply', of the given header h, name and lengths n: those of the fixed part that is made of them, and
+-- of a name its own
 unfoldable pub ownChecks : Kind → (h name : List ℕ) → Lengths → List Check
 ownChecks ConfigurationName h name n = (5 when nameUnfit name) ∷ []
 ownChecks ConfigurationText h name n = []
@@ -43,11 +36,7 @@ ownChecks HeaderText h name n = []
 ownChecks Close h name n = []
 ownChecks Text h name n = []
 ownChecks Acquisition h name n = acquisition.checks h
-ownChecks Image h name n =
-    (4 when not (eqb (image.get image.version h) 1)) ∷
-    (8 when image.typeUnknown h) ∷
-    (9 when not (eqb (image.get image.attribute-string-len h) (n .attributes))) ∷
-    []
+ownChecks Image h name n = image.checks (h ++ toBytes 8 (n .attributes))
 ownChecks Waveform h name n = waveform.checks h
 
 -- what follows the fixed part, 'by the header's numbers and the lent text's or attributes' length'
@@ -68,6 +57,12 @@ sizeOf k h n = 2 + fixedSize k + bodySize k h n
 abbrev pub partLengths : (name text trajectory samples attributes pixels waveform : ℕ) → Lengths
 partLengths n t j s a p w =
     record { name = n; text = t; trajectory = j; samples = s; attributes = a; pixels = p; waveform = w }
+
+-- the lengths of the seven given parts
+abbrev pub lengthsOf : Contents → Lengths
+lengthsOf c =
+    partLengths (length (c .parts .name)) (length (c .parts .text)) (length (c .parts .trajectory)) (length (c .parts .samples))
+    (length (c .parts .attributes)) (length (c .parts .pixels)) (length (c .parts .waveform))
 
 -- the lengths that the parts must have: 'what its header says', and 0 for 'a part its kind lacks'. The writer takes a name's, a text's and the
 -- attributes' length from the given bytes

@@ -3,18 +3,17 @@
 ghost use mathlib.Core.Path.{_≡_};
 ghost use mathlib.Core.List.{[], _++_};
 ghost use lib.ListN.{length};
-ghost use Prim.Native.Nat.{_≤_};
 ghost use Rattle.mrd_numbers.specs.Little.{toBytes};
 ghost use Rattle.mrd_format.specs.declared.kind.Kind;
 ghost use Rattle.mrd_format.specs.Kinds.{fixedSize};
-ghost use Rattle.mrd_write_checks.specs.WriteChecks.{judgedMeaning, headerSize, sizeOf, dueLengths, judged};
+ghost use Rattle.mrd_format.specs.HeaderSize.{headerSize};
+ghost use Rattle.mrd_write_checks.specs.WriteChecks.{judgedMeaning, sizeOf, dueLengths, judged};
 ghost use Rattle.mrd_write_checks.specs.JudgeLaws.{sized, sizedBy, nameSized, textSized};
 use crate::lengths::Lengths;
+use mrd_acquisition::trajectory_size;
 use mrd_format::Kind;
-use mrd_format::acquisition::trajectory_size;
-use mrd_format::message;
 use mrd_format::refusal;
-use mrd_format::size::LIMIT;
+use mrd_format::size::MAX_MESSAGE_SIZE;
 use mrd_numbers::put_u64;
 
 pub enum ContentsJudged {
@@ -24,15 +23,13 @@ pub enum ContentsJudged {
     Refused(u8),
 }
 
-const IMAGE_HEADER: usize = 198;
-
 // The size of the message of this kind with this header, this name and parts of the given lengths, or
 // the first refusal, 14 left out.
 pub fn judge(kind: Kind, header: &[u8], name: &[u8], given: Lengths) -> ContentsJudged
     ensures { λ r. ⌜ judgedMeaning r ≡ judged kind (now (header .entry)) (now (name .entry)) given ⌝ }
 {
-    if header.len() != header_size(kind) {
-        return ContentsJudged::Refused(refusal::FIXED_PART);
+    if header.len() != kind.header_size() {
+        return ContentsJudged::Refused(refusal::FIXED_PART_CUT);
     }
     let checked = checked_size(kind, header, name, given);
     match checked {
@@ -40,26 +37,10 @@ pub fn judge(kind: Kind, header: &[u8], name: &[u8], given: Lengths) -> Contents
             if given.same(due(kind, header, size, given)) {
                 ContentsJudged::Size(size)
             } else {
-                ContentsJudged::Refused(refusal::BODY)
+                ContentsJudged::Refused(refusal::BODY_LENGTH)
             }
         }
         ContentsJudged::Refused(number) => ContentsJudged::Refused(number),
-    }
-}
-
-// The size of the kind's fixed header, without an image's 8-byte length.
-fn header_size(kind: Kind) -> usize
-    ensures { λ r. ⌜ r ≡ headerSize kind ⌝ }
-{
-    match kind {
-        Kind::ConfigurationName => 0,
-        Kind::ConfigurationText => 0,
-        Kind::HeaderText => 0,
-        Kind::Close => 0,
-        Kind::Text => 0,
-        Kind::Acquisition => Kind::ACQUISITION_FIXED,
-        Kind::Image => IMAGE_HEADER,
-        Kind::Waveform => Kind::WAVEFORM_FIXED,
     }
 }
 
@@ -96,8 +77,8 @@ fn checked_text(text: usize) -> ContentsJudged
     ensures { λ r. ⌜ judgedMeaning r ≡ textSized text ⌝ }
 {
     let head = 2 + Kind::TEXT_FIXED;
-    if LIMIT - (head as u64) < text as u64 {
-        return ContentsJudged::Refused(refusal::MESSAGE_LIMIT);
+    if MAX_MESSAGE_SIZE - (head as u64) < text as u64 {
+        return ContentsJudged::Refused(refusal::TOO_LARGE);
     }
     ContentsJudged::Size(head + text)
 }
@@ -107,13 +88,13 @@ fn checked_fixed(kind: Kind, h: &[u8]) -> ContentsJudged
     requires { ⌜ length (now h) ≡ fixedSize kind ⌝ }
     ensures { λ r. ⌜ judgedMeaning r ≡ sizedBy kind (now (h .entry)) ⌝ }
 {
-    let fault = message::fault(kind, h);
+    let fault = mrd_message::fault(kind, h);
     if fault != 0 {
         return ContentsJudged::Refused(fault);
     }
-    let size = message::size(kind, h);
-    if LIMIT < size as u64 {
-        return ContentsJudged::Refused(refusal::MESSAGE_LIMIT);
+    let size = mrd_message::size(kind, h);
+    if MAX_MESSAGE_SIZE < size as u64 {
+        return ContentsJudged::Refused(refusal::TOO_LARGE);
     }
     ContentsJudged::Size(size)
 }
@@ -125,7 +106,7 @@ fn image_fixed(header: &[u8], attributes: usize) -> [u8; 206]
 {
     let mut fixed = [0u8; 206];
     bytes::copy(header, &mut fixed);
-    put_u64(&mut fixed[IMAGE_HEADER..], attributes as u64);
+    put_u64(&mut fixed[Kind::IMAGE_HEADER..], attributes as u64);
     fixed
 }
 

@@ -1,12 +1,12 @@
--- `mrd_writer::put::put_acquisition` meets its contract: the header is copied to the front, and the two parts follow it.
+-- `mrd_put::put::put_acquisition` meets its contract: the header is copied to the front, and the two parts follow it.
 -- Assumes nothing.
 use mathlib.Core.List.{_++_}
 use lib.ListN.{length-append}
 use denote.Ref.{now}
 use borrow.Author.Needs.{needs}
-use Rattle.mrd_writer.specs.PutLaws.{headed-put}
-use Rattle.mrd_writer.proofs.put.put_acquisition.Statement.{statement}
-use Rattle.mrd_writer.proofs.put.put_acquisition.Tie as tie
+use Rattle.mrd_put.specs.PutLaws.{headed-put}
+use Rattle.mrd_put.proofs.put.put_acquisition.Statement.{statement}
+use Rattle.mrd_put.proofs.put.put_acquisition.Tie as tie
 
 sub-copy : tie.Need-sub-copy
 sub-copy c = search needs

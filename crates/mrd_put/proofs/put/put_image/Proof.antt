@@ -1,12 +1,12 @@
--- `mrd_writer::put::put_image` meets its contract: the header is copied to the front, the attributes' length follows it, and then the two parts.
+-- `mrd_put::put::put_image` meets its contract: the header is copied to the front, the attributes' length follows it, and then the two parts.
 -- Assumes nothing.
 use mathlib.Core.List.{_++_}
 use lib.ListN.{length, length-append}
 use denote.Ref.{now}
 use borrow.Author.Needs.{needs}
-use Rattle.mrd_writer.specs.PutLaws.{image-put}
-use Rattle.mrd_writer.proofs.put.put_image.Statement.{statement}
-use Rattle.mrd_writer.proofs.put.put_image.Tie as tie
+use Rattle.mrd_put.specs.PutLaws.{image-put}
+use Rattle.mrd_put.proofs.put.put_image.Statement.{statement}
+use Rattle.mrd_put.proofs.put.put_image.Tie as tie
 
 sub-copy : tie.Need-sub-copy
 sub-copy c = search needs

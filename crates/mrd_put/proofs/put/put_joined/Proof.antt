@@ -1,10 +1,10 @@
--- `mrd_writer::put::put_joined` meets its contract: the first part is copied to the front, and the second follows it.
+-- `mrd_put::put::put_joined` meets its contract: the first part is copied to the front, and the second follows it.
 -- Assumes nothing.
 use denote.Ref.{now}
 use borrow.Author.Needs.{needs}
-use Rattle.mrd_writer.specs.PutLaws.{joined-put}
-use Rattle.mrd_writer.proofs.put.put_joined.Statement.{statement}
-use Rattle.mrd_writer.proofs.put.put_joined.Tie as tie
+use Rattle.mrd_put.specs.PutLaws.{joined-put}
+use Rattle.mrd_put.proofs.put.put_joined.Statement.{statement}
+use Rattle.mrd_put.proofs.put.put_joined.Tie as tie
 
 sub-copy : tie.Need-sub-copy
 sub-copy c = search needs

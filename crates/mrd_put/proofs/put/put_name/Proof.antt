@@ -1,10 +1,10 @@
--- `mrd_writer::put::put_name` meets its contract: the name is copied to the front, and the zeros follow it.
+-- `mrd_put::put::put_name` meets its contract: the name is copied to the front, and the zeros follow it.
 -- Assumes nothing.
 use denote.Ref.{now}
 use borrow.Author.Needs.{needs}
-use Rattle.mrd_writer.specs.PutLaws.{name-put}
-use Rattle.mrd_writer.proofs.put.put_name.Statement.{statement}
-use Rattle.mrd_writer.proofs.put.put_name.Tie as tie
+use Rattle.mrd_put.specs.PutLaws.{name-put}
+use Rattle.mrd_put.proofs.put.put_name.Statement.{statement}
+use Rattle.mrd_put.proofs.put.put_name.Tie as tie
 
 sub-copy : tie.Need-sub-copy
 sub-copy c = search needs

@@ -1,10 +1,10 @@
--- `mrd_writer::put::put_text` meets its contract: the length takes the first four bytes, and the text follows them.
+-- `mrd_put::put::put_text` meets its contract: the length takes the first four bytes, and the text follows them.
 -- Assumes nothing.
 use denote.Ref.{now}
 use borrow.Author.Needs.{needs}
-use Rattle.mrd_writer.specs.PutLaws.{text-put}
-use Rattle.mrd_writer.proofs.put.put_text.Statement.{statement}
-use Rattle.mrd_writer.proofs.put.put_text.Tie as tie
+use Rattle.mrd_put.specs.PutLaws.{text-put}
+use Rattle.mrd_put.proofs.put.put_text.Statement.{statement}
+use Rattle.mrd_put.proofs.put.put_text.Tie as tie
 
 sub-put-u32 : tie.Need-sub-put-u32
 sub-put-u32 c = search needs

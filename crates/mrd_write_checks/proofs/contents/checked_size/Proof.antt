@@ -11,7 +11,7 @@ use Rattle.mrd_format.specs.declared.kind.Kind.the-variants.{Image}
 use Rattle.mrd_write_checks.specs.WriteChecks.{judgedMeaning}
 use Rattle.mrd_write_checks.specs.JudgeLaws.{sized, sizedBy, sized-name, sized-text, sized-close, sized-acquisition, sized-waveform}
 use Rattle.mrd_write_checks.specs.ImageLaws.{image-sized}
-use Rattle.mrd_write_checks.proofs.KindCases.{by-text}
+use Rattle.mrd_format.proofs.KindCases.{by-text}
 use Rattle.mrd_write_checks.proofs.contents.checked_size.Statement.{statement}
 use Rattle.mrd_write_checks.proofs.contents.checked_size.Tie as tie
 

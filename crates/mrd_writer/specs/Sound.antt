@@ -1,4 +1,4 @@
--- What is lent passes every check but 14: what that says of its parts, and of the message that they make.
+-- What is given passes every check but 14: what that says of its parts, and of the message that they make.
 -- Assumes nothing.
 use Prim.Native.Nat.{ℕ, _+_, _≤_}
 use native.Mathlib.Omega.{arith}
@@ -19,18 +19,18 @@ use Rattle.mrd_format.specs.Message.{limit}
 use Rattle.mrd_format.specs.Acquisition as acquisition
 use Rattle.mrd_format.specs.Waveform as waveform
 use Rattle.mrd_writer.specs.declared.lengths.Lengths.{Lengths}
-use Rattle.mrd_writer.specs.Lent.{Lent, lengthsOf, headerSize, fixedOf, bodyOf, contentOf}
-use Rattle.mrd_writer.specs.Refusals.{holdsZero, ownChecks, bodySize, sizeOf, dueLengths, sameLengths, sizeChecks, headedChecks, lentChecks, done, judged}
-use Rattle.mrd_writer.specs.Write.{judgedLent}
-use Rattle.mrd_writer.specs.JudgeLaws.{unless-done}
+use Rattle.mrd_writer.specs.Contents.{Contents, lengthsOf, headerSize, fixedOf, bodyOf, contentOf}
+use Rattle.mrd_writer.specs.Refusals.{holdsZero, ownChecks, bodySize, sizeOf, dueLengths, sameLengths, sizeChecks, headedChecks, contentsChecks, answered, judged}
+use Rattle.mrd_writer.specs.Write.{judgedContents}
+use Rattle.mrd_writer.specs.JudgeLaws.{unless-answered}
 use Rattle.mrd_writer.specs.PutLaws.{Ready}
 
--- what is lent passes checks 3 to 10 and 18
-pub record Sound (k : Kind) (l : Lent) : Type 0 where
-  pub header : length (l .header) ≡ headerSize k
-  pub own : Every Passed (ownChecks k (l .header) (l .name) (lengthsOf l))
-  pub small : sizeOf k (l .header) (lengthsOf l) ≤ limit
-  pub lengths : lengthsOf l ≡ dueLengths k (l .header) (lengthsOf l)
+-- what is given passes checks 3 to 10 and 18
+pub record Sound (k : Kind) (c : Contents) : Type 0 where
+  pub header : length (c .header) ≡ headerSize k
+  pub own : Every Passed (ownChecks k (c .header) (c .parts .name) (lengthsOf c))
+  pub small : sizeOf k (c .header) (lengthsOf c) ≤ limit
+  pub lengths : lengthsOf c ≡ dueLengths k (c .header) (lengthsOf c)
 
 -- two tests that hold
 both : (a b : Bool) → a && b ≡ true → (a ≡ true) × (b ≡ true)
@@ -74,18 +74,18 @@ own-numbered Acquisition h name n = refl
 own-numbered Image h name n = refl
 own-numbered Waveform h name n = refl
 
-pub lent-numbered : (k : Kind) (h name : List ℕ) (n : Lengths) → numbered (lentChecks k h name n) ≡ true
-unfolding lentChecks headedChecks
-lent-numbered k h name n = numbered-append (ownChecks k h name n) (sizeChecks k h n) (own-numbered k h name n) refl
+pub contents-numbered : (k : Kind) (h name : List ℕ) (n : Lengths) → numbered (contentsChecks k h name n) ≡ true
+unfolding contentsChecks headedChecks
+contents-numbered k h name n = numbered-append (ownChecks k h name n) (sizeChecks k h n) (own-numbered k h name n) refl
 
 -- what every check passed says
-pub passed-sound : (k : Kind) (l : Lent) → first (lentChecks k (l .header) (l .name) (lengthsOf l)) ≡ 0 → Sound k l
-unfolding lentChecks headedChecks
-passed-sound k l e =
-    let h = l .header in
-    let n = lengthsOf l in
-    let all = first-passed (lentChecks k h (l .name) n) (lent-numbered k h (l .name) n) e in
-    let later = every-split (ownChecks k h (l .name) n) (sizeChecks k h n) (all .1) in
+pub passed-sound : (k : Kind) (c : Contents) → first (contentsChecks k (c .header) (c .parts .name) (lengthsOf c)) ≡ 0 → Sound k c
+unfolding contentsChecks headedChecks
+passed-sound k c e =
+    let h = c .header in
+    let n = lengthsOf c in
+    let all = first-passed (contentsChecks k h (c .parts .name) n) (contents-numbered k h (c .parts .name) n) e in
+    let later = every-split (ownChecks k h (c .parts .name) n) (sizeChecks k h n) (all .1) in
     record {
       header = eqb-true (length h) (headerSize k) (not-false _ (all .0));
       own = later .0;
@@ -93,63 +93,63 @@ passed-sound k l e =
       lengths = same-lengths n (dueLengths k h n) (not-false _ (later .1 .1 .0));
     }
 
--- what is lent is judged to make a message of size z where no check refuses
-pub judged-done : (k : Kind) (l : Lent) {z : ℕ} → judgedLent k l ≡ done z →
-    (first (lentChecks k (l .header) (l .name) (lengthsOf l)) ≡ 0) × (sizeOf k (l .header) (lengthsOf l) ≡ z)
+-- what is given is judged to make a message of size z where no check refuses
+pub judged-answered : (k : Kind) (c : Contents) {z : ℕ} → judgedContents k c ≡ answered z →
+    (first (contentsChecks k (c .header) (c .parts .name) (lengthsOf c)) ≡ 0) × (sizeOf k (c .header) (lengthsOf c) ≡ z)
 unfolding judged
-judged-done k l e = unless-done (first (lentChecks k (l .header) (l .name) (lengthsOf l))) (sizeOf k (l .header) (lengthsOf l)) e
+judged-answered k c e = unless-answered (first (contentsChecks k (c .header) (c .parts .name) (lengthsOf c))) (sizeOf k (c .header) (lengthsOf c)) e
 
 -- a sound name is short enough for its zero, and holds none itself
-pub sound-name : (l : Lent) → Sound ConfigurationName l → (length (l .name) ≤ 1023) × (holdsZero (l .name) ≡ false)
+pub sound-name : (c : Contents) → Sound ConfigurationName c → (length (c .parts .name) ≤ 1023) × (holdsZero (c .parts .name) ≡ false)
 unfolding ownChecks
-sound-name l s =
-    let tests = neither (ltb 1023 (length (l .name))) (holdsZero (l .name)) (s .own .0) in
-    (ltb-false 1023 (length (l .name)) (tests .0), tests .1)
+sound-name c s =
+    let tests = neither (ltb 1023 (length (c .parts .name))) (holdsZero (c .parts .name)) (s .own .0) in
+    (ltb-false 1023 (length (c .parts .name)) (tests .0), tests .1)
 
 -- the fixed part has its kind's length
-pub fixed-length : (k : Kind) (l : Lent) → Sound k l → length (fixedOf k l) ≡ fixedSize k
+pub fixed-length : (k : Kind) (c : Contents) → Sound k c → length (fixedOf k c) ≡ fixedSize k
 unfolding fixedOf
-fixed-length ConfigurationName l s = simp (length-append, length-replicate) (omega (arith, sound-name l s))
-fixed-length ConfigurationText l s = length-toBytes 4 (length (l .text))
-fixed-length HeaderText l s = length-toBytes 4 (length (l .text))
-fixed-length Close l s = refl
-fixed-length Text l s = length-toBytes 4 (length (l .text))
-fixed-length Acquisition l s = s .header
-fixed-length Image l s = rw (length-append, s .header)
-fixed-length Waveform l s = s .header
+fixed-length ConfigurationName c s = simp (length-append, length-replicate) (omega (arith, sound-name c s))
+fixed-length ConfigurationText c s = length-toBytes 4 (length (c .parts .text))
+fixed-length HeaderText c s = length-toBytes 4 (length (c .parts .text))
+fixed-length Close c s = refl
+fixed-length Text c s = length-toBytes 4 (length (c .parts .text))
+fixed-length Acquisition c s = s .header
+fixed-length Image c s = rw (length-append, s .header)
+fixed-length Waveform c s = s .header
 
 -- the parts that follow are as long as the size says
-pub body-length : (k : Kind) (l : Lent) → Sound k l → length (bodyOf k l) ≡ bodySize k (l .header) (lengthsOf l)
+pub body-length : (k : Kind) (c : Contents) → Sound k c → length (bodyOf k c) ≡ bodySize k (c .header) (lengthsOf c)
 unfolding bodyOf bodySize dueLengths acquisition.bodySize
-body-length ConfigurationName l s = refl
-body-length ConfigurationText l s = refl
-body-length HeaderText l s = refl
-body-length Close l s = refl
-body-length Text l s = refl
-body-length Acquisition l s =
-    length-append (l .trajectory) (l .samples) ∙
+body-length ConfigurationName c s = refl
+body-length ConfigurationText c s = refl
+body-length HeaderText c s = refl
+body-length Close c s = refl
+body-length Text c s = refl
+body-length Acquisition c s =
+    length-append (c .parts .trajectory) (c .parts .samples) ∙
     ap₂ (λ (a b : ℕ). a + b) (ap (λ (n : Lengths). n .trajectory) (s .lengths)) (ap (λ (n : Lengths). n .samples) (s .lengths))
-body-length Image l s =
-    length-append (l .attributes) (l .pixels) ∙ ap (λ (b : ℕ). length (l .attributes) + b) (ap (λ (n : Lengths). n .pixels) (s .lengths))
-body-length Waveform l s = ap (λ (n : Lengths). n .waveform) (s .lengths)
+body-length Image c s =
+    length-append (c .parts .attributes) (c .parts .pixels) ∙ ap (λ (b : ℕ). length (c .parts .attributes) + b) (ap (λ (n : Lengths). n .pixels) (s .lengths))
+body-length Waveform c s = ap (λ (n : Lengths). n .waveform) (s .lengths)
 
 -- so what follows the id is as long as the message, less the id
-pub content-length : (k : Kind) (l : Lent) → Sound k l → 2 + length (contentOf k l) ≡ sizeOf k (l .header) (lengthsOf l)
+pub content-length : (k : Kind) (c : Contents) → Sound k c → 2 + length (contentOf k c) ≡ sizeOf k (c .header) (lengthsOf c)
 unfolding contentOf sizeOf
-content-length k l s = rw (length-append, fixed-length k l s, body-length k l s) (omega arith)
+content-length k c s = rw (length-append, fixed-length k c s, body-length k c s) (omega arith)
 
 -- a text is within the limit
-pub text-small : (k : Kind) (l : Lent) → Sound k l → length (l .text) ≤ limit
+pub text-small : (k : Kind) (c : Contents) → Sound k c → length (c .parts .text) ≤ limit
 unfolding sizeOf bodySize dueLengths
-text-small ConfigurationName l s = let none : length (l .text) ≡ 0 = ap (λ (n : Lengths). n .text) (s .lengths) in omega arith
-text-small ConfigurationText l s = omega (arith, s .small)
-text-small HeaderText l s = omega (arith, s .small)
-text-small Close l s = let none : length (l .text) ≡ 0 = ap (λ (n : Lengths). n .text) (s .lengths) in omega arith
-text-small Text l s = omega (arith, s .small)
-text-small Acquisition l s = let none : length (l .text) ≡ 0 = ap (λ (n : Lengths). n .text) (s .lengths) in omega arith
-text-small Image l s = let none : length (l .text) ≡ 0 = ap (λ (n : Lengths). n .text) (s .lengths) in omega arith
-text-small Waveform l s = let none : length (l .text) ≡ 0 = ap (λ (n : Lengths). n .text) (s .lengths) in omega arith
+text-small ConfigurationName c s = let none : length (c .parts .text) ≡ 0 = ap (λ (n : Lengths). n .text) (s .lengths) in omega arith
+text-small ConfigurationText c s = omega (arith, s .small)
+text-small HeaderText c s = omega (arith, s .small)
+text-small Close c s = let none : length (c .parts .text) ≡ 0 = ap (λ (n : Lengths). n .text) (s .lengths) in omega arith
+text-small Text c s = omega (arith, s .small)
+text-small Acquisition c s = let none : length (c .parts .text) ≡ 0 = ap (λ (n : Lengths). n .text) (s .lengths) in omega arith
+text-small Image c s = let none : length (c .parts .text) ≡ 0 = ap (λ (n : Lengths). n .text) (s .lengths) in omega arith
+text-small Waveform c s = let none : length (c .parts .text) ≡ 0 = ap (λ (n : Lengths). n .text) (s .lengths) in omega arith
 
 -- what passes is ready to be put
-pub sound-ready : (k : Kind) (l : Lent) → Sound k l → Ready k l
-sound-ready k l s = record { fixed = fixed-length k l s; text = omega (arith, text-small k l s) }
+pub sound-ready : (k : Kind) (c : Contents) → Sound k c → Ready k c
+sound-ready k c s = record { fixed = fixed-length k c s; text = omega (arith, text-small k c s) }

@@ -8,7 +8,7 @@ use Rattle.mrd_index.specs.Compare as compare
 use Rattle.mrd_record.specs.Fields as fields
 use Rattle.mrd_record.specs.Views as views
 use Rattle.mrd_stream.specs.Output as output
-use Rattle.mrd_stream.specs.Walk.{Verdict, accepted, refused}
+use Rattle.mrd_logic.specs.Answer.{Verdict, accepted, refused}
 use Rattle.mrd_writer.specs.Refusals as writer
 use Rattle.cotterleaf.specs.declared.answers.Checked.{Checked}
 use Rattle.cotterleaf.specs.declared.answers.ViewPlace.{ViewPlace}
@@ -17,6 +17,7 @@ use Rattle.cotterleaf.specs.declared.answers.Found.{Found}
 use Rattle.cotterleaf.specs.declared.answers.Written.{Written}
 use Rattle.cotterleaf.specs.declared.answers.Matched.{Matched}
 use Rattle.cotterleaf.specs.declared.answers.Put.{Put}
+use Rattle.mrd_logic.specs.Answer as answers
 
 -- the stream's answer
 abbrev pub checkedAs : (refusal r byte count : ℕ) → Checked
@@ -57,19 +58,19 @@ faceField (fields.faulty f r b) = refusedField f r b
 abbrev pub foundAs : (refusal r byte number : ℕ) → Found
 foundAs f r b n = record { refusal = f; «record» = r; byte = b; number = n }
 
-abbrev pub faceFound : find.Sought → Found
-faceFound (find.found i) = foundAs 0 0 0 i
-faceFound (find.stream f r b) = foundAs f r b 0
-faceFound (find.number n) = foundAs n 0 0 0
+abbrev pub faceFound : answers.Answer ℕ → Found
+faceFound (answers.answered i) = foundAs 0 0 0 i
+faceFound (answers.stream f r b) = foundAs f r b 0
+faceFound (answers.number n) = foundAs n 0 0 0
 
 -- what was written to the front of an output
 abbrev pub writtenAs : (refusal r byte length : ℕ) → Written
 writtenAs f r b n = record { refusal = f; «record» = r; byte = b; length = n }
 
-abbrev pub faceWritten : output.OutputAnswer → Written
-faceWritten (output.written n) = writtenAs 0 0 0 n
-faceWritten (output.stream f r b) = writtenAs f r b 0
-faceWritten (output.number n) = writtenAs n 0 0 0
+abbrev pub faceWritten : answers.Answer ℕ → Written
+faceWritten (answers.answered n) = writtenAs 0 0 0 n
+faceWritten (answers.stream f r b) = writtenAs f r b 0
+faceWritten (answers.number n) = writtenAs n 0 0 0
 
 -- a lent index compared
 abbrev pub matchedAs : (refusal r byte : ℕ) → Matched

@@ -7,7 +7,8 @@ use Rattle.mrd_format.specs.declared.kind.Kind.the-variants.{ConfigurationName,
 use Rattle.mrd_format.specs.declared.shape.Shape.{Shape}
 use Rattle.mrd_format.specs.Kinds.{idOf}
 use Rattle.mrd_stream.specs.declared.answer.Place.{Place}
-use Rattle.mrd_stream.specs.Places.{Located, Answer, found, stream, number}
+use Rattle.mrd_stream.specs.Places.{Located}
+use Rattle.mrd_logic.specs.Answer.{Answer, answered, stream, number}
 use Rattle.mrd_stream.specs.Told.{toldRecord}
 use Rattle.cotterleaf.specs.declared.placed.Placed.{Placed}
 
@@ -81,7 +82,7 @@ faceRecord l = recordAs (l .kind) l
 abbrev pub shapeFace : Place → Shape → Placed
 shapeFace p h = faceRecord (toldRecord (record { place = p; shape = h }))
 
-abbrev pub facePlaced : Answer → Placed
-facePlaced (found l) = faceRecord l
+abbrev pub facePlaced : Answer Located → Placed
+facePlaced (answered l) = faceRecord l
 facePlaced (stream f r b) = refusedPlace f r b
 facePlaced (number n) = refusedPlace n 0 0

@@ -4,9 +4,9 @@ use Prim.Native.Nat.{ℕ}
 use mathlib.Core.Path.{_≡_, refl, ap}
 use mathlib.Core.Bool.{true, false}
 use mathlib.Core.List.{[], _∷_}
-use Rattle.mrd_stream.specs.declared.cursor.Phase.{Phase}
-use Rattle.mrd_stream.specs.declared.cursor.Phase.the-variants.{Start, Configured, Headed, Closed}
-use Rattle.mrd_stream.specs.declared.cursor.Cursor as walk
+use Rattle.mrd_cursor.specs.declared.cursor.Phase.{Phase}
+use Rattle.mrd_cursor.specs.declared.cursor.Phase.the-variants.{Start, Configured, Headed, Closed}
+use Rattle.mrd_cursor.specs.declared.cursor.Cursor as walk
 use Rattle.mrd_stream.specs.Places.{Stepped, handed, over}
 use Rattle.cotterleaf.specs.declared.walk.Cursor.{Cursor}
 use Rattle.cotterleaf.specs.declared.walk.Step.{Step}

@@ -1,8 +1,8 @@
 // Is it a stream, and where are its records?
 ghost use mathlib.Core.Path.{_≡_};
 ghost use Rattle.mrd_stream.specs.Places.{place, step};
-ghost use Rattle.mrd_stream.specs.StepLaws.{from};
-ghost use Rattle.mrd_stream.specs.Walk.{verdict, answer, beginning};
+ghost use Rattle.mrd_stream.specs.Walk.{from, verdict, answer};
+ghost use Rattle.mrd_cursor.specs.Cursors.{beginning};
 ghost use Rattle.cotterleaf.specs.Answers.{faceChecked};
 ghost use Rattle.cotterleaf.specs.Placed.{facePlaced};
 ghost use Rattle.cotterleaf.specs.Walk.{cursorOf, faceCursor, faceStep};
@@ -33,7 +33,7 @@ pub extern "C" fn mrd_place(stream: &[u8], n: usize) -> Placed
 pub extern "C" fn mrd_beginning() -> Cursor
     ensures { λ r. ⌜ r ≡ faceCursor beginning ⌝ }
 {
-    Cursor::of(mrd_stream::Cursor::beginning())
+    Cursor::of(mrd_cursor::Cursor::beginning())
 }
 
 // One step of a walk.
@@ -41,7 +41,7 @@ pub extern "C" fn mrd_beginning() -> Cursor
 pub extern "C" fn mrd_next(stream: &[u8], cursor: Cursor) -> Step
     ensures { λ r. ⌜ r ≡ faceStep (step (cursorOf cursor) (now (stream .entry))) ⌝ }
 {
-    Step::of(cursor_of(cursor).next(stream))
+    Step::of(mrd_stream::next(cursor_of(cursor), stream))
 }
 
 // The answer of what a walk still has before it.

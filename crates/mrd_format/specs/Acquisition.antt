@@ -102,6 +102,10 @@ body h = sized trajectory (trajectorySize h) ∷ channels (get active-channels h
 unfoldable pub bodySize : List ℕ → ℕ
 bodySize h = total (body h)
 
+-- the 'seventeen counters'
+unfoldable pub countersOf : List ℕ → List ℕ
+countersOf h = elements (layout counters) h
+
 -- 'samples, active channels and dimensions for an acquisition'
 unfoldable pub numbers : List ℕ → List ℕ
 numbers h = get number-of-samples h ∷ get active-channels h ∷ get trajectory-dimensions h ∷ []
@@ -115,4 +119,5 @@ form =
       checks = checks;
       numbers = numbers;
       counter = get scan-counter;
+      uid = get measurement-uid;
     }

@@ -84,3 +84,7 @@ bytesOf r =
 -- 'scan counter (u32; 0 where the kind has none)', of a fixed part h
 unfoldable pub counterOf : Kind → List ℕ → ℕ
 counterOf k h = formOf k .counter h
+
+-- 'measurement uid', 0 where the kind has none
+unfoldable pub uidOf : Kind → List ℕ → ℕ
+uidOf k h = formOf k .uid h

@@ -8,7 +8,7 @@ use mathlib.Core.List.{List}
 use lib.ListN.{length, getD}
 use Rattle.mrd_numbers.specs.Little.{num}
 use Rattle.mrd_format.specs.Elements.{elementsFrom}
-use Rattle.mrd_format.specs.Identity.{countersOf}
+use Rattle.mrd_format.specs.Acquisition.{countersOf}
 
 -- the elements of a run are as many as it says, and element i stands where it says
 elements-length : (n w o : ℕ) (h : List ℕ) → length (elementsFrom n w o h) ≡ n

@@ -115,4 +115,5 @@ form =
       checks = checks;
       numbers = numbers;
       counter = λ h. 0;
+      uid = get measurement-uid;
     }

@@ -4,7 +4,8 @@ use Prim.Native.Nat.{ℕ}
 use mathlib.Core.List.{List, [], _∷_}
 use lib.Dec.{eqb}
 use Rattle.mrd_logic.specs.Choice.{pick}
-use Rattle.mrd_format.specs.Segments.{total, Form}
+use Rattle.mrd_format.specs.Parts.{header}
+use Rattle.mrd_format.specs.Segments.{total, reachFrom, reachSize, Form}
 use Rattle.mrd_format.specs.Texts.{nameForm, textForm, closeForm}
 use Rattle.mrd_format.specs.Acquisition as acquisition
 use Rattle.mrd_format.specs.Image as image
@@ -39,6 +40,10 @@ formOf Waveform = waveform.form
 -- 'fixed part', which excludes the 2-byte id
 abbrev pub fixedSize : Kind → ℕ
 fixedSize k = total (formOf k .fixedSegments)
+
+-- 'the fixed header's bytes (340, 198 or 32; none for other kinds)'
+abbrev pub headerSize : Kind → ℕ
+headerSize k = reachSize (reachFrom header [] 2 (formOf k .fixedSegments))
 
 -- the rows, in the paper's order
 abbrev pub kinds : List Kind

@@ -21,6 +21,4 @@ pub mod NormalLaws
 pub mod HeaderLaws
 pub mod Rewritten
 pub mod IdLaws
-pub mod HeaderSize
-pub mod Identity
 pub mod IdentityLaws

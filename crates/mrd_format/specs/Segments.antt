@@ -93,6 +93,11 @@ reachFrom p h at [] = lacks
 reachFrom p h at (s ∷ []) = reachIn p h at s
 reachFrom p h at (s ∷ (t ∷ ss)) = orElse (reachIn p h at s) (reachFrom p h (at + sizeIn s) (t ∷ ss))
 
+-- the bytes that lie there
+abbrev pub reachSize : Reach → ℕ
+reachSize (lies e) = e .size
+reachSize lacks = 0
+
 -- the bytes of a segment, of what the message is made of: a length is worked out from its part, and a name filled up with zeros
 abbrev pub segmentBytes : Contents → Segment → List ℕ
 segmentBytes c (fixed n) = c .header
@@ -120,3 +125,5 @@ pub record Form : Type 0 where
   pub numbers : List ℕ → List ℕ
   -- 'scan counter (u32; 0 where the kind has none)'
   pub counter : List ℕ → ℕ
+  -- 'measurement uid (u32, 0 where the kind has none)'
+  pub uid : List ℕ → ℕ

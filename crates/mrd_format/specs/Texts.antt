@@ -22,6 +22,7 @@ nameForm =
       checks = λ h. (5 when leb 1024 (nameLength h)) ∷ [];
       numbers = λ h. nameLength h ∷ [];
       counter = λ h. 0;
+      uid = λ h. 0;
     }
 
 -- '4, a u32 length L', then 'L bytes'
@@ -34,6 +35,7 @@ textForm =
       checks = λ h. [];
       numbers = λ h. textLength h ∷ [];
       counter = λ h. 0;
+      uid = λ h. 0;
     }
 
 abbrev pub closeForm : Form
@@ -45,4 +47,5 @@ closeForm =
       checks = λ h. [];
       numbers = λ h. [];
       counter = λ h. 0;
+      uid = λ h. 0;
     }

@@ -60,4 +60,5 @@ form =
       checks = checks;
       numbers = numbers;
       counter = get scan-counter;
+      uid = get measurement-uid;
     }

@@ -1,7 +1,7 @@
 // The eight kinds of message, with their ids and the sizes of their fixed parts.
 ghost use mathlib.Core.Path.{_≡_};
 ghost use Rattle.mrd_format.specs.Kinds.{idOf, fixedSize, identified};
-ghost use Rattle.mrd_format.specs.HeaderSize.{headerSize};
+ghost use Rattle.mrd_format.specs.Kinds.{headerSize};
 
 pub enum Kind {
     ConfigurationName,

@@ -8,9 +8,10 @@ use mathlib.Core.Bool.{Bool, true, false}
 use mathlib.Core.List.{List, [], _∷_}
 use Rattle.mrd_format.specs.Elements.{ElementType, u16, u32, u64, i32, f32}
 use Rattle.mrd_format.specs.Message.{fixedPart}
-use Rattle.mrd_stream.specs.Walk.{Verdict, accepted, refused, Trace, message, done, trace, answer}
+use Rattle.mrd_logic.specs.Answer.{Verdict, accepted, refused, Answer}
+use Rattle.mrd_stream.specs.Walk.{Trace, message, done, trace, answer}
 use Rattle.mrd_stream.specs.Places as places
-use Rattle.mrd_stream.specs.Places.{Located, Answer, nth, place}
+use Rattle.mrd_stream.specs.Places.{Located, nth, place}
 use Rattle.mrd_cut.specs.Places.{partAt}
 use Rattle.mrd_element.specs.Field as header
 use Rattle.mrd_element.specs.Field.{Start, starts, none, startOf}
@@ -25,6 +26,8 @@ use Rattle.mrd_record.specs.Fields.{fieldOf}
 use Rattle.mrd_find.specs.Find as find
 use Rattle.mrd_find.specs.Find.{findOf}
 use Rattle.mrd_lent.specs.Lending.{Refusing, lending, ofPlace, ofView, ofField, ofFind}
+use Rattle.mrd_logic.specs.Answer as answers
+use Rattle.mrd_logic.specs.Choice.{pick}
 
 -- the answer a of a question about s with no index lent: a refused stream's refusal comes first, and none is 15
 pub record Question {A : Type 0} (r : Refusing A) (s : List ℕ) (a : A) : Type 0 where
@@ -55,7 +58,7 @@ module _ {A : Type 0} {r : Refusing A} {s : List ℕ} {a : A} (q : Question r s 
       by (number k) h e = c .number-differs h
 
 -- place and kind
-nth-never : (ls : List Located) (n : ℕ) → nth ls n ≡ places.number 15 → ⊥
+nth-never : (ls : List Located) (n : ℕ) → nth ls n ≡ answers.number 15 → ⊥
 nth-never [] n e = let z : _≡_ {A = ℕ} 16 15 = cc in omega arith
 nth-never (l ∷ ls) zero e = let z : _≡_ {A = ℕ} 0 1 = cc in omega arith
 nth-never (l ∷ ls) (suc n) e = nth-never ls n e
@@ -69,7 +72,7 @@ place-question s n =
       apart = λ e. let z : _≡_ {A = ℕ} 0 1 = cc in omega arith;
     }
   where
-    never : (v : Verdict) → places.placeBy v (places.places (trace s)) n ≡ places.number 15 → ⊥
+    never : (v : Verdict) → answers.unlessRefused v (places.nth (places.places (trace s)) n) ≡ answers.number 15 → ⊥
     never (accepted k) e = nth-never (places.places (trace s)) n e
     never (refused f r b) e = let z : _≡_ {A = ℕ} 0 1 = cc in omega arith
 
@@ -87,10 +90,10 @@ view-question s n p =
       apart = λ e. let z : _≡_ {A = ℕ} 0 1 = cc in omega arith;
     }
   where
-    never : (a : Answer) → (a ≡ places.number 15 → ⊥) → views.viewBy a p s ≡ views.refusal 15 → ⊥
-    never (places.found l) h e = reach-never (extentOf p (l .kind) (fixedPart (l .kind) (partAt s l))) (l .start) e
-    never (places.stream f r b) h e = let z : _≡_ {A = ℕ} 0 1 = cc in omega arith
-    never (places.number k) h e = h (let z : _≡_ {A = ℕ} k 15 = cc in ap places.number z)
+    never : (a : Answer Located) → (a ≡ answers.number 15 → ⊥) → views.viewBy a p s ≡ views.refusal 15 → ⊥
+    never (answers.answered l) h e = reach-never (extentOf p (l .kind) (fixedPart (l .kind) (partAt s l))) (l .start) e
+    never (answers.stream f r b) h e = let z : _≡_ {A = ℕ} 0 1 = cc in omega arith
+    never (answers.number k) h e = h (let z : _≡_ {A = ℕ} k 15 = cc in ap answers.number z)
 
 -- a field
 value-never : (t : ElementType) (n : ℕ) → fields.answered (header.valueOf t n) ≡ fields.answered (header.number 15) → ⊥
@@ -113,18 +116,18 @@ field-question s n o =
       apart = λ e. let z : _≡_ {A = ℕ} 0 1 = cc in omega arith;
     }
   where
-    never : (a : Answer) → (a ≡ places.number 15 → ⊥) → fields.fieldBy a o s ≡ fields.answered (header.number 15) → ⊥
-    never (places.found l) h e = start-never (startOf (l .kind) o) (fixedPart (l .kind) (partAt s l)) o e
-    never (places.stream f r b) h e = let z : _≡_ {A = ℕ} 0 1 = cc in omega arith
-    never (places.number k) h e = h (let z : _≡_ {A = ℕ} k 15 = cc in ap places.number z)
+    never : (a : Answer Located) → (a ≡ answers.number 15 → ⊥) → fields.fieldBy a o s ≡ fields.answered (header.number 15) → ⊥
+    never (answers.answered l) h e = start-never (startOf (l .kind) o) (fixedPart (l .kind) (partAt s l)) o e
+    never (answers.stream f r b) h e = let z : _≡_ {A = ℕ} 0 1 = cc in omega arith
+    never (answers.number k) h e = h (let z : _≡_ {A = ℕ} k 15 = cc in ap answers.number z)
 
 -- a search
-match-never : (n : ℕ) (cs : List ℕ) (t : Trace) → find.firstMatch n cs t ≡ find.number 15 → ⊥
+match-never : (n : ℕ) (cs : List ℕ) (t : Trace) → find.firstMatch n cs t ≡ answers.number 15 → ⊥
 match-never n cs (done v) e = let z : _≡_ {A = ℕ} 16 15 = cc in omega arith
 match-never n cs (message c k m t) e = by (match-never n cs t) (find.matches n cs c k m) e
   where
-    by : (find.firstMatch n cs t ≡ find.number 15 → ⊥) → (b : Bool) →
-        find.pick b (find.found (c .number)) (find.firstMatch n cs t) ≡ find.number 15 → ⊥
+    by : (find.firstMatch n cs t ≡ answers.number 15 → ⊥) → (b : Bool) →
+        pick b (answers.answered (c .number)) (find.firstMatch n cs t) ≡ answers.number 15 → ⊥
     by later true e = let z : _≡_ {A = ℕ} 0 1 = cc in omega arith
     by later false e = later e
 
@@ -137,6 +140,6 @@ find-question s n cs =
       apart = λ e. let z : _≡_ {A = ℕ} 0 1 = cc in omega arith;
     }
   where
-    never : (v : Verdict) → find.unlessRefused v (find.firstMatch n cs (trace s)) ≡ find.number 15 → ⊥
+    never : (v : Verdict) → answers.unlessRefused v (find.firstMatch n cs (trace s)) ≡ answers.number 15 → ⊥
     never (accepted k) e = match-never n cs (trace s) e
     never (refused f r b) e = let z : _≡_ {A = ℕ} 0 1 = cc in omega arith

@@ -7,6 +7,7 @@ use Rattle.mrd_element.specs.Field as header
 use Rattle.mrd_record.specs.Views as views
 use Rattle.mrd_record.specs.Fields as fields
 use Rattle.mrd_find.specs.Find as find
+use Rattle.mrd_logic.specs.Answer as answers
 
 -- how a question's answers say a refusal: the stream's, with record and byte, and a number alone
 pub record Refusing (A : Type 0) : Type 0 where
@@ -20,8 +21,8 @@ lending r (stream f n b) a = r .of-stream f n b
 lending r (number n) a = r .alone n
 
 -- the four questions: place and kind, view, field, find
-abbrev pub ofPlace : Refusing places.Answer
-ofPlace = record { of-stream = places.stream; alone = places.number }
+abbrev pub ofPlace : Refusing (answers.Answer places.Located)
+ofPlace = record { of-stream = answers.stream; alone = answers.number }
 
 abbrev pub ofView : Refusing views.Shown
 ofView = record { of-stream = views.faulty; alone = views.refusal }
@@ -29,5 +30,5 @@ ofView = record { of-stream = views.faulty; alone = views.refusal }
 abbrev pub ofField : Refusing fields.Fielded
 ofField = record { of-stream = fields.faulty; alone = λ n. fields.answered (header.number n) }
 
-abbrev pub ofFind : Refusing find.Sought
-ofFind = record { of-stream = find.stream; alone = find.number }
+abbrev pub ofFind : Refusing (answers.Answer ℕ)
+ofFind = record { of-stream = answers.stream; alone = answers.number }

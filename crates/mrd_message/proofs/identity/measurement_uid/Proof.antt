@@ -3,7 +3,7 @@
 use mathlib.Core.Path.{ap, _∙_}
 use borrow.Author.Needs.{needs}
 use Rattle.mrd_format.specs.Kinds.{fixedSize}
-use Rattle.mrd_format.specs.Identity.{uidOf}
+use Rattle.mrd_format.specs.Content.{uidOf}
 use Rattle.mrd_message.proofs.identity.measurement_uid.Statement.{statement}
 use Rattle.mrd_message.proofs.identity.measurement_uid.Tie as tie
 

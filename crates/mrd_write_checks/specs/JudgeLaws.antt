@@ -18,7 +18,7 @@ use Rattle.mrd_format.specs.CheckLaws as format
 use Rattle.mrd_format.specs.Acquisition as acquisition
 use Rattle.mrd_format.specs.Image as image
 use Rattle.mrd_format.specs.Waveform as waveform
-use Rattle.mrd_format.specs.HeaderSize.{headerSize}
+use Rattle.mrd_format.specs.Kinds.{headerSize}
 use Rattle.mrd_format.specs.Sizes.{capped}
 use Rattle.mrd_format.specs.Message as message
 use Rattle.mrd_format.specs.Message.{limit}
@@ -35,18 +35,16 @@ unless-answered zero z e = (refl, cc)
 unless-answered (suc f) z e = absurd (answered-not-number (sym e))
 
 -- more checks than those of cs: where one of them refuses it decides, and where none does the others decide
-module _ (cs ds : List Check) (all : numbered cs ≡ true) (z : ℕ) where
-  pub unless-number : {x : ℕ} → unless (first cs) z ≡ number x → unless (first (cs ++ ds)) z ≡ number x
-  unless-number {x} e = by-first (first cs) refl e
+module _ (cs ds : List Check) (all : numbered cs ≡ true) where
+  pub unless-number : (y z : ℕ) {x : ℕ} → unless (first cs) y ≡ number x → unless (first (cs ++ ds)) z ≡ number x
+  unless-number y z {x} e = by-first (first cs) refl e
     where
-      by-first : (f : ℕ) → first cs ≡ f → unless f z ≡ number x → unless (first (cs ++ ds)) z ≡ number x
+      by-first : (f : ℕ) → first cs ≡ f → unless f y ≡ number x → unless (first (cs ++ ds)) z ≡ number x
       by-first zero p e = absurd (answered-not-number e)
-      by-first (suc f) p e = rw (first-stops cs ds p) e
+      by-first (suc f) p e = rw (first-stops cs ds p) (cc)
 
-  pub unless-passed : {y : ℕ} → unless (first cs) z ≡ answered y → unless (first (cs ++ ds)) z ≡ unless (first ds) y
-  unless-passed e =
-      let p = unless-answered (first cs) z e in
-      rw (first-skip cs ds (first-passed cs all (p .0)), p .1)
+  pub unless-passed : first cs ≡ 0 → first (cs ++ ds) ≡ first ds
+  unless-passed e = first-skip cs ds (first-passed cs all e)
 
 -- no check has the number 0
 own-numbered : (k : Kind) (h name : List ℕ) (n : Lengths) → numbered (ownChecks k h name n) ≡ true
@@ -90,12 +88,14 @@ judged-header k h name n d = rw (ne-eqb _ _ d)
 module _ (k : Kind) (h name : List ℕ) (n : Lengths) (e : length h ≡ headerSize k) where
   pub judged-refused : {x : ℕ} → sized k h name n ≡ number x → judged k h name n ≡ number x
   unfolding judged contentsChecks sized
-  judged-refused p = rw (eq-eqb _ _ e) (unless-number (sizedChecks k h name n) _ (sized-numbered k h name n) (sizeOf k h n) p)
+  judged-refused p = rw (eq-eqb _ _ e) (unless-number (sizedChecks k h name n) _ (sized-numbered k h name n) (sizeOf k h n) (sizeOf k h n) p)
 
   pub judged-sized : {z : ℕ} → sized k h name n ≡ answered z →
       judged k h name n ≡ unless (first ((18 when not (sameLengths n (dueLengths k h n))) ∷ [])) z
   unfolding judged contentsChecks sized
-  judged-sized p = rw (eq-eqb _ _ e) (unless-passed (sizedChecks k h name n) _ (sized-numbered k h name n) (sizeOf k h n) p)
+  judged-sized p =
+      let d = unless-answered (first (sizedChecks k h name n)) (sizeOf k h n) p in
+      rw (eq-eqb _ _ e, unless-passed (sizedChecks k h name n) _ (sized-numbered k h name n) (d .0), d .1)
 
   pub judged-same : {z : ℕ} → sized k h name n ≡ answered z → sameLengths n (dueLengths k h n) ≡ true → judged k h name n ≡ answered z
   judged-same p s = judged-sized p ∙ rw s
@@ -139,13 +139,13 @@ module _ (k : Kind) (f : List ℕ) where
   pub fixed-own : (x : ℕ) → first (message.ownChecks k f) ≡ x → (x ≡ 0 → ⊥) → sizedBy k f ≡ number x
   unfolding sizedBy
   fixed-own x e n =
-      unless-number (message.ownChecks k f) _ (format.own-numbered k f) (message.sizeOf k f)
+      unless-number (message.ownChecks k f) _ (format.own-numbered k f) (message.sizeOf k f) (message.sizeOf k f)
       (ap (λ (y : ℕ). unless y (message.sizeOf k f)) e ∙ unless-refused x (message.sizeOf k f) n)
 
   module _ (own : first (message.ownChecks k f) ≡ 0) where
     limited : sizedBy k f ≡ unless (first ((10 when ltb limit (message.sizeOf k f)) ∷ [])) (message.sizeOf k f)
     unfolding sizedBy
-    limited = unless-passed (message.ownChecks k f) _ (format.own-numbered k f) (message.sizeOf k f) (rw own)
+    limited = rw (unless-passed (message.ownChecks k f) _ (format.own-numbered k f) own)
 
     pub fixed-limit : (z : ℕ) → z ≡ capped (message.sizeOf k f) → limit < z → sizedBy k f ≡ number 10
     fixed-limit z e h = let over : limit < message.sizeOf k f = omega arith in limited ∙ rw (lt-ltb _ _ over)

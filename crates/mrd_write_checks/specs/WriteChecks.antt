@@ -10,8 +10,7 @@ use Rattle.bytes.specs.Bytes.{indexOf}
 use Rattle.mrd_numbers.specs.Little.{toBytes}
 use Rattle.mrd_format.specs.declared.kind.Kind.{Kind}
 use Rattle.mrd_format.specs.declared.kind.Kind.the-variants.{ConfigurationName, ConfigurationText, HeaderText, Close, Text, Acquisition, Image, Waveform}
-use Rattle.mrd_format.specs.Kinds.{fixedSize}
-use Rattle.mrd_format.specs.HeaderSize.{headerSize}
+use Rattle.mrd_format.specs.Kinds.{fixedSize, headerSize}
 use Rattle.mrd_format.specs.Parts.{Contents}
 use Rattle.mrd_logic.specs.Checks.{Check, _when_, first}
 use Rattle.mrd_logic.specs.Answer.{Answer, answered, number}

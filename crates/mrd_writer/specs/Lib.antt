@@ -3,5 +3,4 @@ pub mod Sound
 pub mod WriteLaws
 pub mod Written
 pub mod WrittenRecord
-pub mod OwnContents
 pub mod ReadBack

@@ -1,61 +1,56 @@
 -- The writer's answer and output, one law for each way that it ends.
 -- Assumes nothing.
-use Prim.Native.Nat.{ℕ, zero, suc, _+_, _≤_, _<_}
+use Prim.Native.Nat.{ℕ, _+_, _≤_, _<_}
 use native.Mathlib.Omega.{arith}
-use mathlib.Core.Path.{_≡_, refl, sym, ap, _∙_}
+use mathlib.Core.Path.{_≡_, sym, ap, _∙_}
 use mathlib.Core.List.{List, [], _∷_, _++_}
 use lib.Dec.{ltb}
 use lib.ListN.{length, drop}
 use borrow.Author.Tests.{lt-ltb, le-ltb}
 use Rattle.mrd_numbers.specs.Little.{toBytes}
 use Rattle.mrd_numbers.specs.Stored.{stored, front, lentFrom, returned, stored-next, stored-lent}
+use Rattle.mrd_logic.specs.Answer.{Answer, answered, number}
+use Rattle.mrd_logic.specs.Checks.{Check, _when_, first}
 use Rattle.mrd_format.specs.declared.kind.Kind.{Kind}
 use Rattle.mrd_format.specs.declared.kind.Identified.the-variants.{Known, Unknown}
 use Rattle.mrd_format.specs.Kinds.{idOf, identified}
-use Rattle.mrd_logic.specs.Checks.{Check, _when_, first}
-use Rattle.mrd_logic.specs.CheckLaws.{first-skip, first-passed, first-stops}
-use Rattle.mrd_writer.specs.Contents.{Contents, lengthsOf, contentOf, messageOf}
-use Rattle.mrd_writer.specs.Refusals.{sizeOf, contentsChecks, Answer, answered, refused, unless, judged}
-use Rattle.mrd_writer.specs.JudgeLaws.{answered-not-number}
-use Rattle.mrd_writer.specs.Sound.{contents-numbered, passed-sound, judged-answered, content-length, sound-ready}
-use Rattle.mrd_writer.specs.PutLaws.{Ready}
-use Rattle.mrd_writer.specs.Write.{judgedContents, writeChecks, answerAs, outputAs, writeAnswer, writeOutput}
+use Rattle.mrd_format.specs.Parts.{Contents}
+use Rattle.mrd_format.specs.Content.{contentOf, messageOf}
+use Rattle.mrd_write_checks.specs.WriteChecks.{lengthsOf, unless, judged}
+use Rattle.mrd_write_checks.specs.JudgeLaws.{unless-number, unless-passed, contents-numbered}
+use Rattle.mrd_put.specs.PutLaws.{Ready}
+use Rattle.mrd_writer.specs.Write.{judgedContents, sizeGiven, givenChecks, writeChecks, answerAs, outputAs, writeAnswer, writeOutput}
+use Rattle.mrd_writer.specs.Sound.{passed-sound, judged-answered, content-length, sound-ready}
 
 -- both halves of what a function ensures: its answer, and the output as it leaves it
-abbrev pub Ends : Kind → Contents → ℕ → List ℕ → Answer → List ℕ → Type 0
-Ends k c at o a o′ = (a ≡ answerAs (Known k) l at o) × (o′ ≡ outputAs (Known k) l at o)
-
--- check 14 of a message of size z
-abbrev roomCheck : ℕ → ℕ → List ℕ → List Check
-roomCheck z at o = (14 when ltb (length o) (at + z)) ∷ []
+abbrev pub Ends : Kind → Contents → ℕ → List ℕ → Answer ℕ → List ℕ → Type 0
+Ends k c at o a o′ = (a ≡ answerAs (Known k) c at o) × (o′ ≡ outputAs (Known k) c at o)
 
 module _ (k : Kind) (c : Contents) (at : ℕ) (o : List ℕ) where
+  -- check 14 of a message of size z
+  abbrev roomCheck : ℕ → List Check
+  roomCheck z = (14 when ltb (length o) (at + z)) ∷ []
+
   -- the output by the answer
-  ends-refused : {x : ℕ} → answerAs (Known k) l at o ≡ number x → Ends k c at o (number x) o
+  ends-refused : {x : ℕ} → answerAs (Known k) c at o ≡ number x → Ends k c at o (number x) o
   unfolding outputAs
   ends-refused e = (sym e, rw e)
 
   -- what is given is refused
-  pub refused-lent : {x : ℕ} → judgedContents k c ≡ number x → Ends k c at o (number x) o
+  pub refused-contents : {x : ℕ} → judgedContents k c ≡ number x → Ends k c at o (number x) o
   unfolding judged answerAs writeChecks
-  refused-lent {x} e = by-first (first own) refl e
-    where
-      own : List Check
-      own = contentsChecks k (c .header) (c .parts .name) (lengthsOf c)
-
-      by-first : (f : ℕ) → first own ≡ f → unless f (sizeOf k (c .header) (lengthsOf c)) ≡ number x → Ends k c at o (number x) o
-      by-first zero p e = absurd (answered-not-number e)
-      by-first (suc f) p e = ends-refused (rw (first-stops own (roomCheck (sizeOf k (c .header) (lengthsOf c)) at o) p) e)
+  refused-contents e =
+      ends-refused
+      (unless-number (givenChecks k c) (roomCheck (sizeGiven k c)) (contents-numbered k (c .header) (c .parts .name) (lengthsOf c))
+      (sizeGiven k c) (at + sizeGiven k c) e)
 
   -- it passes, and makes a message of size z: check 14 decides
   module _ {z : ℕ} (e : judgedContents k c ≡ answered z) where
-    last : answerAs (Known k) l at o ≡ unless (first (roomCheck z at o)) (at + z)
+    last : answerAs (Known k) c at o ≡ unless (first (roomCheck z)) (at + z)
     unfolding answerAs writeChecks
     last =
         let d = judged-answered k c e in
-        let n = lengthsOf c in
-        let sound = first-passed (contentsChecks k (c .header) (c .parts .name) n) (contents-numbered k (c .header) (c .parts .name) n) (d .0) in
-        rw (first-skip (contentsChecks k (c .header) (c .parts .name) n) (roomCheck (sizeOf k (c .header) n) at o) sound, d .1)
+        rw (unless-passed (givenChecks k c) (roomCheck (sizeGiven k c)) (contents-numbered k (c .header) (c .parts .name) (lengthsOf c)) (d .0), d .1)
 
     pub no-room : length o < at + z → Ends k c at o (number 14) o
     no-room h = ends-refused (last ∙ rw (lt-ltb _ _ h))
@@ -72,7 +67,7 @@ module _ (k : Kind) (c : Contents) (at : ℕ) (o : List ℕ) where
         y ≡ front (contentOf k c) (lentFrom (at + 2) (returned at o x)) → Ends k c at o (answered (at + z)) (returned (at + 2) (returned at o x) y)
     unfolding outputAs messageOf
     room h id x y i p q =
-        let a : answerAs (Known k) l at o ≡ answered (at + z) = last ∙ rw (le-ltb _ _ h) in
+        let a : answerAs (Known k) c at o ≡ answered (at + z) = last ∙ rw (le-ltb _ _ h) in
         let first : returned at o x ≡ stored at (toBytes 2 id) o = stored-lent at o (toBytes 2 id) x p in
         let second : returned (at + 2) (returned at o x) y ≡ stored (at + 2) (contentOf k c) (returned at o x) =
         stored-lent (at + 2) (returned at o x) (contentOf k c) y q in
@@ -81,7 +76,7 @@ module _ (k : Kind) (c : Contents) (at : ℕ) (o : List ℕ) where
         (sym a, rw (a, ← i) (second ∙ ap (stored (at + 2) (contentOf k c)) first ∙ whole))
 
 -- a kind that is known, and an id that is not in the table
-pub write-known : (id : ℕ) (k : Kind) (c : Contents) (at : ℕ) (o o′ : List ℕ) (a : Answer) → identified id ≡ Known k → Ends k c at o a o′ →
+pub write-known : (id : ℕ) (k : Kind) (c : Contents) (at : ℕ) (o o′ : List ℕ) (a : Answer ℕ) → identified id ≡ Known k → Ends k c at o a o′ →
     (a ≡ writeAnswer id c at o) × (o′ ≡ writeOutput id c at o)
 unfolding writeAnswer writeOutput
 write-known id k c at o o′ a e p = (rw e (p .0), rw e (p .1))

@@ -9,23 +9,28 @@ use mathlib.Core.List.{List, [], _∷_, _++_, append-nil}
 use lib.Dec.{eqb}
 use lib.ListN.{length, replicate}
 use lib.Seq.{take-at}
-use borrow.Author.Tests.{ltb-false, lt-leb}
+use borrow.Author.Tests.{lt-leb}
 use Rattle.bytes.specs.Bytes.{indexOf, indexAfter}
 use Rattle.mrd_numbers.specs.Little.{toBytes, num}
 use Rattle.mrd_numbers.specs.PutLaws.{read-after-write}
+use Rattle.mrd_logic.specs.Checks.{first}
+use Rattle.mrd_logic.specs.CheckLaws.{passed-first}
 use Rattle.mrd_format.specs.declared.kind.Kind.{Kind}
 use Rattle.mrd_format.specs.declared.kind.Kind.the-variants.{ConfigurationName, ConfigurationText, HeaderText, Close, Text, Acquisition, Image, Waveform}
 use Rattle.mrd_format.specs.declared.kind.Identified.the-variants.{Known}
 use Rattle.mrd_format.specs.Kinds.{fixedSize, identified}
-use Rattle.mrd_logic.specs.Checks.{first}
-use Rattle.mrd_logic.specs.CheckLaws.{passed-first}
+use Rattle.mrd_format.specs.Segments.{nameLength}
+use Rattle.mrd_format.specs.Texts.{textLength}
 use Rattle.mrd_format.specs.Message as message
+use Rattle.mrd_format.specs.Message.{limit, idAt, fixedPart, WellFormed}
 use Rattle.mrd_format.specs.Acquisition as acquisition
+use Rattle.mrd_format.specs.Image as image
 use Rattle.mrd_format.specs.Waveform as waveform
-use Rattle.mrd_format.specs.Message.{limit, idAt, fixedPart, nameLength, textLength, WellFormed}
-use Rattle.mrd_writer.specs.Contents.{Contents, lengthsOf, fixedOf, bodyOf, contentOf, messageOf}
-use Rattle.mrd_writer.specs.Refusals.{holdsZero, ownChecks, bodySize, sizeOf}
-use Rattle.mrd_writer.specs.ImageLaws.{image-checks, image-size}
+use Rattle.mrd_format.specs.Parts.{Contents}
+use Rattle.mrd_format.specs.Content.{fixedOf, bodyOf, contentOf, messageOf}
+use Rattle.mrd_write_checks.specs.WriteChecks.{ownChecks, bodySize, sizeOf, lengthsOf}
+use Rattle.mrd_write_checks.specs.ImageLaws.{image-size}
+use Rattle.mrd_writer.specs.Write.{sizeGiven}
 use Rattle.mrd_writer.specs.Sound.{Sound, sound-name, fixed-length, content-length, text-small}
 
 -- the id reads back
@@ -64,17 +69,17 @@ zeros-first (suc n) h = refl
 
 -- a name's zeros begin after it
 pub name-length : (c : Contents) → Sound ConfigurationName c → nameLength (fixedOf ConfigurationName c) ≡ length (c .parts .name)
-unfolding nameLength fixedOf holdsZero
+unfolding nameLength fixedOf
 name-length c s =
+    let name = c .parts .name in
     let n = sound-name c s in
-    let free : length (c .parts .name) ≤ indexOf 0 (c .parts .name) = ltb-false _ _ (n .1) in
-    let some : 0 < 1024 - length (c .parts .name) = omega arith in
-    index-after (c .parts .name) (replicate (1024 - length (c .parts .name)) 0) free ∙ rw (zeros-first (1024 - length (c .parts .name)) some, add-zero)
+    let some : 0 < 1024 - length name = omega arith in
+    index-after name (replicate (1024 - length name) 0) (n .1) ∙ rw (zeros-first (1024 - length name) some, add-zero)
 
 -- a text's length reads back
-pub text-length : (c : Contents) → length (c .parts .text) ≤ limit → textLength (toBytes 4 (length (c .parts .text))) ≡ length (c .parts .text)
+pub text-length : (k : Kind) (c : Contents) → Sound k c → textLength (toBytes 4 (length (c .parts .text))) ≡ length (c .parts .text)
 unfolding textLength
-text-length c h = rw append-nil at (read-after-write 4 (length (c .parts .text)) [] [] (omega arith))
+text-length k c s = rw append-nil at (read-after-write 4 (length (c .parts .text)) [] [] (omega (arith, text-small k c s)))
 
 -- an image's attributes are within the limit
 pub attributes-small : (c : Contents) → Sound Image c → length (c .parts .attributes) < 256 ^ 8
@@ -88,11 +93,6 @@ name-own c s =
     let short : length (c .parts .name) < 1024 = omega (arith, sound-name c s) in
     rw (name-length c s, lt-leb 1024 (length (c .parts .name)) short)
 
-image-own : (c : Contents) → Sound Image c → first (message.ownChecks Image (c .header ++ toBytes 8 (length (c .parts .attributes)))) ≡ 0
-image-own c s =
-    rw (← image-checks (c .header) (length (c .parts .attributes)) (s .header) (attributes-small c s) (c .parts .name) (lengthsOf c) refl)
-    (passed-first (ownChecks Image (c .header) (c .parts .name) (lengthsOf c)) (s .own))
-
 pub written-own : (k : Kind) (c : Contents) → Sound k c → first (message.ownChecks k (fixedOf k c)) ≡ 0
 unfolding message.ownChecks ownChecks fixedOf
 written-own ConfigurationName c s = name-own c s
@@ -101,23 +101,23 @@ written-own HeaderText c s = refl
 written-own Close c s = refl
 written-own Text c s = refl
 written-own Acquisition c s = passed-first (acquisition.checks (c .header)) (s .own)
-written-own Image c s = image-own c s
+written-own Image c s = passed-first (image.checks (c .header ++ toBytes 8 (length (c .parts .attributes)))) (s .own)
 written-own Waveform c s = passed-first (waveform.checks (c .header)) (s .own)
 
 -- the size by the fixed part is that by what was given
-pub written-size : (k : Kind) (c : Contents) → Sound k c → message.sizeOf k (fixedOf k c) ≡ sizeOf k (c .header) (lengthsOf c)
-unfolding message.sizeOf message.bodySize sizeOf bodySize fixedOf
+pub written-size : (k : Kind) (c : Contents) → Sound k c → message.sizeOf k (fixedOf k c) ≡ sizeGiven k c
+unfolding message.sizeOf message.bodySize sizeOf bodySize fixedOf acquisition.bodySize
 written-size ConfigurationName c s = refl
-written-size ConfigurationText c s = ap (λ (n : ℕ). 6 + n) (text-length c (text-small ConfigurationText c s))
-written-size HeaderText c s = ap (λ (n : ℕ). 6 + n) (text-length c (text-small HeaderText c s))
+written-size ConfigurationText c s = ap (λ (n : ℕ). 6 + n) (text-length ConfigurationText c s)
+written-size HeaderText c s = ap (λ (n : ℕ). 6 + n) (text-length HeaderText c s)
 written-size Close c s = refl
-written-size Text c s = ap (λ (n : ℕ). 6 + n) (text-length c (text-small Text c s))
+written-size Text c s = ap (λ (n : ℕ). 6 + n) (text-length Text c s)
 written-size Acquisition c s = refl
 written-size Image c s = sym (image-size (c .header) (length (c .parts .attributes)) (s .header) (attributes-small c s) (lengthsOf c) refl)
 written-size Waveform c s = refl
 
 -- the whole, id included
-pub message-length : (k : Kind) (c : Contents) → Sound k c → length (messageOf k c) ≡ sizeOf k (c .header) (lengthsOf c)
+pub message-length : (k : Kind) (c : Contents) → Sound k c → length (messageOf k c) ≡ sizeGiven k c
 unfolding messageOf
 message-length k c s = omega (arith, content-length k c s)
 
@@ -125,7 +125,7 @@ message-length k c s = omega (arith, content-length k c s)
 abbrev pub written-well : (k : Kind) (c : Contents) → Sound k c → WellFormed (messageOf k c)
 written-well k c s =
     let fixed : fixedPart k (messageOf k c) ≡ fixedOf k c = written-fixed k c s in
-    let size : message.sizeOf k (fixedPart k (messageOf k c)) ≡ sizeOf k (c .header) (lengthsOf c) = rw fixed (written-size k c s) in
+    let size : message.sizeOf k (fixedPart k (messageOf k c)) ≡ sizeGiven k c = rw fixed (written-size k c s) in
     record {
       kind = k;
       known = written-known k c;

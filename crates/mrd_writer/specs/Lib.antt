@@ -4,3 +4,4 @@ pub mod WriteLaws
 pub mod Written
 pub mod WrittenRecord
 pub mod ReadBack
+pub mod OwnContents

@@ -24,8 +24,9 @@ use Rattle.mrd_stream.specs.Told.{toldRecord, toldStep}
 use Rattle.mrd_stream.specs.declared.answer.Record.{Record}
 use Rattle.mrd_stream.specs.declared.answer.Step.{Step}
 use Rattle.mrd_stream.specs.declared.answer.Step
-use Rattle.mrd_find.specs.Find.{same, candidate, countersOf, firstMatch, findOf}
+use Rattle.mrd_find.specs.Find.{candidate, countersOf, firstMatch, findOf}
 use Rattle.mrd_logic.specs.Answer.{Answer, answered, unlessRefused}
+use Rattle.mrd_logic.specs.Lists.{equal}
 
 -- the answer that a trace gives
 abbrev pub findIn : ℕ → List ℕ → Trace → Answer ℕ
@@ -94,14 +95,14 @@ module _ {n : ℕ} {cs : List ℕ} {c : Cursor} {s : List ℕ} {here : Record} {
           read ∙ rw (starts, p .split, ← acquisition, ← p .known) own
 
       -- counters that differ: the answer is that of what follows
-      pub no-match : same (countersOf h) cs ≡ false → Finding n cs next s
+      pub no-match : equal (countersOf h) cs ≡ false → Finding n cs next s
       no-match f =
           let one = handed-out ∙ e in
           let other = rw header-own at f in
           on-next (findIn n cs) s (findIn n cs) (t .finding) (t .passes) (λ r. rw (one, other))
 
       -- counters that are the same: what follows only tells whether the stream is refused
-      pub match-found : same (countersOf h) cs ≡ true → unlessRefused (verdict (from next s)) (answered (here .place .number)) ≡ findOf s n cs
+      pub match-found : equal (countersOf h) cs ≡ true → unlessRefused (verdict (from next s)) (answered (here .place .number)) ≡ findOf s n cs
       match-found f =
           let one = handed-out ∙ e in
           let all = rw header-own at f in

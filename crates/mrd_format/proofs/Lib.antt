@@ -1,1 +1,1 @@
-pub mod KindCases
+pub mod Arms

@@ -15,12 +15,12 @@ use crate::questions::find_if;
 use crate::questions::place_if;
 use crate::questions::view_if;
 use crate::questions::view_place_if;
+use mrd_fields::FieldAnswer;
 use mrd_find::Found;
 use mrd_index_match::index_matches;
-use mrd_fields::FieldAnswer;
 use mrd_parts::Part;
-use mrd_views::ViewPlace;
 use mrd_stream::Placed;
+use mrd_views::ViewPlace;
 
 // The place and kind of record n.
 pub fn place_with_file(s: &[u8], n: usize, file: &[u8]) -> Placed

@@ -11,13 +11,13 @@ ghost use Rattle.mrd_fields.specs.Fields.{TellsField};
 ghost use Rattle.mrd_find.specs.Find.{findOf};
 ghost use Rattle.mrd_find.specs.Told.{told};
 ghost use Rattle.mrd_lent.specs.Lending.{lending, ofPlace, ofView, ofField, ofFind};
+use mrd_fields::FieldAnswer;
 use mrd_find::Found;
 use mrd_format::refusal;
 use mrd_index_match::Matched;
-use mrd_fields::FieldAnswer;
 use mrd_parts::Part;
-use mrd_views::ViewPlace;
 use mrd_stream::Placed;
+use mrd_views::ViewPlace;
 
 // The place and kind of record n.
 pub(crate) fn place_if(index: Matched, s: &[u8], n: usize) -> Placed

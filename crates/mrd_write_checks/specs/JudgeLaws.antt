@@ -164,9 +164,9 @@ sized-name h name n = by-test (nameUnfit name)
 
 pub sized-text : (h name : List ℕ) (n : Lengths) →
     (sized ConfigurationText h name n ≡ textSized (n .text)) ×
-    (sized HeaderText h name n ≡ textSized (n .text)) × (sized Text h name n ≡ textSized (n .text))
+    ((sized HeaderText h name n ≡ textSized (n .text)) × ((sized Text h name n ≡ textSized (n .text)) × Unit {0}))
 unfolding sized sizedChecks ownChecks sizeOf bodySize textSized
-sized-text h name n = (refl, refl, refl)
+sized-text h name n = (refl, (refl, (refl, tt)))
 
 pub sized-close : (h name : List ℕ) (n : Lengths) → sized Close h name n ≡ answered 2
 unfolding sized sizedChecks ownChecks sizeOf bodySize

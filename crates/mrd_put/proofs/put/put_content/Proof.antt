@@ -12,7 +12,7 @@ use Rattle.mrd_format.specs.declared.kind.Kind.{Kind}
 use Rattle.mrd_format.specs.Parts.{Contents, contents}
 use Rattle.mrd_format.specs.Content.{fixedOf, bodyOf, contentOf}
 use Rattle.mrd_format.proofs.kind.Kind.{the-type}
-use Rattle.mrd_format.proofs.KindCases.{by-text}
+use Rattle.mrd_format.proofs.Arms.{arm-same}
 use Rattle.mrd_put.specs.PutLaws.{content-name, name-room, text-room, acquisition-room, image-room, waveform-room}
 use Rattle.mrd_put.proofs.put.put_content.Statement.{statement}
 use Rattle.mrd_put.proofs.put.put_content.Tie as tie
@@ -27,7 +27,7 @@ given s =
 text-made : (c : Contents) (k : Kind) → OneOf (1 ∷ 2 ∷ 4 ∷ []) (tagOf the-type k) →
     contentOf k c ≡ toBytes 4 (length (c .parts .text)) ++ c .parts .text
 unfolding contentOf fixedOf bodyOf
-text-made c = by-text (λ (k : Kind). contentOf k c ≡ toBytes 4 (length (c .parts .text)) ++ c .parts .text) refl refl refl
+text-made c k o = arm-same (λ (j : Kind). contentOf j c) _ (1 ∷ 2 ∷ 4 ∷ []) k o refl
 
 enum-told : tie.Need-enum-told
 enum-told c = search needs

@@ -2,16 +2,14 @@
 -- Assumes nothing.
 use native.Mathlib.Omega.{arith}
 use mathlib.Core.Path.{_≡_, sym, ap, _∙_}
-use lib.ListN.{length-append}
+use mathlib.Core.List.{[], _∷_}
 use denote.Ref.{now}
 use borrow.Author.Needs.{needs}
-use Rattle.mrd_numbers.specs.WriteLaws.{length-toBytes}
 use Rattle.mrd_format.specs.declared.kind.Kind.{Kind}
 use Rattle.mrd_format.specs.declared.kind.Kind.the-variants.{Image}
-use Rattle.mrd_write_checks.specs.WriteChecks.{judgedMeaning}
-use Rattle.mrd_write_checks.specs.JudgeLaws.{sized, sizedBy, sized-name, sized-text, sized-close, sized-acquisition, sized-waveform}
+use Rattle.mrd_write_checks.specs.JudgeLaws.{sized, textSized, sizedBy, sized-name, sized-text, sized-close, sized-acquisition, sized-waveform}
 use Rattle.mrd_write_checks.specs.ImageLaws.{image-sized}
-use Rattle.mrd_format.proofs.KindCases.{by-text}
+use Rattle.mrd_format.proofs.Arms.{arm}
 use Rattle.mrd_write_checks.proofs.contents.checked_size.Statement.{statement}
 use Rattle.mrd_write_checks.proofs.contents.checked_size.Tie as tie
 
@@ -57,10 +55,11 @@ returns c = rw (c .before .enum-told .given .1) (c .checked-name .ensures ∙ sy
 returns-2 : tie.Need-returns-2
 returns-2 c =
     let a = c .before .before .before .before .args in
-    let same = sized-text (now (a .header)) (now (a .name)) (a .given) in
-    let e = c .checked-text .ensures in
-    by-text (λ (k : Kind). judgedMeaning (c .checked-text .result) ≡ sized k (now (a .header)) (now (a .name)) (a .given))
-    (e ∙ sym (same .0)) (e ∙ sym (same .1)) (e ∙ sym (same .2)) (a .kind) (c .before .match .keys2)
+    let h = now (a .header) in
+    let n = now (a .name) in
+    c .checked-text .ensures ∙ sym
+    (arm (λ (k : Kind). sized k h n (a .given) ≡ textSized (a .given .text)) (1 ∷ 2 ∷ 4 ∷ []) (a .kind) (c .before .match .keys2)
+    (sized-text h n (a .given)))
 
 returns-3 : tie.Need-returns-3
 returns-3 c = rw (c .enum-told2 .given .1) (sym (sized-close _ _ _))

@@ -1,13 +1,14 @@
 -- `mrd_write_checks::contents::due` meets its contract: each kind's lengths are those of the definition, what the header says by the size.
 -- Assumes nothing.
 use native.Mathlib.Omega.{arith}
-use mathlib.Core.Path.{_≡_, refl, sym, _∙_}
+use mathlib.Core.Path.{refl, sym}
+use mathlib.Core.List.{[], _∷_}
 use denote.Ref.{now}
 use borrow.Author.Needs.{needs}
 use Rattle.mrd_format.specs.declared.kind.Kind.{Kind}
-use Rattle.mrd_write_checks.specs.WriteChecks.{partLengths, dueLengths}
+use Rattle.mrd_write_checks.specs.WriteChecks.{dueLengths}
 use Rattle.mrd_write_checks.specs.JudgeLaws.{due-acquisition, due-image, due-waveform}
-use Rattle.mrd_format.proofs.KindCases.{by-text}
+use Rattle.mrd_format.proofs.Arms.{arm-same}
 use Rattle.mrd_write_checks.proofs.contents.due.Statement.{statement}
 use Rattle.mrd_write_checks.proofs.contents.due.Tie as tie
 
@@ -79,8 +80,7 @@ unfolding dueLengths
 returns-2 c =
     let a = c .before .before .before .args in
     rw (c .before .none .ensures)
-    (by-text (λ (k : Kind). partLengths 0 (a .given .text) 0 0 0 0 0 ≡ dueLengths k (now (a .header)) (a .given)) refl refl refl (a .kind)
-    (c .match .keys2))
+    (sym (arm-same (λ (k : Kind). dueLengths k (now (a .header)) (a .given)) _ (1 ∷ 2 ∷ 4 ∷ []) (a .kind) (c .match .keys2) refl))
 
 returns-3 : tie.Need-returns-3
 unfolding dueLengths

@@ -8,7 +8,7 @@ use Rattle.mrd_fields.specs.Fields as fields
 use Rattle.mrd_views.specs.Views as views
 use Rattle.mrd_stream.specs.Output as output
 use Rattle.mrd_logic.specs.Answer.{Verdict, accepted, refused, Answer, answered, number, stream}
-use Rattle.mrd_writer.specs.Refusals as writer
+use Rattle.mrd_logic.specs.Answer as writer
 use Rattle.cotterleaf.specs.declared.answers.Checked.{Checked}
 use Rattle.cotterleaf.specs.declared.answers.ViewPlace.{ViewPlace}
 use Rattle.cotterleaf.specs.declared.answers.FieldAnswer.{FieldAnswer}
@@ -86,6 +86,7 @@ faceMatched (number n) = matchedAs n 0 0
 abbrev pub putAs : (refusal position : ℕ) → Put
 putAs f p = record { refusal = f; position = p }
 
-abbrev pub facePut : writer.Answer → Put
-facePut (writer.done p) = putAs 0 p
-facePut (writer.refused n) = putAs n 0
+abbrev pub facePut : writer.Answer ℕ → Put
+facePut (writer.answered p) = putAs 0 p
+facePut (writer.stream f r b) = putAs f 0
+facePut (writer.number n) = putAs n 0

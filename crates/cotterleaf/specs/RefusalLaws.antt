@@ -36,9 +36,10 @@ use Rattle.mrd_element.specs.Field as header
 use Rattle.mrd_find.specs.Find as find
 use Rattle.mrd_find.specs.Find.{firstMatch, matches, findOf}
 use Rattle.mrd_logic.specs.Choice.{pick}
-use Rattle.mrd_writer.specs.Refusals as writer
-use Rattle.mrd_writer.specs.Lent.{Lent, lengthsOf}
-use Rattle.mrd_writer.specs.Write.{writeChecks, answerAs, writeAnswer}
+use Rattle.mrd_logic.specs.Answer as writer
+use Rattle.mrd_write_checks.specs.WriteChecks.{unless}
+use Rattle.mrd_format.specs.Parts.{Contents}
+use Rattle.mrd_writer.specs.Write.{sizeGiven, writeChecks, answerAs, writeAnswer}
 use Rattle.cotterleaf.specs.Answers.{faceChecked, faceView, faceValue, faceField, faceFound, faceWritten, faceMatched, facePut}
 use Rattle.cotterleaf.specs.Placed.{facePlaced}
 use Rattle.mrd_judge.specs.WholeLaws.{all-numbered}
@@ -159,15 +160,15 @@ zero-same s b = by (answer s) b refl
     by (refused f r a) b e z = absurd (refused-numbered s e z)
 
 -- the writer's answer
-pub zero-put : (id : ℕ) (l : Lent) (at : ℕ) (o : List ℕ) → facePut (writeAnswer id l at o) .refusal ≡ 0 →
-    (p : ℕ) × (writeAnswer id l at o ≡ writer.done p)
+pub zero-put : (id : ℕ) (c : Contents) (at : ℕ) (o : List ℕ) → facePut (writeAnswer id c at o) .refusal ≡ 0 →
+    (p : ℕ) × (writeAnswer id c at o ≡ writer.answered p)
 unfolding writeAnswer answerAs
-zero-put id l at o = by (identified id)
+zero-put id c at o = by (identified id)
   where
-    judged : (f n : ℕ) → facePut (writer.unless f n) .refusal ≡ 0 → (p : ℕ) × (writer.unless f n ≡ writer.done p)
+    judged : (f n : ℕ) → facePut (unless f n) .refusal ≡ 0 → (p : ℕ) × (unless f n ≡ writer.answered p)
     judged zero n z = (n, refl)
     judged (suc f) n z = absurd (none z)
 
-    by : (i : Identified) → facePut (answerAs i l at o) .refusal ≡ 0 → (p : ℕ) × (answerAs i l at o ≡ writer.done p)
+    by : (i : Identified) → facePut (answerAs i c at o) .refusal ≡ 0 → (p : ℕ) × (answerAs i c at o ≡ writer.answered p)
     by Unknown z = absurd (none z)
-    by (Known k) z = judged (first (writeChecks k l at o)) (at + writer.sizeOf k (l .header) (lengthsOf l)) z
+    by (Known k) z = judged (first (writeChecks k c at o)) (at + sizeGiven k c) z

@@ -9,7 +9,7 @@ ghost use Rattle.mrd_views.specs.Views.{toldView};
 ghost use Rattle.mrd_fields.specs.Fields.{toldField, fieldApart};
 ghost use Rattle.mrd_stream.specs.Output.{toldWritten};
 ghost use Rattle.mrd_stream.specs.Told.{toldChecked};
-ghost use Rattle.mrd_writer.specs.Write.{told as toldPut};
+ghost use Rattle.mrd_writer.specs.Write.{writeMeaning as toldPut};
 ghost use Rattle.cotterleaf.specs.Answers.{checkedAs, faceChecked, viewAs, faceView, refusedField, faceValue, faceField, foundAs, faceFound, writtenAs, faceWritten, matchedAs, faceMatched, facePut};
 use mrd_element::Value;
 use mrd_format::refusal;
@@ -258,15 +258,15 @@ impl Matched {
 }
 
 impl Put {
-    pub(crate) fn of(answer: mrd_writer::Written) -> Put
+    pub(crate) fn of(answer: mrd_writer::WriteAnswer) -> Put
         ensures { λ r. ⌜ r ≡ facePut (toldPut answer) ⌝ }
     {
         match answer {
-            mrd_writer::Written::To(position) => Put {
+            mrd_writer::WriteAnswer::To(position) => Put {
                 refusal: 0,
                 position: position,
             },
-            mrd_writer::Written::Refused(number) => Put {
+            mrd_writer::WriteAnswer::Refused(number) => Put {
                 refusal: number as u32,
                 position: 0,
             },

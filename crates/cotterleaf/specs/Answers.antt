@@ -4,12 +4,11 @@ use Prim.Native.Nat.{ℕ}
 use lib.IntN.{ℤ, pos}
 use Rattle.mrd_element.specs.Field as header
 use Rattle.mrd_find.specs.Find as find
-use Rattle.mrd_index.specs.Compare as compare
-use Rattle.mrd_record.specs.Fields as fields
-use Rattle.mrd_record.specs.Views as views
+use Rattle.mrd_fields.specs.Fields as fields
+use Rattle.mrd_views.specs.Views as views
 use Rattle.mrd_stream.specs.Output as output
-use Rattle.mrd_logic.specs.Answer.{Verdict, accepted, refused}
-use Rattle.mrd_writer.specs.Refusals as writer
+use Rattle.mrd_logic.specs.Answer.{Verdict, accepted, refused, Answer, answered, number, stream}
+use Rattle.mrd_logic.specs.Answer as writer
 use Rattle.cotterleaf.specs.declared.answers.Checked.{Checked}
 use Rattle.cotterleaf.specs.declared.answers.ViewPlace.{ViewPlace}
 use Rattle.cotterleaf.specs.declared.answers.FieldAnswer.{FieldAnswer}
@@ -18,6 +17,7 @@ use Rattle.cotterleaf.specs.declared.answers.Written.{Written}
 use Rattle.cotterleaf.specs.declared.answers.Matched.{Matched}
 use Rattle.cotterleaf.specs.declared.answers.Put.{Put}
 use Rattle.mrd_logic.specs.Answer as answers
+use Rattle.mrd_views.specs.declared.views.Span.{Span}
 
 -- the stream's answer
 abbrev pub checkedAs : (refusal r byte count : ℕ) → Checked
@@ -31,10 +31,10 @@ faceChecked (refused f r b) = checkedAs f r b 0
 abbrev pub viewAs : (refusal r byte start length : ℕ) → ViewPlace
 viewAs f r b i z = record { refusal = f; «record» = r; byte = b; start = i; length = z }
 
-abbrev pub faceView : views.Shown → ViewPlace
-faceView (views.at i z) = viewAs 0 0 0 i z
-faceView (views.faulty f r b) = viewAs f r b 0 0
-faceView (views.refusal n) = viewAs n 0 0 0 0
+abbrev pub faceView : answers.Answer Span → ViewPlace
+faceView (answers.answered x) = viewAs 0 0 0 (x .start) (x .length)
+faceView (answers.stream f r b) = viewAs f r b 0 0
+faceView (answers.number n) = viewAs n 0 0 0 0
 
 -- a field, its type by number: 1 whole, 2 signed, 3 float
 abbrev pub fieldAs : (refusal r byte type whole : ℕ) → (integer : ℤ) → (float : ℕ) → FieldAnswer
@@ -50,9 +50,10 @@ faceValue (header.signed z) = fieldAs 0 0 0 2 0 z 0
 faceValue (header.float n) = fieldAs 0 0 0 3 0 (pos 0) n
 faceValue (header.number n) = refusedField n 0 0
 
-abbrev pub faceField : fields.Fielded → FieldAnswer
-faceField (fields.answered v) = faceValue v
-faceField (fields.faulty f r b) = refusedField f r b
+abbrev pub faceField : answers.Answer header.FieldAnswer → FieldAnswer
+faceField (answers.answered v) = faceValue v
+faceField (answers.stream f r b) = refusedField f r b
+faceField (answers.number n) = refusedField n 0 0
 
 -- what was looked for
 abbrev pub foundAs : (refusal r byte number : ℕ) → Found
@@ -76,15 +77,16 @@ faceWritten (answers.number n) = writtenAs n 0 0 0
 abbrev pub matchedAs : (refusal r byte : ℕ) → Matched
 matchedAs f r b = record { refusal = f; «record» = r; byte = b }
 
-abbrev pub faceMatched : compare.MatchAnswer → Matched
-faceMatched compare.same = matchedAs 0 0 0
-faceMatched (compare.stream f r b) = matchedAs f r b
-faceMatched (compare.number n) = matchedAs n 0 0
+abbrev pub faceMatched : Answer (Unit {0}) → Matched
+faceMatched (answered x) = matchedAs 0 0 0
+faceMatched (stream f r b) = matchedAs f r b
+faceMatched (number n) = matchedAs n 0 0
 
 -- the writer's answer
 abbrev pub putAs : (refusal position : ℕ) → Put
 putAs f p = record { refusal = f; position = p }
 
-abbrev pub facePut : writer.Answer → Put
-facePut (writer.done p) = putAs 0 p
-facePut (writer.refused n) = putAs n 0
+abbrev pub facePut : writer.Answer ℕ → Put
+facePut (writer.answered p) = putAs 0 p
+facePut (writer.stream f r b) = putAs f 0
+facePut (writer.number n) = putAs n 0

@@ -17,9 +17,12 @@ use Rattle.mrd_format.specs.Acquisition.{get, active-channels}
 use Rattle.mrd_stream.specs.Places.{Located, place}
 use Rattle.mrd_logic.specs.Answer.{answered}
 use Rattle.mrd_cut.specs.Places.{partAt}
-use Rattle.mrd_record.specs.Parts.{lacks, extentOf}
-use Rattle.mrd_record.specs.Views.{refusal, viewOf}
+use Rattle.mrd_format.specs.Parts.{lacks}
+use Rattle.mrd_format.specs.Content.{extentOf}
+use Rattle.mrd_views.specs.Views.{viewOf}
 use Rattle.cotterleaf.specs.Parts.{noPart, partOf}
+use Rattle.mrd_parts.specs.Sought.{partMeaning}
+use Rattle.mrd_logic.specs.Answer.{number}
 
 -- the number of another part is that of none
 other-number : (n c : ℕ) → (1 ≤ n → 7 < n) → partOf n c ≡ noPart
@@ -41,7 +44,7 @@ few-channels : (h : List ℕ) → Bytes h → get active-channels h < 65536
 unfolding num
 few-channels h bytes = two-bytes (drop 38 h) (bytes-drop 38 h bytes)
 
-none-lies : (k : Kind) (h : List ℕ) → Bytes h → extentOf noPart k h ≡ lacks
+none-lies : (k : Kind) (h : List ℕ) → Bytes h → extentOf (partMeaning noPart) k h ≡ lacks
 unfolding extentOf
 none-lies k h bytes =
     let few = few-channels h bytes in
@@ -49,7 +52,7 @@ none-lies k h bytes =
 
 -- the view of it, of a record of a stream of bytes, is 17
 pub no-such-part : (s : List ℕ) (i n c : ℕ) {l : Located} → Bytes s → place s i ≡ answered l → (1 ≤ n → 7 < n) →
-    viewOf s i (partOf n c) ≡ refusal 17
+    viewOf s i (partOf n c) ≡ number 17
 unfolding viewOf fixedPart
 no-such-part s i n c {l} bytes e other =
     let k = l .kind in

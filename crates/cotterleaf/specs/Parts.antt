@@ -2,8 +2,8 @@
 -- Assumes nothing.
 use Prim.Native.Nat.{ℕ, _-_, _^_}
 use mathlib.Core.List.{[], _∷_}
-use Rattle.mrd_record.specs.declared.parts.Part.{Part}
-use Rattle.mrd_record.specs.declared.parts.Part.the-variants.{Name, Text, Attributes, Trajectory, Channel, Pixels, Waveform}
+use Rattle.mrd_parts.specs.declared.parts.Part.{Part}
+use Rattle.mrd_parts.specs.declared.parts.Part.the-variants.{Name, Text, Attributes, Trajectory, Channel, Pixels, Waveform}
 use Rattle.cotterleaf.specs.Numbered.{numbered}
 
 -- a channel whose number is above any count of channels

@@ -26,24 +26,25 @@ use Rattle.mrd_stream.specs.Output as output
 use Rattle.mrd_stream.specs.Output.{answerBy, answerFor}
 use Rattle.mrd_cut.specs.Places.{partAt}
 use Rattle.mrd_cut.specs.Refused.{FaultAt, refused-why}
-use Rattle.mrd_record.specs.declared.parts.Part.{Part}
-use Rattle.mrd_record.specs.Parts.{Reach, lies, lacks, extentOf}
-use Rattle.mrd_record.specs.Fields.{fieldBy, fieldOf}
-use Rattle.mrd_record.specs.Views as views
-use Rattle.mrd_record.specs.Views.{viewBy, viewOf, shownAt}
+use Rattle.mrd_parts.specs.declared.parts.Part.{Part}
+use Rattle.mrd_format.specs.Parts.{Reach, lies, lacks, Contents}
+use Rattle.mrd_format.specs.Content.{extentOf}
+use Rattle.mrd_fields.specs.Fields.{fieldBy, fieldOf}
+use Rattle.mrd_views.specs.Views as views
+use Rattle.mrd_views.specs.Views.{viewBy, viewOf, shownAt, span}
 use Rattle.mrd_element.specs.Field as header
 use Rattle.mrd_find.specs.Find as find
 use Rattle.mrd_find.specs.Find.{firstMatch, matches, findOf}
 use Rattle.mrd_logic.specs.Choice.{pick}
-use Rattle.mrd_index.specs.Compare as compare
-use Rattle.mrd_index.specs.Compare.{matchedBy}
-use Rattle.mrd_writer.specs.Refusals as writer
-use Rattle.mrd_writer.specs.Lent.{Lent, lengthsOf}
-use Rattle.mrd_writer.specs.Write.{writeChecks, answerAs, writeAnswer}
+use Rattle.mrd_logic.specs.Answer as writer
+use Rattle.mrd_write_checks.specs.WriteChecks.{unless}
+use Rattle.mrd_writer.specs.Write.{sizeGiven, writeChecks, answerAs, writeAnswer}
 use Rattle.cotterleaf.specs.Answers.{faceChecked, faceView, faceValue, faceField, faceFound, faceWritten, faceMatched, facePut}
 use Rattle.cotterleaf.specs.Placed.{facePlaced}
 use Rattle.mrd_judge.specs.WholeLaws.{all-numbered}
 use Rattle.mrd_logic.specs.Answer as answers
+use Rattle.mrd_parts.specs.Sought.{partMeaning}
+use Rattle.mrd_index_match.specs.Compare.{believed}
 
 fault-numbered : (f : ℕ) (c : Cursor) (ks : List Kind) (rest : List ℕ) → FaultAt f c ks rest → f ≡ 0 → ⊥
 fault-numbered f c ks [] a z = omega (arith, a .0, z)
@@ -83,17 +84,17 @@ zero-found s n = by (answer s) refl
     by (refused f r b) e z = absurd (refused-numbered s e z)
 
 -- a view's place
-pub zero-shown : (s : List ℕ) (n : ℕ) (p : Part) → faceView (viewOf s n p) .refusal ≡ 0 → (i z : ℕ) × (viewOf s n p ≡ views.at i z)
+pub zero-shown : (s : List ℕ) (n : ℕ) (p : Part) → faceView (viewOf s n p) .refusal ≡ 0 → (i z : ℕ) × (viewOf s n p ≡ answers.answered (span i z))
 unfolding viewOf
 zero-shown s n p = by (place s n) (zero-found s n)
   where
-    at : (e : Reach) (i : ℕ) → faceView (shownAt e i) .refusal ≡ 0 → (j z : ℕ) × (shownAt e i ≡ views.at j z)
+    at : (e : Reach) (i : ℕ) → faceView (shownAt e i) .refusal ≡ 0 → (j z : ℕ) × (shownAt e i ≡ answers.answered (span j z))
     at (lies e) i z = (i + e .offset, e .size, refl)
     at lacks i z = absurd (none z)
 
     by : (a : answers.Answer places.Located) → (facePlaced a .refusal ≡ 0 → (l : Located) × (a ≡ answered l)) → faceView (viewBy a p s) .refusal ≡ 0 →
-        (i z : ℕ) × (viewBy a p s ≡ views.at i z)
-    by (answered l) g z = at (extentOf p (l .kind) (fixedPart (l .kind) (partAt s l))) (l .start) z
+        (i z : ℕ) × (viewBy a p s ≡ answers.answered (span i z))
+    by (answered l) g z = at (extentOf (partMeaning p) (l .kind) (fixedPart (l .kind) (partAt s l))) (l .start) z
     by (stream f r b) g z = let x : _≡_ {A = ℕ} 0 1 = cc (g z .1) in absurd (omega (arith, x))
     by (number m) g z = let x : _≡_ {A = ℕ} 0 1 = cc (g z .1) in absurd (omega (arith, x))
 
@@ -149,24 +150,24 @@ zero-written s n room = by (answer s) (ltb room n) refl
     by (refused f r b) short e z = absurd (refused-numbered s e z)
 
 -- a lent index, of which b says whether it is the stream's
-pub zero-same : (s : List ℕ) (b : Bool) → faceMatched (matchedBy (answer s) b) .refusal ≡ 0 → matchedBy (answer s) b ≡ compare.same
+pub zero-same : (s : List ℕ) (b : Bool) → faceMatched (unlessRefused (answer s) (believed b)) .refusal ≡ 0 → unlessRefused (answer s) (believed b) ≡ answered tt
 zero-same s b = by (answer s) b refl
   where
-    by : (v : Verdict) (b : Bool) → answer s ≡ v → faceMatched (matchedBy v b) .refusal ≡ 0 → matchedBy v b ≡ compare.same
+    by : (v : Verdict) (b : Bool) → answer s ≡ v → faceMatched (unlessRefused v (believed b)) .refusal ≡ 0 → unlessRefused v (believed b) ≡ answered tt
     by (accepted k) true e z = refl
     by (accepted k) false e z = absurd (none z)
     by (refused f r a) b e z = absurd (refused-numbered s e z)
 
 -- the writer's answer
-pub zero-put : (id : ℕ) (l : Lent) (at : ℕ) (o : List ℕ) → facePut (writeAnswer id l at o) .refusal ≡ 0 →
-    (p : ℕ) × (writeAnswer id l at o ≡ writer.done p)
+pub zero-put : (id : ℕ) (c : Contents) (at : ℕ) (o : List ℕ) → facePut (writeAnswer id c at o) .refusal ≡ 0 →
+    (p : ℕ) × (writeAnswer id c at o ≡ writer.answered p)
 unfolding writeAnswer answerAs
-zero-put id l at o = by (identified id)
+zero-put id c at o = by (identified id)
   where
-    judged : (f n : ℕ) → facePut (writer.unless f n) .refusal ≡ 0 → (p : ℕ) × (writer.unless f n ≡ writer.done p)
+    judged : (f n : ℕ) → facePut (unless f n) .refusal ≡ 0 → (p : ℕ) × (unless f n ≡ writer.answered p)
     judged zero n z = (n, refl)
     judged (suc f) n z = absurd (none z)
 
-    by : (i : Identified) → facePut (answerAs i l at o) .refusal ≡ 0 → (p : ℕ) × (answerAs i l at o ≡ writer.done p)
+    by : (i : Identified) → facePut (answerAs i c at o) .refusal ≡ 0 → (p : ℕ) × (answerAs i c at o ≡ writer.answered p)
     by Unknown z = absurd (none z)
-    by (Known k) z = judged (first (writeChecks k l at o)) (at + writer.sizeOf k (l .header) (lengthsOf l)) z
+    by (Known k) z = judged (first (writeChecks k c at o)) (at + sizeGiven k c) z

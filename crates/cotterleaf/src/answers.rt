@@ -4,11 +4,12 @@ ghost use mathlib.Core.Path.{_≡_};
 ghost use lib.Dec.{T};
 ghost use Rattle.mrd_element.specs.Told.{told as toldValue, nanApart};
 ghost use Rattle.mrd_find.specs.Told.{told as toldFound};
-ghost use Rattle.mrd_index.specs.Compare.{toldMatched};
-ghost use Rattle.mrd_record.specs.Told.{toldView, toldField, fieldApart};
+ghost use Rattle.mrd_index_match.specs.Compare.{toldMatched};
+ghost use Rattle.mrd_views.specs.Views.{toldView};
+ghost use Rattle.mrd_fields.specs.Fields.{toldField, fieldApart};
 ghost use Rattle.mrd_stream.specs.Output.{toldWritten};
 ghost use Rattle.mrd_stream.specs.Told.{toldChecked};
-ghost use Rattle.mrd_writer.specs.Write.{told as toldPut};
+ghost use Rattle.mrd_writer.specs.Write.{writeMeaning as toldPut};
 ghost use Rattle.cotterleaf.specs.Answers.{checkedAs, faceChecked, viewAs, faceView, refusedField, faceValue, faceField, foundAs, faceFound, writtenAs, faceWritten, matchedAs, faceMatched, facePut};
 use mrd_element::Value;
 use mrd_format::refusal;
@@ -118,13 +119,13 @@ impl ViewPlace {
         }
     }
 
-    pub(crate) fn of(answer: mrd_record::ViewPlace) -> ViewPlace
+    pub(crate) fn of(answer: mrd_views::ViewPlace) -> ViewPlace
         ensures { λ r. ⌜ r ≡ faceView (toldView answer) ⌝ }
     {
         match answer {
-            mrd_record::ViewPlace::At(span) => ViewPlace::new(0, 0, 0, span.start, span.length),
-            mrd_record::ViewPlace::Stream(r) => ViewPlace::new(r.number, r.record, r.byte, 0, 0),
-            mrd_record::ViewPlace::Refused(number) => ViewPlace::new(number, 0, 0, 0, 0),
+            mrd_views::ViewPlace::At(span) => ViewPlace::new(0, 0, 0, span.start, span.length),
+            mrd_views::ViewPlace::Stream(r) => ViewPlace::new(r.number, r.record, r.byte, 0, 0),
+            mrd_views::ViewPlace::Refused(number) => ViewPlace::new(number, 0, 0, 0, 0),
         }
     }
 }
@@ -176,14 +177,14 @@ impl FieldAnswer {
         }
     }
 
-    pub(crate) fn of(answer: mrd_record::FieldAnswer) -> FieldAnswer
+    pub(crate) fn of(answer: mrd_fields::FieldAnswer) -> FieldAnswer
         requires { ⌜ T (fieldApart answer) ⌝ }
         ensures { λ r. ⌜ r ≡ faceField (toldField answer) ⌝ }
     {
         match answer {
-            mrd_record::FieldAnswer::Value(value) => FieldAnswer::value(value),
-            mrd_record::FieldAnswer::Stream(r) => FieldAnswer::refused(r.number, r.record, r.byte),
-            mrd_record::FieldAnswer::Refused(number) => FieldAnswer::refused(number, 0, 0),
+            mrd_fields::FieldAnswer::Value(value) => FieldAnswer::value(value),
+            mrd_fields::FieldAnswer::Stream(r) => FieldAnswer::refused(r.number, r.record, r.byte),
+            mrd_fields::FieldAnswer::Refused(number) => FieldAnswer::refused(number, 0, 0),
         }
     }
 }
@@ -245,27 +246,27 @@ impl Matched {
         }
     }
 
-    pub(crate) fn of(answer: mrd_index::Matched) -> Matched
+    pub(crate) fn of(answer: mrd_index_match::Matched) -> Matched
         ensures { λ r. ⌜ r ≡ faceMatched (toldMatched answer) ⌝ }
     {
         match answer {
-            mrd_index::Matched::Same => Matched::new(0, 0, 0),
-            mrd_index::Matched::Differs => Matched::new(refusal::INDEX_DIFFERS, 0, 0),
-            mrd_index::Matched::Stream(r) => Matched::new(r.number, r.record, r.byte),
+            mrd_index_match::Matched::Same => Matched::new(0, 0, 0),
+            mrd_index_match::Matched::Differs => Matched::new(refusal::INDEX_DIFFERS, 0, 0),
+            mrd_index_match::Matched::Stream(r) => Matched::new(r.number, r.record, r.byte),
         }
     }
 }
 
 impl Put {
-    pub(crate) fn of(answer: mrd_writer::Written) -> Put
+    pub(crate) fn of(answer: mrd_writer::WriteAnswer) -> Put
         ensures { λ r. ⌜ r ≡ facePut (toldPut answer) ⌝ }
     {
         match answer {
-            mrd_writer::Written::To(position) => Put {
+            mrd_writer::WriteAnswer::To(position) => Put {
                 refusal: 0,
                 position: position,
             },
-            mrd_writer::Written::Refused(number) => Put {
+            mrd_writer::WriteAnswer::Refused(number) => Put {
                 refusal: number as u32,
                 position: 0,
             },

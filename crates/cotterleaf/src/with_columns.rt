@@ -1,10 +1,10 @@
 // The questions with an index lent as columns.
 ghost use mathlib.Core.Path.{_≡_};
 ghost use Rattle.mrd_stream.specs.Places.{place};
-ghost use Rattle.mrd_record.specs.Fields.{fieldOf};
-ghost use Rattle.mrd_record.specs.Views.{viewOf};
+ghost use Rattle.mrd_fields.specs.Fields.{fieldOf};
+ghost use Rattle.mrd_views.specs.Views.{viewOf};
 ghost use Rattle.mrd_find.specs.Find.{findOf};
-ghost use Rattle.mrd_index.specs.Compare.{columnsMatch};
+ghost use Rattle.mrd_index_match.specs.Compare.{columnsMatch};
 ghost use Rattle.mrd_lent.specs.Lending.{lending, ofPlace, ofView, ofField, ofFind};
 ghost use Rattle.cotterleaf.specs.Answers.{faceView, faceField, faceFound};
 ghost use Rattle.cotterleaf.specs.Parts.{partOf};

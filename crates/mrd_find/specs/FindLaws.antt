@@ -25,11 +25,12 @@ use Rattle.mrd_stream.specs.Told.{toldRecord, toldStep}
 use Rattle.mrd_stream.specs.declared.answer.Record.{Record}
 use Rattle.mrd_stream.specs.declared.answer.Step.{Step}
 use Rattle.mrd_stream.specs.declared.answer.Step
-use Rattle.mrd_find.specs.Find.{same, candidate, firstMatch, findOf}
+use Rattle.mrd_find.specs.Find.{candidate, firstMatch, findOf}
 use Rattle.mrd_logic.specs.Answer.{Answer, answered, unlessRefused}
 use Rattle.mrd_logic.specs.Choice.{both}
 use Rattle.mrd_numbers.specs.Stored.{lentFrom, lent-is}
 use Rattle.mrd_judge.specs.JudgeLaws.{fixed-long}
+use Rattle.mrd_logic.specs.Lists.{equal}
 
 -- the answer that a trace gives
 abbrev pub findIn : ℕ → List ℕ → Trace → Answer ℕ
@@ -105,14 +106,14 @@ module _ {n : ℕ} {cs : List ℕ} {c : Cursor} {s : List ℕ} {here : Record} {
       x .header ∙ rw (lent-is, starts (x .turn) (x .one), p .split, ← acquisition (x .turn) (x .one), ← p .known) own
 
   -- counters that differ: the answer is that of what follows
-  pub no-match : same (countersOf h) cs ≡ false → Finding n cs next s
+  pub no-match : equal (countersOf h) cs ≡ false → Finding n cs next s
   no-match f =
       let one = handed-out (x .turn) ∙ x .one in
       let other = rw header-own at f in
       on-next (findIn n cs) s (findIn n cs) (x .turn .finding) (x .turn .passes) (λ r. rw (one, other))
 
   -- counters that are the same: what follows only tells whether the stream is refused
-  pub match-found : same (countersOf h) cs ≡ true → unlessRefused (verdict (from next s)) (answered (here .place .number)) ≡ findOf s n cs
+  pub match-found : equal (countersOf h) cs ≡ true → unlessRefused (verdict (from next s)) (answered (here .place .number)) ≡ findOf s n cs
   match-found f =
       let one = handed-out (x .turn) ∙ x .one in
       let all = rw header-own at f in

@@ -8,26 +8,27 @@ use mathlib.Core.Bool.{Bool, true, false}
 use mathlib.Core.List.{List, [], _∷_}
 use Rattle.mrd_format.specs.Elements.{ElementType, u16, u32, u64, i32, f32}
 use Rattle.mrd_format.specs.Message.{fixedPart}
-use Rattle.mrd_logic.specs.Answer.{Verdict, accepted, refused, Answer}
+use Rattle.mrd_logic.specs.Answer.{Verdict, accepted, refused, Answer, answered, number, stream}
 use Rattle.mrd_stream.specs.Walk.{Trace, message, done, trace, answer}
 use Rattle.mrd_stream.specs.Places as places
 use Rattle.mrd_stream.specs.Places.{Located, nth, place}
 use Rattle.mrd_cut.specs.Places.{partAt}
 use Rattle.mrd_element.specs.Field as header
 use Rattle.mrd_element.specs.Field.{Start, starts, none, startOf}
-use Rattle.mrd_index.specs.Compare.{MatchAnswer, same, stream, number}
-use Rattle.mrd_index.specs.Exactly.{Differs, Compared}
-use Rattle.mrd_record.specs.declared.parts.Part.{Part}
-use Rattle.mrd_record.specs.Parts.{Reach, lies, lacks, extentOf}
-use Rattle.mrd_record.specs.Views as views
-use Rattle.mrd_record.specs.Views.{viewOf}
-use Rattle.mrd_record.specs.Fields as fields
-use Rattle.mrd_record.specs.Fields.{fieldOf}
+use Rattle.mrd_index_match.specs.Exactly.{Differs, Compared}
+use Rattle.mrd_parts.specs.declared.parts.Part.{Part}
+use Rattle.mrd_format.specs.Parts.{Reach, lies, lacks}
+use Rattle.mrd_format.specs.Content.{extentOf}
+use Rattle.mrd_views.specs.Views as views
+use Rattle.mrd_views.specs.Views.{viewOf}
+use Rattle.mrd_fields.specs.Fields as fields
+use Rattle.mrd_fields.specs.Fields.{fieldOf}
 use Rattle.mrd_find.specs.Find as find
 use Rattle.mrd_find.specs.Find.{findOf}
 use Rattle.mrd_lent.specs.Lending.{Refusing, lending, ofPlace, ofView, ofField, ofFind}
 use Rattle.mrd_logic.specs.Answer as answers
 use Rattle.mrd_logic.specs.Choice.{pick}
+use Rattle.mrd_parts.specs.Sought.{partMeaning}
 
 -- the answer a of a question about s with no index lent: a refused stream's refusal comes first, and none is 15
 pub record Question {A : Type 0} (r : Refusing A) (s : List ℕ) (a : A) : Type 0 where
@@ -36,7 +37,7 @@ pub record Question {A : Type 0} (r : Refusing A) (s : List ℕ) (a : A) : Type 
   pub apart : {f n b : ℕ} → r .of-stream f n b ≡ r .alone 15 → ⊥
 
 -- with an index lent, which is found to be m
-module _ {A : Type 0} {r : Refusing A} {s : List ℕ} {a : A} (q : Question r s a) {own : Type 0} {m : MatchAnswer} (c : Compared s own m) where
+module _ {A : Type 0} {r : Refusing A} {s : List ℕ} {a : A} (q : Question r s a) {own : Type 0} {m : Answer (Unit {0})} (c : Compared s own m) where
   -- the stream's own index is believed: the answer is that with none lent
   pub own-believed : own → lending r m a ≡ a
   own-believed o = by (answer s) refl
@@ -52,7 +53,7 @@ module _ {A : Type 0} {r : Refusing A} {s : List ℕ} {a : A} (q : Question r s 
   pub only-other-15 : lending r m a ≡ r .alone 15 → Differs s own
   only-other-15 e = by m refl e
     where
-      by : (x : MatchAnswer) → m ≡ x → lending r x a ≡ r .alone 15 → Differs s own
+      by : (x : Answer (Unit {0})) → m ≡ x → lending r x a ≡ r .alone 15 → Differs s own
       by same h e = absurd (q .never-15 e)
       by (stream f n b) h e = absurd (q .apart e)
       by (number k) h e = c .number-differs h
@@ -77,7 +78,7 @@ place-question s n =
     never (refused f r b) e = let z : _≡_ {A = ℕ} 0 1 = cc in omega arith
 
 -- a view
-reach-never : (x : Reach) (start : ℕ) → views.shownAt x start ≡ views.refusal 15 → ⊥
+reach-never : (x : Reach) (start : ℕ) → views.shownAt x start ≡ answers.number 15 → ⊥
 reach-never (lies e) start p = let z : _≡_ {A = ℕ} 0 1 = cc in omega arith
 reach-never lacks start p = let z : _≡_ {A = ℕ} 17 15 = cc in omega arith
 
@@ -90,20 +91,20 @@ view-question s n p =
       apart = λ e. let z : _≡_ {A = ℕ} 0 1 = cc in omega arith;
     }
   where
-    never : (a : Answer Located) → (a ≡ answers.number 15 → ⊥) → views.viewBy a p s ≡ views.refusal 15 → ⊥
-    never (answers.answered l) h e = reach-never (extentOf p (l .kind) (fixedPart (l .kind) (partAt s l))) (l .start) e
+    never : (a : Answer Located) → (a ≡ answers.number 15 → ⊥) → views.viewBy a p s ≡ answers.number 15 → ⊥
+    never (answers.answered l) h e = reach-never (extentOf (partMeaning p) (l .kind) (fixedPart (l .kind) (partAt s l))) (l .start) e
     never (answers.stream f r b) h e = let z : _≡_ {A = ℕ} 0 1 = cc in omega arith
     never (answers.number k) h e = h (let z : _≡_ {A = ℕ} k 15 = cc in ap answers.number z)
 
 -- a field
-value-never : (t : ElementType) (n : ℕ) → fields.answered (header.valueOf t n) ≡ fields.answered (header.number 15) → ⊥
+value-never : (t : ElementType) (n : ℕ) → fields.valued (header.valueOf t n) ≡ answers.number 15 → ⊥
 value-never u16 n e = let z : _≡_ {A = ℕ} 0 1 = cc in omega arith
 value-never u32 n e = let z : _≡_ {A = ℕ} 0 1 = cc in omega arith
 value-never u64 n e = let z : _≡_ {A = ℕ} 0 1 = cc in omega arith
 value-never i32 n e = let z : _≡_ {A = ℕ} 0 1 = cc in omega arith
 value-never f32 n e = let z : _≡_ {A = ℕ} 0 1 = cc in omega arith
 
-start-never : (x : Start) (h : List ℕ) (o : ℕ) → fields.answered (header.answered x h o) ≡ fields.answered (header.number 15) → ⊥
+start-never : (x : Start) (h : List ℕ) (o : ℕ) → fields.valued (header.answered x h o) ≡ answers.number 15 → ⊥
 start-never (starts t) h o e = value-never t _ e
 start-never none h o e = let z : _≡_ {A = ℕ} 20 15 = cc in omega arith
 
@@ -116,7 +117,7 @@ field-question s n o =
       apart = λ e. let z : _≡_ {A = ℕ} 0 1 = cc in omega arith;
     }
   where
-    never : (a : Answer Located) → (a ≡ answers.number 15 → ⊥) → fields.fieldBy a o s ≡ fields.answered (header.number 15) → ⊥
+    never : (a : Answer Located) → (a ≡ answers.number 15 → ⊥) → fields.fieldBy a o s ≡ answers.number 15 → ⊥
     never (answers.answered l) h e = start-never (startOf (l .kind) o) (fixedPart (l .kind) (partAt s l)) o e
     never (answers.stream f r b) h e = let z : _≡_ {A = ℕ} 0 1 = cc in omega arith
     never (answers.number k) h e = h (let z : _≡_ {A = ℕ} k 15 = cc in ap answers.number z)

@@ -2,12 +2,13 @@
 -- Assumes nothing.
 use Prim.Native.Nat.{ℕ}
 use Rattle.mrd_stream.specs.Places as places
-use Rattle.mrd_index.specs.Compare.{MatchAnswer, same, stream, number}
 use Rattle.mrd_element.specs.Field as header
-use Rattle.mrd_record.specs.Views as views
-use Rattle.mrd_record.specs.Fields as fields
+use Rattle.mrd_views.specs.Views as views
+use Rattle.mrd_fields.specs.Fields as fields
 use Rattle.mrd_find.specs.Find as find
 use Rattle.mrd_logic.specs.Answer as answers
+use Rattle.mrd_views.specs.declared.views.Span.{Span}
+use Rattle.mrd_logic.specs.Answer.{Answer, answered, number, stream}
 
 -- how a question's answers say a refusal: the stream's, with record and byte, and a number alone
 pub record Refusing (A : Type 0) : Type 0 where
@@ -15,7 +16,7 @@ pub record Refusing (A : Type 0) : Type 0 where
   pub alone : ℕ → A
 
 -- a question's answer with an index lent, from what that index is found to be and the answer without one
-abbrev pub lending : {A : Type 0} → Refusing A → MatchAnswer → A → A
+abbrev pub lending : {A : Type 0} → Refusing A → Answer (Unit {0}) → A → A
 lending r same a = a
 lending r (stream f n b) a = r .of-stream f n b
 lending r (number n) a = r .alone n
@@ -24,11 +25,11 @@ lending r (number n) a = r .alone n
 abbrev pub ofPlace : Refusing (answers.Answer places.Located)
 ofPlace = record { of-stream = answers.stream; alone = answers.number }
 
-abbrev pub ofView : Refusing views.Shown
-ofView = record { of-stream = views.faulty; alone = views.refusal }
+abbrev pub ofView : Refusing (answers.Answer Span)
+ofView = record { of-stream = answers.stream; alone = answers.number }
 
-abbrev pub ofField : Refusing fields.Fielded
-ofField = record { of-stream = fields.faulty; alone = λ n. fields.answered (header.number n) }
+abbrev pub ofField : Refusing (answers.Answer header.FieldAnswer)
+ofField = record { of-stream = answers.stream; alone = answers.number }
 
 abbrev pub ofFind : Refusing (answers.Answer ℕ)
 ofFind = record { of-stream = answers.stream; alone = answers.number }

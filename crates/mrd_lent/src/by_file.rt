@@ -2,10 +2,11 @@
 ghost use mathlib.Core.Path.{_≡_};
 ghost use Rattle.mrd_stream.specs.Told.{toldPlaced};
 ghost use Rattle.mrd_stream.specs.Places.{place};
-ghost use Rattle.mrd_index.specs.Compare.{fileMatch};
-ghost use Rattle.mrd_record.specs.Views.{viewOf, shown};
-ghost use Rattle.mrd_record.specs.Fields.{fieldOf};
-ghost use Rattle.mrd_record.specs.Told.{toldView, TellsField};
+ghost use Rattle.mrd_index_match.specs.Compare.{fileMatch};
+ghost use Rattle.mrd_views.specs.Views.{viewOf, shown};
+ghost use Rattle.mrd_fields.specs.Fields.{fieldOf};
+ghost use Rattle.mrd_views.specs.Views.{toldView};
+ghost use Rattle.mrd_fields.specs.Fields.{TellsField};
 ghost use Rattle.mrd_find.specs.Find.{findOf};
 ghost use Rattle.mrd_find.specs.Told.{told};
 ghost use Rattle.mrd_lent.specs.Lending.{lending, ofPlace, ofView, ofField, ofFind};
@@ -14,12 +15,12 @@ use crate::questions::find_if;
 use crate::questions::place_if;
 use crate::questions::view_if;
 use crate::questions::view_place_if;
+use mrd_fields::FieldAnswer;
 use mrd_find::Found;
-use mrd_index::index_matches;
-use mrd_record::FieldAnswer;
-use mrd_record::Part;
-use mrd_record::ViewPlace;
+use mrd_index_match::index_matches;
+use mrd_parts::Part;
 use mrd_stream::Placed;
+use mrd_views::ViewPlace;
 
 // The place and kind of record n.
 pub fn place_with_file(s: &[u8], n: usize, file: &[u8]) -> Placed

@@ -3,20 +3,21 @@
 ghost use mathlib.Core.Path.{_≡_};
 ghost use Rattle.mrd_stream.specs.Told.{toldPlaced};
 ghost use Rattle.mrd_stream.specs.Places.{place};
-ghost use Rattle.mrd_index.specs.Compare.{toldMatched};
-ghost use Rattle.mrd_record.specs.Views.{viewOf, shown};
-ghost use Rattle.mrd_record.specs.Fields.{fieldOf};
-ghost use Rattle.mrd_record.specs.Told.{toldView, TellsField};
+ghost use Rattle.mrd_index_match.specs.Compare.{toldMatched};
+ghost use Rattle.mrd_views.specs.Views.{viewOf, shown};
+ghost use Rattle.mrd_fields.specs.Fields.{fieldOf};
+ghost use Rattle.mrd_views.specs.Views.{toldView};
+ghost use Rattle.mrd_fields.specs.Fields.{TellsField};
 ghost use Rattle.mrd_find.specs.Find.{findOf};
 ghost use Rattle.mrd_find.specs.Told.{told};
 ghost use Rattle.mrd_lent.specs.Lending.{lending, ofPlace, ofView, ofField, ofFind};
+use mrd_fields::FieldAnswer;
 use mrd_find::Found;
 use mrd_format::refusal;
-use mrd_index::Matched;
-use mrd_record::FieldAnswer;
-use mrd_record::Part;
-use mrd_record::ViewPlace;
+use mrd_index_match::Matched;
+use mrd_parts::Part;
 use mrd_stream::Placed;
+use mrd_views::ViewPlace;
 
 // The place and kind of record n.
 pub(crate) fn place_if(index: Matched, s: &[u8], n: usize) -> Placed
@@ -34,7 +35,7 @@ pub(crate) fn view_place_if(index: Matched, s: &[u8], n: usize, part: Part) -> V
     ensures { λ r. ⌜ toldView r ≡ lending ofView (toldMatched index) (viewOf (now (s .entry)) n part) ⌝ }
 {
     match index {
-        Matched::Same => mrd_record::view_place(s, n, part),
+        Matched::Same => mrd_views::view_place(s, n, part),
         Matched::Differs => ViewPlace::Refused(refusal::INDEX_DIFFERS),
         Matched::Stream(refusal) => ViewPlace::Stream(refusal),
     }
@@ -45,7 +46,7 @@ pub(crate) fn view_if(index: Matched, s: &[u8], n: usize, part: Part) -> &[u8]
     ensures { λ r. ⌜ now r ≡ shown (lending ofView (toldMatched index) (viewOf (now (s .entry)) n part)) (now (s .entry)) ⌝ }
 {
     match index {
-        Matched::Same => mrd_record::view(s, n, part),
+        Matched::Same => mrd_views::view(s, n, part),
         Matched::Differs => &s[..0],
         Matched::Stream(_) => &s[..0],
     }
@@ -56,7 +57,7 @@ pub(crate) fn field_if(index: Matched, s: &[u8], n: usize, offset: usize) -> Fie
     ensures { λ r. ⌜ TellsField r (lending ofField (toldMatched index) (fieldOf (now (s .entry)) n offset)) ⌝ }
 {
     match index {
-        Matched::Same => mrd_record::field(s, n, offset),
+        Matched::Same => mrd_fields::field(s, n, offset),
         Matched::Differs => FieldAnswer::Refused(refusal::INDEX_DIFFERS),
         Matched::Stream(refusal) => FieldAnswer::Stream(refusal),
     }

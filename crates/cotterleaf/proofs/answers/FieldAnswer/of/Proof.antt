@@ -1,7 +1,7 @@
 -- `cotterleaf::answers::FieldAnswer::of` meets its contract: it goes by the answer's case.
 -- Assumes nothing.
 use mathlib.Core.Path.{sym, ap, _∙_}
-use Rattle.mrd_record.specs.Told.{toldField}
+use Rattle.mrd_fields.specs.Fields.{toldField}
 use Rattle.cotterleaf.specs.Answers.{faceField}
 use borrow.Author.Needs.{needs}
 use Rattle.cotterleaf.proofs.answers.FieldAnswer.of.Statement.{statement}

@@ -1,7 +1,7 @@
 -- `cotterleaf::answers::Matched::of` meets its contract: it goes by the answer's case.
 -- Assumes nothing.
 use mathlib.Core.Path.{sym, ap, _∙_}
-use Rattle.mrd_index.specs.Compare.{toldMatched}
+use Rattle.mrd_index_match.specs.Compare.{toldMatched}
 use Rattle.cotterleaf.specs.Answers.{faceMatched}
 use borrow.Author.Needs.{needs}
 use Rattle.cotterleaf.proofs.answers.Matched.of.Statement.{statement}

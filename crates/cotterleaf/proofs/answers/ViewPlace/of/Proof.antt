@@ -1,7 +1,7 @@
 -- `cotterleaf::answers::ViewPlace::of` meets its contract: it goes by the answer's case.
 -- Assumes nothing.
 use mathlib.Core.Path.{sym, ap, _∙_}
-use Rattle.mrd_record.specs.Told.{toldView}
+use Rattle.mrd_views.specs.Views.{toldView}
 use Rattle.cotterleaf.specs.Answers.{faceView}
 use borrow.Author.Needs.{needs}
 use Rattle.cotterleaf.proofs.answers.ViewPlace.of.Statement.{statement}

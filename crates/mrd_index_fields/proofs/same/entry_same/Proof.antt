@@ -1,4 +1,4 @@
--- `mrd_index_match::compare::field_same` meets its contract: the fields of the entry stand one after the other.
+-- `mrd_index_fields::entry_same` meets its contract: the fields of the entry stand one after the other.
 -- Assumes nothing.
 use Prim.Native.Nat.{_+_}
 use native.Mathlib.Omega.{arith}
@@ -10,9 +10,9 @@ use Rattle.mrd_numbers.specs.Little.{toBytes}
 use Rattle.mrd_tagged.specs.Tagged.{heading}
 use Rattle.mrd_tagged.specs.TaggedLaws.{four-same}
 use Rattle.mrd_stream.specs.Index.{entryField}
-use Rattle.mrd_index.specs.Entries.{toldEntry}
-use Rattle.mrd_index_match.proofs.compare.field_same.Statement.{statement}
-use Rattle.mrd_index_match.proofs.compare.field_same.Tie as tie
+use Rattle.mrd_index_fields.specs.IndexFields.{toldEntry}
+use Rattle.mrd_index_fields.proofs.same.entry_same.Statement.{statement}
+use Rattle.mrd_index_fields.proofs.same.entry_same.Tie as tie
 
 add-if1 : tie.Need-add-if1
 add-if1 c = search needs
@@ -50,8 +50,8 @@ returns-2 c =
     (four-same (now (a .file)) (heading 3 14) (toBytes 8 (a .entry .start)) (toBytes 2 (a .entry .id)) (toBytes 4 (a .entry .counter))
     (a .at) (a .at + 3) (a .at + 11) (a .at + 13) refl (omega arith) (omega arith))
 
-pub field-same-spec : {M : Type 1} → statement M
-field-same-spec =
+pub entry-same-spec : {M : Type 1} → statement M
+entry-same-spec =
     tie.close
     (tie.spec
     add-if1

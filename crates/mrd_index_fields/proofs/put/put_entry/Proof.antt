@@ -1,4 +1,4 @@
--- `mrd_index::file::put_entry` meets its contract: there is room, and the fields are stored one after the other.
+-- `mrd_index_fields::put_entry` meets its contract: there is room, and the fields are stored one after the other.
 -- Assumes nothing.
 use Prim.Native.Nat.{_+_}
 use native.Mathlib.Omega.{arith}
@@ -8,8 +8,8 @@ use denote.Ref.{now}
 use Rattle.mrd_numbers.specs.Little.{toBytes}
 use Rattle.mrd_tagged.specs.Tagged.{heading}
 use Rattle.mrd_tagged.specs.TaggedLaws.{four-stored}
-use Rattle.mrd_index.proofs.file.put_entry.Statement.{statement}
-use Rattle.mrd_index.proofs.file.put_entry.Tie as tie
+use Rattle.mrd_index_fields.proofs.put.put_entry.Statement.{statement}
+use Rattle.mrd_index_fields.proofs.put.put_entry.Tie as tie
 
 add-if1 : tie.Need-add-if1
 add-if1 c = search needs

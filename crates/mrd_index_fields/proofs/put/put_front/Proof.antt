@@ -1,4 +1,4 @@
--- `mrd_index::file::put_front` meets its contract: the fields are stored one after the other.
+-- `mrd_index_fields::put_front` meets its contract: the fields are stored one after the other.
 -- Assumes nothing.
 use native.Mathlib.Omega.{arith}
 use mathlib.Core.Path.{refl}
@@ -7,8 +7,8 @@ use denote.Ref.{now}
 use Rattle.mrd_numbers.specs.Little.{toBytes}
 use Rattle.mrd_tagged.specs.Tagged.{heading}
 use Rattle.mrd_tagged.specs.TaggedLaws.{four-stored}
-use Rattle.mrd_index.proofs.file.put_front.Statement.{statement}
-use Rattle.mrd_index.proofs.file.put_front.Tie as tie
+use Rattle.mrd_index_fields.proofs.put.put_front.Statement.{statement}
+use Rattle.mrd_index_fields.proofs.put.put_front.Tie as tie
 
 put-tag-requires : tie.Need-put-tag-requires
 put-tag-requires c κs = search needs

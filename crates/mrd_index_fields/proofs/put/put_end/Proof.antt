@@ -1,4 +1,4 @@
--- `mrd_index::file::put_end` meets its contract: the count is stored right after its tag.
+-- `mrd_index_fields::put_end` meets its contract: the count is stored right after its tag.
 -- Assumes nothing.
 use Prim.Native.Nat.{_+_}
 use native.Mathlib.Omega.{arith}
@@ -8,8 +8,8 @@ use denote.Ref.{now}
 use Rattle.mrd_numbers.specs.Little.{toBytes}
 use Rattle.mrd_tagged.specs.Tagged.{heading}
 use Rattle.mrd_tagged.specs.TaggedLaws.{two-stored}
-use Rattle.mrd_index.proofs.file.put_end.Statement.{statement}
-use Rattle.mrd_index.proofs.file.put_end.Tie as tie
+use Rattle.mrd_index_fields.proofs.put.put_end.Statement.{statement}
+use Rattle.mrd_index_fields.proofs.put.put_end.Tie as tie
 
 put-tag-requires : tie.Need-put-tag-requires
 put-tag-requires c κs = search needs

@@ -1,4 +1,4 @@
--- `mrd_index_match::compare::file_end_same` meets its contract: the length first; then the count stands right after its tag.
+-- `mrd_index_fields::end_same` meets its contract: the length first; then the count stands right after its tag.
 -- Assumes nothing.
 use Prim.Native.Nat.{_+_}
 use native.Mathlib.Omega.{arith}
@@ -9,8 +9,8 @@ use Rattle.mrd_logic.specs.ListLaws.{begins-next, rest-other, rest-long}
 use Rattle.mrd_numbers.specs.Little.{toBytes}
 use Rattle.mrd_tagged.specs.Tagged.{heading}
 use Rattle.mrd_stream.specs.Index.{endField}
-use Rattle.mrd_index_match.proofs.compare.file_end_same.Statement.{statement}
-use Rattle.mrd_index_match.proofs.compare.file_end_same.Tie as tie
+use Rattle.mrd_index_fields.proofs.same.end_same.Statement.{statement}
+use Rattle.mrd_index_fields.proofs.same.end_same.Tie as tie
 
 add-if1 : tie.Need-add-if1
 add-if1 c = search needs
@@ -36,7 +36,7 @@ returns-2 c =
     (sym (rest-long (now (a .file)) (endField (a .count)) (a .at) (omega arith) (omega (arith, c .before .before .if1 .left)) ∙
     begins-next (now (a .file)) (heading 4 4) (toBytes 4 (a .count)) (a .at) (a .at + 3) refl))
 
-pub file-end-same-spec : {M : Type 1} → statement M
-file-end-same-spec =
+pub end-same-spec : {M : Type 1} → statement M
+end-same-spec =
     tie.close
     (tie.spec add-if1 returns tag-same-requires add-u32-same u32-same-requires returns-2)

@@ -27,7 +27,7 @@ use Rattle.mrd_stream.specs.Output.{answerBy, answerFor}
 use Rattle.mrd_cut.specs.Places.{partAt}
 use Rattle.mrd_cut.specs.Refused.{FaultAt, refused-why}
 use Rattle.mrd_parts.specs.declared.parts.Part.{Part}
-use Rattle.mrd_format.specs.Parts.{Reach, lies, lacks}
+use Rattle.mrd_format.specs.Parts.{Reach, lies, lacks, Contents}
 use Rattle.mrd_format.specs.Content.{extentOf}
 use Rattle.mrd_fields.specs.Fields.{fieldBy, fieldOf}
 use Rattle.mrd_views.specs.Views as views
@@ -38,7 +38,6 @@ use Rattle.mrd_find.specs.Find.{firstMatch, matches, findOf}
 use Rattle.mrd_logic.specs.Choice.{pick}
 use Rattle.mrd_logic.specs.Answer as writer
 use Rattle.mrd_write_checks.specs.WriteChecks.{unless}
-use Rattle.mrd_format.specs.Parts.{Contents}
 use Rattle.mrd_writer.specs.Write.{sizeGiven, writeChecks, answerAs, writeAnswer}
 use Rattle.cotterleaf.specs.Answers.{faceChecked, faceView, faceValue, faceField, faceFound, faceWritten, faceMatched, facePut}
 use Rattle.cotterleaf.specs.Placed.{facePlaced}

@@ -6,18 +6,13 @@ use mathlib.Core.List.{List, [], _∷_}
 use lib.Dec.{leb, eqb}
 use Rattle.mrd_format.specs.declared.kind.Kind.{Kind}
 use Rattle.mrd_format.specs.Kinds.{idOf}
-use Rattle.mrd_format.specs.Elements.{elements}
-use Rattle.mrd_format.specs.Acquisition.{layout, counters}
+use Rattle.mrd_format.specs.Acquisition.{countersOf}
 use Rattle.mrd_format.specs.Message.{fixedPart}
 use Rattle.mrd_cursor.specs.declared.cursor.Cursor.{Cursor}
 use Rattle.mrd_logic.specs.Answer.{Answer, answered, number, unlessRefused}
 use Rattle.mrd_logic.specs.Choice.{pick}
 use Rattle.mrd_stream.specs.Walk.{Trace, message, done, trace, answer}
 use Rattle.mrd_logic.specs.Lists.{equal}
-
--- the 'seventeen counters' of an acquisition's header h
-unfoldable pub countersOf : List ℕ → List ℕ
-countersOf h = elements (layout counters) h
 
 -- an 'acquisition from record n on': record i, of kind k
 abbrev pub candidate : ℕ → ℕ → Kind → Bool

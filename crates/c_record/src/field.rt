@@ -27,7 +27,7 @@ const FLOAT: u32 = 3;
 
 impl FieldAnswer {
     // An answer without a value.
-    fn refused(number: u8, record: usize, byte: usize) -> FieldAnswer
+    pub fn refused(number: u8, record: usize, byte: usize) -> FieldAnswer
         ensures { λ r. ⌜ r ≡ refusedField number «record» byte ⌝ }
     {
         FieldAnswer {
@@ -42,7 +42,7 @@ impl FieldAnswer {
     }
 
     // A float's bits are read only where it is no NaN: those of a NaN come as a number.
-    fn value(value: Value) -> FieldAnswer
+    pub fn value(value: Value) -> FieldAnswer
         requires { ⌜ T (nanApart value) ⌝ }
         ensures { λ r. ⌜ r ≡ cValue (told value) ⌝ }
     {

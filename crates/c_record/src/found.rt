@@ -13,7 +13,7 @@ pub struct Found {
 }
 
 impl Found {
-    fn new(refusal: u8, record: usize, byte: usize, number: usize) -> Found
+    pub fn new(refusal: u8, record: usize, byte: usize, number: usize) -> Found
         ensures { λ r. ⌜ r ≡ foundAs refusal «record» byte number ⌝ }
     {
         Found {

@@ -14,7 +14,7 @@ pub struct ViewPlace {
 }
 
 impl ViewPlace {
-    fn new(refusal: u8, record: usize, byte: usize, start: usize, length: usize) -> ViewPlace
+    pub fn new(refusal: u8, record: usize, byte: usize, start: usize, length: usize) -> ViewPlace
         ensures { λ r. ⌜ r ≡ viewAs refusal «record» byte start length ⌝ }
     {
         ViewPlace {

@@ -2,8 +2,8 @@
 ghost use mathlib.Core.Path.{_≡_};
 ghost use Rattle.mrd_stream.specs.Told.{toldStep};
 ghost use Rattle.c_walk.specs.WalkStructs.{phaseOf, cursorOf, phaseNumber, cCursor, cStep};
-use c_place::Placed;
 use crate::checked::Checked;
+use c_place::Placed;
 use mrd_stream::Phase;
 
 // Where a walk stands; the phase by its number.

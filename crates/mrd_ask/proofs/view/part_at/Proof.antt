@@ -14,7 +14,7 @@ slice-aggregate-result : tie.Need-slice-aggregate-result
 slice-aggregate-result c = search needs
 
 returns : tie.Need-returns
-returns c = 
+returns c =
     let a = c .before .before .args in
     rw (fitted-past (length (now (a .s))) (a .span) (c .before .if1 .taken)) (refl, (refl, omega arith))
 
@@ -25,7 +25,7 @@ slice-aggregate-result-2 : tie.Need-slice-aggregate-result-2
 slice-aggregate-result-2 c = search needs
 
 returns-2 : tie.Need-returns-2
-returns-2 c = 
+returns-2 c =
     let a = c .before .before .before .args in
     rw (fitted-long (length (now (a .s))) (a .span) (c .before .before .if1 .left) (c .before .if2 .taken)) (refl, (refl, omega arith))
 
@@ -42,7 +42,7 @@ part-result-end : tie.Need-part-result-end
 part-result-end c = search needs
 
 returns-3 : tie.Need-returns-3
-returns-3 c = 
+returns-3 c =
     let a = c .before .before .before .args in
     let x = a .span in
     rw (fitted-whole (length (now (a .s))) x (c .before .before .if1 .left) (c .before .if2 .left), add-sub-cancel-left (x .start) (x .length))

@@ -35,11 +35,11 @@ enum {
     MRD_MESSAGE_CUT = 11,    /* the message does not fit in what remains */
     MRD_ORDER = 12,          /* the order of messages is broken */
     MRD_NO_CLOSE = 13,       /* the stream ends without a close */
-    MRD_OUTPUT = 14,         /* output too short, or position past its end */
-    MRD_INDEX = 15,          /* the lent index is not the one that the stream yields */
+    MRD_OUTPUT_SHORT = 14,   /* output too short, or position past its end */
+    MRD_INDEX_DIFFERS = 15,  /* the lent index is not the one that the stream yields */
     MRD_NO_RECORD = 16,      /* no such record */
     MRD_NO_PART = 17,        /* the record has no such part or channel */
-    MRD_BODY = 18,           /* writer: a body's length is not what its header says */
+    MRD_BODY_LENGTH = 18,    /* writer: a body's length is not what its header says */
     MRD_TOO_MANY = 19,       /* a message begins after 1,000,000 messages */
     MRD_NO_FIELD = 20        /* no header element starts at that offset */
 };

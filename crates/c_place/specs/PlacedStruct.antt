@@ -2,12 +2,13 @@
 -- Assumes nothing.
 use Prim.Native.Nat.{ℕ}
 use lib.ListN.{getD}
+use Rattle.mrd_logic.specs.Answer.{Answer, answered, stream, number}
 use Rattle.mrd_format.specs.declared.kind.Kind.{Kind}
 use Rattle.mrd_format.specs.declared.kind.Kind.the-variants.{ConfigurationName, ConfigurationText, HeaderText, Close, Text, Acquisition, Image, Waveform}
 use Rattle.mrd_format.specs.declared.shape.Shape.{Shape}
 use Rattle.mrd_format.specs.Kinds.{idOf}
 use Rattle.mrd_stream.specs.declared.answer.Place.{Place}
-use Rattle.mrd_stream.specs.Places.{Located, Answer, found, stream, number}
+use Rattle.mrd_stream.specs.Places.{Located}
 use Rattle.mrd_stream.specs.Told.{toldRecord}
 use Rattle.c_place.specs.declared.placed.Placed.{Placed}
 
@@ -81,7 +82,7 @@ cRecord l = recordAs (l .kind) l
 abbrev pub shapeAs : Place → Shape → Placed
 shapeAs p h = cRecord (toldRecord (record { place = p; shape = h }))
 
-abbrev pub cPlaced : Answer → Placed
-cPlaced (found l) = cRecord l
+abbrev pub cPlaced : Answer Located → Placed
+cPlaced (answered l) = cRecord l
 cPlaced (stream f r b) = refusedPlace f r b
 cPlaced (number n) = refusedPlace n 0 0

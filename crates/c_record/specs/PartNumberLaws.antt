@@ -14,7 +14,8 @@ use Rattle.mrd_format.specs.declared.kind.Kind.{Kind}
 use Rattle.mrd_format.specs.Kinds.{fixedSize}
 use Rattle.mrd_format.specs.Message.{fixedPart}
 use Rattle.mrd_format.specs.Acquisition.{get, active-channels}
-use Rattle.mrd_stream.specs.Places.{Located, found, place}
+use Rattle.mrd_stream.specs.Places.{Located, place}
+use Rattle.mrd_logic.specs.Answer.{answered}
 use Rattle.mrd_cut.specs.Places.{partAt}
 use Rattle.mrd_record.specs.Parts.{lacks, extentOf}
 use Rattle.mrd_record.specs.Views.{refusal, viewOf}
@@ -47,7 +48,7 @@ none-lies k h bytes =
     rw (le-ltb (2 ^ 64 - 1) (get active-channels h) (omega arith), and-false)
 
 -- the view of it, of a record of a stream of bytes, is 17
-pub no-such-part : (s : List ℕ) (i n c : ℕ) {l : Located} → Bytes s → place s i ≡ found l → (1 ≤ n → 7 < n) →
+pub no-such-part : (s : List ℕ) (i n c : ℕ) {l : Located} → Bytes s → place s i ≡ answered l → (1 ≤ n → 7 < n) →
     viewOf s i (partOf n c) ≡ refusal 17
 unfolding viewOf fixedPart
 no-such-part s i n c {l} bytes e other =

@@ -1,10 +1,10 @@
 // A header element as a C struct.
 ghost use mathlib.Core.Path.{_≡_};
 ghost use lib.Dec.{T};
-ghost use Rattle.mrd_field.specs.Told.{told, nanApart};
+ghost use Rattle.mrd_element.specs.Told.{told, nanApart};
 ghost use Rattle.mrd_record.specs.Told.{toldField, fieldApart};
 ghost use Rattle.c_record.specs.RecordStructs.{refusedField, cValue, cField};
-use mrd_field::Value;
+use mrd_element::Value;
 use mrd_format::refusal;
 
 // A header element: its type, 1 whole, 2 signed or 3 float, and its value in the member for that type.

@@ -16,10 +16,12 @@ use Rattle.mrd_logic.specs.CheckLaws.{numbered, numbered-append, fault-not-zero
 use Rattle.mrd_format.specs.CheckLaws.{own-numbered}
 use Rattle.mrd_format.specs.Elements.{ElementType, u16, u32, u64, i32, f32, width}
 use Rattle.mrd_format.specs.Message.{idAt, fixedPart, ownChecks}
-use Rattle.mrd_stream.specs.declared.cursor.Cursor.{Cursor}
-use Rattle.mrd_stream.specs.Walk.{earlyChecks, sizeChecks, lateChecks, checksAs, Verdict, accepted, refused, Trace, message, done, trace, answer}
+use Rattle.mrd_cursor.specs.declared.cursor.Cursor.{Cursor}
+use Rattle.mrd_judge.specs.Stages.{checksAs}
+use Rattle.mrd_logic.specs.Answer.{Verdict, accepted, refused, answered, stream, number, unlessRefused}
+use Rattle.mrd_stream.specs.Walk.{Trace, message, done, trace, answer}
 use Rattle.mrd_stream.specs.Places as places
-use Rattle.mrd_stream.specs.Places.{Located, found, stream, number, nth, placeBy, place}
+use Rattle.mrd_stream.specs.Places.{Located, nth, place}
 use Rattle.mrd_stream.specs.Output as output
 use Rattle.mrd_stream.specs.Output.{answerBy, answerFor}
 use Rattle.mrd_cut.specs.Places.{partAt}
@@ -29,9 +31,10 @@ use Rattle.mrd_record.specs.Parts.{Reach, lies, lacks, extentOf}
 use Rattle.mrd_record.specs.Fields.{fieldBy, fieldOf}
 use Rattle.mrd_record.specs.Views as views
 use Rattle.mrd_record.specs.Views.{viewBy, viewOf, shownAt}
-use Rattle.mrd_field.specs.Field as header
+use Rattle.mrd_element.specs.Field as header
 use Rattle.mrd_find.specs.Find as find
-use Rattle.mrd_find.specs.Find.{firstMatch, matches, pick, unlessRefused, findOf}
+use Rattle.mrd_find.specs.Find.{firstMatch, matches, findOf}
+use Rattle.mrd_logic.specs.Choice.{pick}
 use Rattle.mrd_index.specs.Compare as compare
 use Rattle.mrd_index.specs.Compare.{matchedBy}
 use Rattle.mrd_writer.specs.Refusals as writer
@@ -39,12 +42,8 @@ use Rattle.mrd_writer.specs.Lent.{Lent, lengthsOf}
 use Rattle.mrd_writer.specs.Write.{writeChecks, answerAs, writeAnswer}
 use Rattle.cotterleaf.specs.Answers.{faceChecked, faceView, faceValue, faceField, faceFound, faceWritten, faceMatched, facePut}
 use Rattle.cotterleaf.specs.Placed.{facePlaced}
-
--- no check has the number 0
-all-numbered : (i : Identified) (c : Cursor) (t : List ℕ) → numbered (checksAs i c t) ≡ true
-unfolding checksAs earlyChecks lateChecks
-all-numbered Unknown c t = refl
-all-numbered (Known k) c t = numbered-append (ownChecks k (fixedPart k t)) (sizeChecks k t) (own-numbered k (fixedPart k t)) refl
+use Rattle.mrd_judge.specs.WholeLaws.{all-numbered}
+use Rattle.mrd_logic.specs.Answer as answers
 
 fault-numbered : (f : ℕ) (c : Cursor) (ks : List Kind) (rest : List ℕ) → FaultAt f c ks rest → f ≡ 0 → ⊥
 fault-numbered f c ks [] a z = omega (arith, a .0, z)
@@ -69,17 +68,17 @@ zero-accepted s = by (answer s) refl
     by (refused f n b) e z = absurd (refused-numbered s e z)
 
 -- a record's place
-pub zero-found : (s : List ℕ) (n : ℕ) → facePlaced (place s n) .refusal ≡ 0 → (l : Located) × (place s n ≡ found l)
+pub zero-found : (s : List ℕ) (n : ℕ) → facePlaced (place s n) .refusal ≡ 0 → (l : Located) × (place s n ≡ answered l)
 unfolding place
 zero-found s n = by (answer s) refl
   where
-    at : (ls : List Located) (n : ℕ) → facePlaced (nth ls n) .refusal ≡ 0 → (l : Located) × (nth ls n ≡ found l)
+    at : (ls : List Located) (n : ℕ) → facePlaced (nth ls n) .refusal ≡ 0 → (l : Located) × (nth ls n ≡ answered l)
     at [] n z = absurd (none z)
     at (l ∷ ls) zero z = (l, refl)
     at (l ∷ ls) (suc n) z = at ls n z
 
-    by : (v : Verdict) → answer s ≡ v → facePlaced (placeBy v (places.places (trace s)) n) .refusal ≡ 0 →
-        (l : Located) × (placeBy v (places.places (trace s)) n ≡ found l)
+    by : (v : Verdict) → answer s ≡ v → facePlaced (unlessRefused v (places.nth (places.places (trace s)) n)) .refusal ≡ 0 →
+        (l : Located) × (unlessRefused v (places.nth (places.places (trace s)) n) ≡ answered l)
     by (accepted k) e z = at (places.places (trace s)) n z
     by (refused f r b) e z = absurd (refused-numbered s e z)
 
@@ -92,9 +91,9 @@ zero-shown s n p = by (place s n) (zero-found s n)
     at (lies e) i z = (i + e .offset, e .size, refl)
     at lacks i z = absurd (none z)
 
-    by : (a : places.Answer) → (facePlaced a .refusal ≡ 0 → (l : Located) × (a ≡ found l)) → faceView (viewBy a p s) .refusal ≡ 0 →
+    by : (a : answers.Answer places.Located) → (facePlaced a .refusal ≡ 0 → (l : Located) × (a ≡ answered l)) → faceView (viewBy a p s) .refusal ≡ 0 →
         (i z : ℕ) × (viewBy a p s ≡ views.at i z)
-    by (found l) g z = at (extentOf p (l .kind) (fixedPart (l .kind) (partAt s l))) (l .start) z
+    by (answered l) g z = at (extentOf p (l .kind) (fixedPart (l .kind) (partAt s l))) (l .start) z
     by (stream f r b) g z = let x : _≡_ {A = ℕ} 0 1 = cc (g z .1) in absurd (omega (arith, x))
     by (number m) g z = let x : _≡_ {A = ℕ} 0 1 = cc (g z .1) in absurd (omega (arith, x))
 
@@ -114,37 +113,37 @@ zero-valued s n o = by (place s n) (zero-found s n)
     at (header.starts e) h z t = typed e (num (width e) h o) t
     at header.none h z t = none z
 
-    by : (a : places.Answer) → (facePlaced a .refusal ≡ 0 → (l : Located) × (a ≡ found l)) → faceField (fieldBy a o s) .refusal ≡ 0 →
+    by : (a : answers.Answer places.Located) → (facePlaced a .refusal ≡ 0 → (l : Located) × (a ≡ answered l)) → faceField (fieldBy a o s) .refusal ≡ 0 →
         faceField (fieldBy a o s) .«value_type» ≡ 0 → ⊥
-    by (found l) g z t = at (header.startOf (l .kind) o) (fixedPart (l .kind) (partAt s l)) z t
+    by (answered l) g z t = at (header.startOf (l .kind) o) (fixedPart (l .kind) (partAt s l)) z t
     by (stream f r b) g z t = let x : _≡_ {A = ℕ} 0 1 = cc (g z .1) in omega (arith, x)
     by (number m) g z t = let x : _≡_ {A = ℕ} 0 1 = cc (g z .1) in omega (arith, x)
 
 -- what was looked for
-pub zero-sought : (s : List ℕ) (n : ℕ) (cs : List ℕ) → faceFound (findOf s n cs) .refusal ≡ 0 → (i : ℕ) × (findOf s n cs ≡ find.found i)
+pub zero-sought : (s : List ℕ) (n : ℕ) (cs : List ℕ) → faceFound (findOf s n cs) .refusal ≡ 0 → (i : ℕ) × (findOf s n cs ≡ answers.answered i)
 unfolding findOf
 zero-sought s n cs = by (answer s) refl
   where
-    either : (b : Bool) (i : ℕ) (a : find.Sought) → (faceFound a .refusal ≡ 0 → (j : ℕ) × (a ≡ find.found j)) →
-        faceFound (pick b (find.found i) a) .refusal ≡ 0 → (j : ℕ) × (pick b (find.found i) a ≡ find.found j)
+    either : (b : Bool) (i : ℕ) (a : answers.Answer ℕ) → (faceFound a .refusal ≡ 0 → (j : ℕ) × (a ≡ answers.answered j)) →
+        faceFound (pick b (answers.answered i) a) .refusal ≡ 0 → (j : ℕ) × (pick b (answers.answered i) a ≡ answers.answered j)
     either true i a g z = (i, refl)
     either false i a g z = g z
 
-    at : (t : Trace) → faceFound (firstMatch n cs t) .refusal ≡ 0 → (i : ℕ) × (firstMatch n cs t ≡ find.found i)
+    at : (t : Trace) → faceFound (firstMatch n cs t) .refusal ≡ 0 → (i : ℕ) × (firstMatch n cs t ≡ answers.answered i)
     at (message c k m r) z = either (matches n cs c k m) (c .number) (firstMatch n cs r) (at r) z
     at (done v) z = absurd (none z)
 
     by : (v : Verdict) → answer s ≡ v → faceFound (unlessRefused v (firstMatch n cs (trace s))) .refusal ≡ 0 →
-        (i : ℕ) × (unlessRefused v (firstMatch n cs (trace s)) ≡ find.found i)
+        (i : ℕ) × (unlessRefused v (firstMatch n cs (trace s)) ≡ answers.answered i)
     by (accepted k) e z = at (trace s) z
     by (refused f r b) e z = absurd (refused-numbered s e z)
 
 -- what was written to the front of an output: n, where n are to be written
-pub zero-written : (s : List ℕ) (n room : ℕ) → faceWritten (answerFor s n room) .refusal ≡ 0 → answerFor s n room ≡ output.written n
+pub zero-written : (s : List ℕ) (n room : ℕ) → faceWritten (answerFor s n room) .refusal ≡ 0 → answerFor s n room ≡ answers.answered n
 unfolding answerFor
 zero-written s n room = by (answer s) (ltb room n) refl
   where
-    by : (v : Verdict) (short : Bool) → answer s ≡ v → faceWritten (answerBy v short n) .refusal ≡ 0 → answerBy v short n ≡ output.written n
+    by : (v : Verdict) (short : Bool) → answer s ≡ v → faceWritten (answerBy v short n) .refusal ≡ 0 → answerBy v short n ≡ answers.answered n
     by (accepted k) true e z = absurd (none z)
     by (accepted k) false e z = refl
     by (refused f r b) short e z = absurd (refused-numbered s e z)

@@ -4,11 +4,11 @@ use Prim.Native.Nat.{ℕ}
 use mathlib.Core.Path.{_≡_, refl, ap}
 use mathlib.Core.Bool.{true, false}
 use lib.Dec.{eqb}
+use Rattle.mrd_logic.specs.Answer.{Verdict, accepted, refused}
 use Rattle.mrd_logic.specs.Choice.{pick}
-use Rattle.mrd_stream.specs.declared.cursor.Phase.{Phase}
-use Rattle.mrd_stream.specs.declared.cursor.Phase.the-variants.{Start, Configured, Headed, Closed}
-use Rattle.mrd_stream.specs.declared.cursor.Cursor as walk
-use Rattle.mrd_stream.specs.Walk.{Verdict, accepted, refused}
+use Rattle.mrd_cursor.specs.declared.cursor.Phase.{Phase}
+use Rattle.mrd_cursor.specs.declared.cursor.Phase.the-variants.{Start, Configured, Headed, Closed}
+use Rattle.mrd_cursor.specs.declared.cursor.Cursor as walk
 use Rattle.mrd_stream.specs.Places.{Stepped, handed, over}
 use Rattle.c_walk.specs.declared.walk.Cursor.{Cursor}
 use Rattle.c_walk.specs.declared.walk.Step.{Step}

@@ -4,7 +4,7 @@ ghost use Rattle.mrd_stream.specs.Told.{toldStep};
 ghost use Rattle.c_walk.specs.WalkStructs.{phaseOf, cursorOf, phaseNumber, cCursor, cStep};
 use crate::checked::Checked;
 use c_place::Placed;
-use mrd_stream::Phase;
+use mrd_cursor::Phase;
 
 // Where a walk stands; the phase by its number.
 #[repr(C)]
@@ -55,10 +55,10 @@ fn phase_number(phase: Phase) -> u32
 }
 
 // The cursor that a walk goes by.
-pub fn cursor_of(cursor: Cursor) -> mrd_stream::Cursor
+pub fn cursor_of(cursor: Cursor) -> mrd_cursor::Cursor
     ensures { λ r. ⌜ r ≡ cursorOf cursor ⌝ }
 {
-    mrd_stream::Cursor {
+    mrd_cursor::Cursor {
         number: cursor.number,
         start: cursor.start,
         phase: phase_of(cursor.phase),
@@ -66,7 +66,7 @@ pub fn cursor_of(cursor: Cursor) -> mrd_stream::Cursor
 }
 
 impl Cursor {
-    pub fn of(cursor: mrd_stream::Cursor) -> Cursor
+    pub fn of(cursor: mrd_cursor::Cursor) -> Cursor
         ensures { λ r. ⌜ r ≡ cCursor cursor ⌝ }
     {
         let phase = cursor.phase;

@@ -2,7 +2,7 @@
 -- Assumes nothing.
 use Prim.Native.Nat.{ℕ}
 use Rattle.mrd_index.specs.Compare as compare
-use Rattle.mrd_stream.specs.Output as output
+use Rattle.mrd_logic.specs.Answer.{Answer, answered, stream, number}
 use Rattle.mrd_writer.specs.Refusals as writer
 use Rattle.c_written.specs.declared.written.Written.{Written}
 use Rattle.c_written.specs.declared.matched.Matched.{Matched}
@@ -12,10 +12,10 @@ use Rattle.c_written.specs.declared.put.Put.{Put}
 abbrev pub writtenAs : (refusal r byte length : ℕ) → Written
 writtenAs f r b n = record { refusal = f; «record» = r; byte = b; length = n }
 
-abbrev pub cWritten : output.OutputAnswer → Written
-cWritten (output.written n) = writtenAs 0 0 0 n
-cWritten (output.stream f r b) = writtenAs f r b 0
-cWritten (output.number n) = writtenAs n 0 0 0
+abbrev pub cWritten : Answer ℕ → Written
+cWritten (answered n) = writtenAs 0 0 0 n
+cWritten (stream f r b) = writtenAs f r b 0
+cWritten (number n) = writtenAs n 0 0 0
 
 -- a given index compared
 abbrev pub matchedAs : (refusal r byte : ℕ) → Matched

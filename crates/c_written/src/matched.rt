@@ -28,7 +28,7 @@ impl Matched {
     {
         match answer {
             mrd_index::Matched::Same => Matched::new(0, 0, 0),
-            mrd_index::Matched::Differs => Matched::new(refusal::INDEX, 0, 0),
+            mrd_index::Matched::Differs => Matched::new(refusal::INDEX_DIFFERS, 0, 0),
             mrd_index::Matched::Stream(r) => Matched::new(r.number, r.record, r.byte),
         }
     }

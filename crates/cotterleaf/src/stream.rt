@@ -1,8 +1,9 @@
 // Is it a stream, and where are its records?
 ghost use mathlib.Core.Path.{_≡_};
+ghost use Rattle.mrd_cursor.specs.Cursors.{beginning};
 ghost use Rattle.mrd_stream.specs.Places.{place, step};
-ghost use Rattle.mrd_stream.specs.StepLaws.{from};
-ghost use Rattle.mrd_stream.specs.Walk.{verdict, answer, beginning};
+ghost use Rattle.mrd_stream.specs.Walk.{from};
+ghost use Rattle.mrd_stream.specs.Walk.{verdict, answer};
 ghost use Rattle.c_walk.specs.WalkStructs.{cChecked};
 ghost use Rattle.c_place.specs.PlacedStruct.{cPlaced};
 ghost use Rattle.c_walk.specs.WalkStructs.{cursorOf, cCursor, cStep};
@@ -33,7 +34,7 @@ pub extern "C" fn mrd_place(stream: &[u8], n: usize) -> Placed
 pub extern "C" fn mrd_beginning() -> Cursor
     ensures { λ r. ⌜ r ≡ cCursor beginning ⌝ }
 {
-    Cursor::of(mrd_stream::Cursor::beginning())
+    Cursor::of(mrd_cursor::Cursor::beginning())
 }
 
 // One step of a walk.
@@ -41,7 +42,7 @@ pub extern "C" fn mrd_beginning() -> Cursor
 pub extern "C" fn mrd_next(stream: &[u8], cursor: Cursor) -> Step
     ensures { λ r. ⌜ r ≡ cStep (step (cursorOf cursor) (now (stream .entry))) ⌝ }
 {
-    Step::of(cursor_of(cursor).next(stream))
+    Step::of(mrd_stream::next(cursor_of(cursor), stream))
 }
 
 // The answer of what a walk still has before it.

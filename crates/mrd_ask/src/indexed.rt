@@ -40,7 +40,7 @@ fn ask_if(index: Matched, s: &[u8], question: Question, counters: &[u16; 17]) ->
 {
     match index {
         Matched::Same => ask(s, question, counters),
-        Matched::Differs => Reply::Refused(refusal::INDEX),
+        Matched::Differs => Reply::Refused(refusal::INDEX_DIFFERS),
         Matched::Stream(refusal) => Reply::Stream(refusal),
     }
 }

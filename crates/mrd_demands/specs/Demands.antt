@@ -8,8 +8,9 @@ use mathlib.Core.Logic.{_↔_}
 use mathlib.Core.List.{List, map}
 use lib.ListN.{length}
 use Rattle.mrd_numbers.specs.Little.{Bytes}
-use Rattle.mrd_format.specs.Content.{Record}
-use Rattle.mrd_stream.specs.Walk.{accepted, refused, answer}
+use Rattle.mrd_format.specs.Content.{Record, bytesOf}
+use Rattle.mrd_logic.specs.Answer.{accepted, refused}
+use Rattle.mrd_stream.specs.Walk.{answer}
 use Rattle.mrd_stream.specs.Records.{records}
 use Rattle.mrd_stream.specs.Normal.{normal}
 use Rattle.mrd_stream.specs.Cut.{joined, Cut}
@@ -17,7 +18,6 @@ use Rattle.mrd_cut.specs.Accepted.{Acceptable, accepted-iff}
 use Rattle.mrd_cut.specs.Refused.{RefusedAt, refused-iff}
 use Rattle.mrd_cut.specs.Places.{AnsweredCut, places-cut}
 use Rattle.mrd_cut.specs.Unique.{cut-unique}
-use Rattle.mrd_demands.specs.Written.{bytesOf}
 use Rattle.mrd_demands.specs.Messages.{recordsIn}
 use Rattle.mrd_demands.specs.Normal.{accepted-again, normal-long, normal-records, normal-own, normal-written, records-cut}
 

@@ -1,5 +1,3 @@
-pub mod Headers
-pub mod Written
 pub mod Messages
 pub mod Normal
 pub mod Demands

@@ -9,10 +9,10 @@ use Rattle.mrd_numbers.specs.ByteLaws.{bytes-split}
 use Rattle.mrd_format.specs.declared.kind.Kind.{Kind}
 use Rattle.mrd_logic.specs.Every.{Every}
 use Rattle.mrd_format.specs.Message.{WellFormed}
-use Rattle.mrd_format.specs.Content.{Record, recordOf, normalOf}
+use Rattle.mrd_format.specs.Content.{Record, recordOf, normalOf, bytesOf}
+use Rattle.mrd_format.specs.Rewritten.{record-writes}
 use Rattle.mrd_format.specs.NormalLaws.{well-normalised, normal-well}
 use Rattle.mrd_stream.specs.Cut.{joined, kindsIn}
-use Rattle.mrd_demands.specs.Written.{bytesOf, record-writes}
 
 -- what f finds in each of some well-formed messages, by its kind and bytes
 abbrev pub eachIn : {A : Type 0} → (Kind → List ℕ → A) → (ms : List (List ℕ)) → Every WellFormed ms → List A

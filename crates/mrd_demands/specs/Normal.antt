@@ -7,16 +7,16 @@ use lib.ListN.{length}
 use Rattle.mrd_numbers.specs.Little.{Bytes}
 use Rattle.mrd_logic.specs.Every.{Every}
 use Rattle.mrd_format.specs.Message.{WellFormed}
-use Rattle.mrd_format.specs.Content.{Record, recordOf, normalOf}
-use Rattle.mrd_stream.specs.declared.cursor.Cursor.{Cursor}
-use Rattle.mrd_stream.specs.Walk.{Trace, trace, accepted, answer}
+use Rattle.mrd_format.specs.Content.{Record, recordOf, normalOf, bytesOf}
+use Rattle.mrd_cursor.specs.declared.cursor.Cursor.{Cursor}
+use Rattle.mrd_stream.specs.Walk.{Trace, trace, answer}
+use Rattle.mrd_logic.specs.Answer.{accepted}
 use Rattle.mrd_stream.specs.Records.{recordsOf, records}
 use Rattle.mrd_stream.specs.Normal.{normalFrom, normal}
 use Rattle.mrd_stream.specs.Cut.{joined, Cut}
 use Rattle.mrd_cut.specs.Unique.{cut-unique}
 use Rattle.mrd_cut.specs.Walked.{Walks, ends, faults, meets, walks, piecesOf}
 use Rattle.mrd_cut.specs.Accepted.{Acceptable, accepted-cut, cut-accepted}
-use Rattle.mrd_demands.specs.Written.{bytesOf}
 use Rattle.mrd_demands.specs.Messages.{recordsIn, normalsIn, each-same, normals-well, normals-count, normals-long, normals-kinds, normals-records, normals-own, records-write}
 
 -- the messages that a walk met, with their records and normal forms

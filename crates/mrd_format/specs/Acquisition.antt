@@ -7,6 +7,8 @@ use lib.Dec.{eqb, ltb}
 use lib.Count.{ones}
 use Rattle.mrd_format.specs.Elements.{Run, one, many, element, elements, u16, u32, u64, i32, f32}
 use Rattle.mrd_logic.specs.Checks.{Check, _when_}
+use Rattle.mrd_format.specs.Parts.{trajectory}
+use Rattle.mrd_format.specs.Segments.{Segment, fixed, sized, channels, total, Form}
 
 pub data Field : Type 0 where
   version flags measurement-uid scan-counter acquisition-time-stamp physiology-time-stamp : Field
@@ -94,9 +96,28 @@ unfoldable pub channelSize : List ℕ → ℕ
 channelSize h = get number-of-samples h * 8
 
 -- what follows the header: the trajectory, then 'active channels x samples x 8'
+abbrev pub body : List ℕ → List Segment
+body h = sized trajectory (trajectorySize h) ∷ channels (get active-channels h) (channelSize h) ∷ []
+
 unfoldable pub bodySize : List ℕ → ℕ
-bodySize h = trajectorySize h + get active-channels h * channelSize h
+bodySize h = total (body h)
+
+-- the 'seventeen counters'
+unfoldable pub countersOf : List ℕ → List ℕ
+countersOf h = elements (layout counters) h
 
 -- 'samples, active channels and dimensions for an acquisition'
 unfoldable pub numbers : List ℕ → List ℕ
 numbers h = get number-of-samples h ∷ get active-channels h ∷ get trajectory-dimensions h ∷ []
+
+abbrev pub form : Form
+form =
+    record {
+      table = table;
+      fixedSegments = fixed 340 ∷ [];
+      bodySegments = body;
+      checks = checks;
+      numbers = numbers;
+      counter = get scan-counter;
+      uid = get measurement-uid;
+    }

@@ -1,89 +1,90 @@
--- What a message holds: the parts after or in its fixed part, and the record that it is, where compared.
+-- What a message holds: its parts, the record that it is, where compared, its normal form, and the bytes that a record is written as.
+-- All of it follows from the segments of its kind.
 -- Assumes nothing.
-use Prim.Native.Nat.{ℕ, zero, suc, _+_, _-_, _*_}
+use Prim.Native.Nat.{ℕ}
 use mathlib.Core.List.{List, [], _∷_, _++_, map}
-use lib.ListN.{take, drop, replicate}
+use lib.ListN.{replicate}
+use Rattle.mrd_logic.specs.Choice.{pick}
+use Rattle.mrd_logic.specs.Joined.{joined}
+use Rattle.mrd_numbers.specs.Little.{toBytes}
 use Rattle.mrd_format.specs.declared.kind.Kind.{Kind}
-use Rattle.mrd_format.specs.declared.kind.Kind.the-variants.{ConfigurationName, ConfigurationText, HeaderText, Close, Text, Acquisition, Image, Waveform}
-use Rattle.mrd_format.specs.Elements.{values}
-use Rattle.mrd_format.specs.Message.{fixedPart, nameLength, textLength, bodySize}
-use Rattle.mrd_format.specs.Acquisition as acquisition
-use Rattle.mrd_format.specs.Image as image
-use Rattle.mrd_format.specs.Waveform as waveform
+use Rattle.mrd_format.specs.Elements.{values, widths, written}
+use Rattle.mrd_format.specs.Parts.{Part, id, header, name, filler, text, attributes, trajectory, samples, pixels, waveform, same, Extent, extent, Reach, lies, lacks, bytesAt, bytesIn, Parts, Contents, contents}
+use Rattle.mrd_format.specs.Segments.{Segment, Piece, piece, piecesFrom, orElse, reachIf, reachFrom, segmentsBytes}
+use Rattle.mrd_format.specs.Kinds.{idOf, formOf}
+use Rattle.mrd_format.specs.Message.{fixedPart}
 
--- where a part lies in its message: its first byte, counted from the id's, and its size
-pub record Extent : Type 0 where
-  pub offset : ℕ
-  pub size : ℕ
+-- what follows the id of a message of kind k with the fixed part h
+abbrev pub segmentsOf : Kind → List ℕ → List Segment
+segmentsOf k h = formOf k .fixedSegments ++ formOf k .bodySegments h
 
-abbrev pub extent : ℕ → ℕ → Extent
-extent at n = record { offset = at; size = n }
+-- all its parts, in order
+abbrev pub piecesOf : Kind → List ℕ → List Piece
+piecesOf k h = piece id 0 2 ∷ piecesFrom h 2 (segmentsOf k h)
 
--- the bytes of a part of the message m
-abbrev pub partOf : List ℕ → Extent → List ℕ
-partOf m e = take (e .size) (drop (e .offset) m)
+-- where a part of it lies
+unfoldable pub extentOf : Part → Kind → List ℕ → Reach
+extentOf p k h = orElse (reachIf (same p id) 0 2) (reachFrom p h 2 (segmentsOf k h))
 
--- n parts of one size, one after the other: 'channel c starts c x samples x 8 bytes into the data'
-abbrev pub extentsFrom : ℕ → ℕ → ℕ → List Extent
-extentsFrom zero at size = []
-extentsFrom (suc n) at size = extent at size ∷ extentsFrom n (at + size) size
+-- the bytes of a part of the message m of kind k
+abbrev pub partOf : Kind → List ℕ → Part → List ℕ
+partOf k m p = bytesIn m (extentOf p k (fixedPart k m))
 
--- the parts of a message with the fixed part h: a name; a text; a trajectory, then each channel's samples; attributes, then pixels; waveform
--- data
-unfoldable pub extents : Kind → List ℕ → List Extent
-extents ConfigurationName h = extent 2 (nameLength h) ∷ []
-extents ConfigurationText h = extent 6 (textLength h) ∷ []
-extents HeaderText h = extent 6 (textLength h) ∷ []
-extents Close h = []
-extents Text h = extent 6 (textLength h) ∷ []
-extents Acquisition h =
-    extent 342 (acquisition.trajectorySize h) ∷
-    extentsFrom (acquisition.get acquisition.active-channels h) (342 + acquisition.trajectorySize h) (acquisition.channelSize h)
-extents Image h =
-    extent 208 (image.attributeLength h) ∷ extent (208 + image.attributeLength h) (image.pixelsSize h) ∷ []
-extents Waveform h = extent 34 (waveform.bodySize h) ∷ []
+-- what it is made of
+unfoldable pub contentsOf : Kind → List ℕ → Contents
+contentsOf k m =
+    contents (partOf k m header) (partOf k m name) (partOf k m text) (partOf k m trajectory) (partOf k m samples)
+    (partOf k m attributes) (partOf k m pixels) (partOf k m waveform)
 
--- 'every field of a fixed header', by the kind's table, floats by their bits
-unfoldable pub fieldsOf : Kind → List ℕ → List ℕ
-fieldsOf ConfigurationName h = []
-fieldsOf ConfigurationText h = []
-fieldsOf HeaderText h = []
-fieldsOf Close h = []
-fieldsOf Text h = []
-fieldsOf Acquisition h = values acquisition.table h
-fieldsOf Image h = values image.table h
-fieldsOf Waveform h = values waveform.table h
-
--- 'A record, where compared, is its kind and whole content'
+-- 'A record, where compared, is its kind and whole content': 'every field of a fixed header', floats by their bits, and the bytes of each part
 pub record Record : Type 0 where
   pub kind : Kind
   pub fields : List ℕ
-  pub parts : List (List ℕ)
+  pub parts : Parts
+
+-- the numbers in all elements of the header at the front of h
+unfoldable pub fieldsOf : Kind → List ℕ → List ℕ
+fieldsOf k h = values (formOf k .table) h
 
 -- the record that the message m of kind k is, from its bytes alone
 unfoldable pub recordOf : Kind → List ℕ → Record
-recordOf k m =
-    record { kind = k; fields = fieldsOf k (fixedPart k m); parts = map (partOf m) (extents k (fixedPart k m)) }
+recordOf k m = record { kind = k; fields = fieldsOf k (fixedPart k m); parts = contentsOf k m .parts }
 
--- a message in normal form: 'in each configuration name's 1,024 bytes, those after the first zero made zero'
+-- the bytes of a part in normal form: 'in each configuration name's 1,024 bytes, those after the first zero made zero'
+abbrev pub normalPiece : List ℕ → Piece → List ℕ
+normalPiece m p = pick (same (p .part) filler) (replicate (p .place .size) 0) (bytesAt m (p .place))
+
+-- a message in normal form
 unfoldable pub normalOf : Kind → List ℕ → List ℕ
-normalOf ConfigurationName m =
-    take (2 + nameLength (fixedPart ConfigurationName m)) m ++ replicate (1024 - nameLength (fixedPart ConfigurationName m)) 0
-normalOf ConfigurationText m = m
-normalOf HeaderText m = m
-normalOf Close m = m
-normalOf Text m = m
-normalOf Acquisition m = m
-normalOf Image m = m
-normalOf Waveform m = m
+normalOf k m = joined (map (normalPiece m) (piecesOf k (fixedPart k m)))
+
+-- the message of kind k that is made of c: its fixed part, where 'a text's length and an image's 8-byte length' are worked out and a name is
+-- filled 'up with zeros'; what follows it; and both after the id
+unfoldable pub fixedOf : Kind → Contents → List ℕ
+fixedOf k c = segmentsBytes c (formOf k .fixedSegments)
+
+unfoldable pub bodyOf : Kind → Contents → List ℕ
+bodyOf k c = segmentsBytes c (formOf k .bodySegments [])
+
+unfoldable pub contentOf : Kind → Contents → List ℕ
+contentOf k c = fixedOf k c ++ bodyOf k c
+
+unfoldable pub messageOf : Kind → Contents → List ℕ
+messageOf k c = toBytes 2 (idOf k) ++ contentOf k c
+
+-- the record of what a message is made of
+unfoldable pub contentsRecord : Kind → Contents → Record
+contentsRecord k c = record { kind = k; fields = fieldsOf k (c .header); parts = c .parts }
+
+-- the bytes that a record is written as: its header's fields one after the other, and its parts
+unfoldable pub bytesOf : Record → List ℕ
+bytesOf r =
+    messageOf (r .kind) (record { header = written (widths (formOf (r .kind) .table)) (r .fields); parts = r .parts })
 
 -- 'scan counter (u32; 0 where the kind has none)', of a fixed part h
 unfoldable pub counterOf : Kind → List ℕ → ℕ
-counterOf ConfigurationName h = 0
-counterOf ConfigurationText h = 0
-counterOf HeaderText h = 0
-counterOf Close h = 0
-counterOf Text h = 0
-counterOf Acquisition h = acquisition.get acquisition.scan-counter h
-counterOf Image h = 0
-counterOf Waveform h = waveform.get waveform.scan-counter h
+counterOf k h = formOf k .counter h
+
+-- 'measurement uid', 0 where the kind has none
+unfoldable pub uidOf : Kind → List ℕ → ℕ
+uidOf k h = formOf k .uid h

@@ -9,7 +9,8 @@ use borrow.Author.Tests.{eqb-true}
 use lib.Dec.{eqb}
 use Rattle.mrd_format.specs.declared.kind.Kind.{Kind}
 use Rattle.mrd_format.specs.declared.kind.Identified.the-variants.{Known, Unknown}
-use Rattle.mrd_format.specs.Kinds.{idOf, kinds, pick, lookup, identified}
+use Rattle.mrd_logic.specs.Choice.{pick}
+use Rattle.mrd_format.specs.Kinds.{idOf, kinds, lookup, identified}
 
 known-not-unknown : {k : Kind} → Unknown ≡ Known k → ⊥
 known-not-unknown e = let z : _≡_ {A = ℕ} 0 1 = cc in omega arith

@@ -8,6 +8,8 @@ use lib.ListN.{getD}
 use Rattle.mrd_numbers.specs.Little.{num}
 use Rattle.mrd_format.specs.Elements.{Run, one, many, element, u16, u32, u64, i32, f32}
 use Rattle.mrd_logic.specs.Checks.{Check, _when_}
+use Rattle.mrd_format.specs.Parts.{attributes, pixels}
+use Rattle.mrd_format.specs.Segments.{Segment, fixed, counted, sized, total, Form}
 
 pub data Field : Type 0 where
   version data-type flags measurement-uid matrix-size field-of-view channels : Field
@@ -92,10 +94,26 @@ unfoldable pub pixelsSize : List ℕ → ℕ
 pixelsSize h = pixelCount h * elementSize (get data-type h)
 
 -- what follows the fixed part: 'A bytes, then pixels'
+abbrev pub body : List ℕ → List Segment
+body h = sized attributes (attributeLength h) ∷ sized pixels (pixelsSize h) ∷ []
+
 unfoldable pub bodySize : List ℕ → ℕ
-bodySize h = attributeLength h + pixelsSize h
+bodySize h = total (body h)
 
 -- 'four sizes, type and attribute length for an image'
 unfoldable pub numbers : List ℕ → List ℕ
 numbers h =
     getAt matrix-size 0 h ∷ getAt matrix-size 1 h ∷ getAt matrix-size 2 h ∷ get channels h ∷ get data-type h ∷ attributeLength h ∷ []
+
+-- '198 + 8, a u64 attribute length A'
+abbrev pub form : Form
+form =
+    record {
+      table = table;
+      fixedSegments = fixed 198 ∷ counted 8 attributes ∷ [];
+      bodySegments = body;
+      checks = checks;
+      numbers = numbers;
+      counter = λ h. 0;
+      uid = get measurement-uid;
+    }

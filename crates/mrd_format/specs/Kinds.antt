@@ -1,9 +1,15 @@
 -- 'Message kinds': the eight rows of the paper's table, each kind with its number and the size of its fixed part.
 -- Assumes nothing.
 use Prim.Native.Nat.{ℕ}
-use mathlib.Core.Bool.{Bool, true, false}
 use mathlib.Core.List.{List, [], _∷_}
 use lib.Dec.{eqb}
+use Rattle.mrd_logic.specs.Choice.{pick}
+use Rattle.mrd_format.specs.Parts.{header}
+use Rattle.mrd_format.specs.Segments.{total, reachFrom, reachSize, Form}
+use Rattle.mrd_format.specs.Texts.{nameForm, textForm, closeForm}
+use Rattle.mrd_format.specs.Acquisition as acquisition
+use Rattle.mrd_format.specs.Image as image
+use Rattle.mrd_format.specs.Waveform as waveform
 use Rattle.mrd_format.specs.declared.kind.Kind.{Kind}
 use Rattle.mrd_format.specs.declared.kind.Kind.the-variants.{ConfigurationName, ConfigurationText, HeaderText, Close, Text, Acquisition, Image, Waveform}
 use Rattle.mrd_format.specs.declared.kind.Identified.{Identified}
@@ -20,24 +26,28 @@ idOf Acquisition = 1008
 idOf Image = 1022
 idOf Waveform = 1026
 
+-- what follows the id
+abbrev pub formOf : Kind → Form
+formOf ConfigurationName = nameForm
+formOf ConfigurationText = textForm
+formOf HeaderText = textForm
+formOf Close = closeForm
+formOf Text = textForm
+formOf Acquisition = acquisition.form
+formOf Image = image.form
+formOf Waveform = waveform.form
+
 -- 'fixed part', which excludes the 2-byte id
 abbrev pub fixedSize : Kind → ℕ
-fixedSize ConfigurationName = 1024
-fixedSize ConfigurationText = 4
-fixedSize HeaderText = 4
-fixedSize Close = 0
-fixedSize Text = 4
-fixedSize Acquisition = 340
-fixedSize Image = 206
-fixedSize Waveform = 32
+fixedSize k = total (formOf k .fixedSegments)
+
+-- 'the fixed header's bytes (340, 198 or 32; none for other kinds)'
+abbrev pub headerSize : Kind → ℕ
+headerSize k = reachSize (reachFrom header [] 2 (formOf k .fixedSegments))
 
 -- the rows, in the paper's order
 abbrev pub kinds : List Kind
 kinds = ConfigurationName ∷ ConfigurationText ∷ HeaderText ∷ Close ∷ Text ∷ Acquisition ∷ Image ∷ Waveform ∷ []
-
-abbrev pub pick : Bool → Identified → Identified → Identified
-pick true a b = a
-pick false a b = b
 
 -- the row of a table with this id
 abbrev pub lookup : List Kind → ℕ → Identified

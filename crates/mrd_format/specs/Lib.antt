@@ -1,5 +1,8 @@
-pub mod Kinds
 pub mod Elements
+pub mod Parts
+pub mod Segments
+pub mod Texts
+pub mod Kinds
 pub mod Acquisition
 pub mod Image
 pub mod Waveform
@@ -12,7 +15,10 @@ pub mod Sizes
 pub mod SizeLaws
 pub mod Shapes
 pub mod Content
+pub mod PieceLaws
+pub mod ReachLaws
 pub mod NormalLaws
+pub mod HeaderLaws
+pub mod Rewritten
 pub mod IdLaws
-pub mod Flags
-pub mod Counters
+pub mod IdentityLaws

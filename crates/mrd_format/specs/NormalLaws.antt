@@ -3,9 +3,9 @@
 use Prim.Native.Nat.{ℕ, suc, _+_, _-_, _≤_, _<_}
 use native.Mathlib.Nat.{le-of-eq}
 use native.Mathlib.Omega.{arith}
-use mathlib.Core.Path.{_≡_, refl, sym, ap, _∙_}
+use mathlib.Core.Path.{_≡_, refl, sym, ap, ap₂, _∙_}
 use mathlib.Core.Bool.{Bool, true, false}
-use mathlib.Core.List.{List, [], _∷_, _++_, append-assoc}
+use mathlib.Core.List.{List, [], _∷_, _++_, append-nil}
 use borrow.Author.Tests.{eq-eqb, leb-false}
 use lib.Dec.{eqb}
 use lib.ListN.{length, take, drop, replicate, length-append, length-drop, length-replicate, take-append-drop}
@@ -17,7 +17,10 @@ use Rattle.mrd_logic.specs.Checks.{first}
 use Rattle.mrd_logic.specs.CheckLaws.{first-passed}
 use Rattle.mrd_format.specs.Message.{idAt, fixedPart, nameLength, ownChecks, bodySize, sizeOf, WellFormed}
 use Rattle.mrd_format.specs.MessageLaws.{id-append}
-use Rattle.mrd_format.specs.Content.{extents, fieldsOf, recordOf, normalOf}
+use Rattle.mrd_format.specs.Segments.{total}
+use Rattle.mrd_format.specs.Kinds.{formOf}
+use Rattle.mrd_format.specs.Content.{segmentsOf, extentOf, contentsOf, fieldsOf, recordOf, normalOf}
+use Rattle.mrd_format.specs.PieceLaws.{allPlain, segments-joined, total-append}
 
 -- a byte is found where it is put after what stood before it
 index-put : (b : ℕ) (h rest : List ℕ) → indexOf b (take (indexOf b h) h ++ (b ∷ rest)) ≡ indexOf b h
@@ -88,8 +91,7 @@ module _ (m : List ℕ) (whole : length m ≡ 1026) (short : nameLength (nameByt
   unfolding normalOf fixedPart
   name-normal =
       let n = nameLength (take 1024 (drop 2 m)) in
-      let within : n ≤ 1024 = omega arith in
-      rw (take-add 2 n m, take-take n 1024 (drop 2 m)) (append-assoc (take 2 m) (take n (drop 2 m)) (replicate (1024 - n) 0))
+      rw (take-take n 1024 (drop 2 m) (omega arith), append-nil)
 
   name-fixed : nameBytes (normalOf ConfigurationName m) ≡ filled (nameBytes m)
   unfolding fixedPart
@@ -116,36 +118,55 @@ module _ (m : List ℕ) (whole : length m ≡ 1026) (short : nameLength (nameByt
       rw (name-length, name-normal, drop-at (take 2 m) (filled (nameBytes m)) 2 two)
       (take-filled (nameBytes m) name-long short ∙ take-take n 1024 (drop 2 m) (omega arith))
 
-  name-own : normalOf ConfigurationName (normalOf ConfigurationName m) ≡ normalOf ConfigurationName m
-  unfolding normalOf
-  name-own =
-      let n = nameLength (nameBytes m) in
-      let here : length (take (2 + n) m) ≡ 2 + n = length-take-le (2 + n) m (omega arith) in
-      rw name-length (ap (λ (l : List ℕ). l ++ replicate (1024 - n) 0) (take-at (take (2 + n) m) (replicate (1024 - n) 0) (2 + n) here))
+  pub name-size : length (normalOf ConfigurationName m) ≡ 1026
+  name-size = rw (name-normal, length-append (take 2 m)) (omega (arith, two, length-filled (nameBytes m) name-long short))
 
-  name-normalised : Normalised ConfigurationName m
-  unfolding ownChecks sizeOf bodySize recordOf fieldsOf extents
-  name-normalised =
-      record {
-        long = rw (name-normal, length-append (take 2 m)) (omega (arith, two, length-filled (nameBytes m) name-long short));
-        id = name-id;
-        checks = rw name-length;
-        size = refl;
-        same = rw name-part;
-        own = name-own;
-      }
+  pub name-front : take 2 (normalOf ConfigurationName m) ≡ take 2 m
+  name-front = rw name-normal (take-at (take 2 m) (filled (nameBytes m)) 2 two)
+
+  filled-twice : filled (filled (nameBytes m)) ≡ filled (nameBytes m)
+  filled-twice = rw (name-filled (nameBytes m) name-long short, take-filled (nameBytes m) name-long short)
+
+-- its normal form is its own
+name-own : (m : List ℕ) → length m ≡ 1026 → nameLength (nameBytes m) < 1024 →
+    normalOf ConfigurationName (normalOf ConfigurationName m) ≡ normalOf ConfigurationName m
+name-own m whole short =
+    name-normal (normalOf ConfigurationName m) (name-size m whole short) (rw (name-length m whole short) short) ∙
+    ap₂ (λ (a b : List ℕ). a ++ b) (name-front m whole short) (ap filled (name-fixed m whole short) ∙ filled-twice m whole short) ∙
+    sym (name-normal m whole short)
+
+name-normalised : (m : List ℕ) → length m ≡ 1026 → nameLength (nameBytes m) < 1024 → Normalised ConfigurationName m
+unfolding ownChecks sizeOf bodySize recordOf fieldsOf contentsOf extentOf
+name-normalised m whole short =
+    record {
+      long = name-size m whole short ∙ sym whole;
+      id = name-id m whole short;
+      checks = rw (name-length m whole short);
+      size = refl;
+      same = rw (name-part m whole short);
+      own = name-own m whole short;
+    }
+
+-- a message of its kind's size whose parts are all kept is its normal form
+kept : (k : Kind) (m : List ℕ) → allPlain (segmentsOf k (fixedPart k m)) ≡ true → sizeOf k (fixedPart k m) ≡ length m → normalOf k m ≡ m
+unfolding normalOf sizeOf bodySize
+kept k m p whole =
+    let h = fixedPart k m in
+    let size = total-append (formOf k .fixedSegments) (formOf k .bodySegments h) in
+    rw (segments-joined m h 2 (segmentsOf k h) p, take-all (total (segmentsOf k h)) (drop 2 m) (simp length-drop (omega (arith, size, whole))))
+    (take-append-drop 2 m)
 
 -- this holds of the normal form of every message of kind k that passes its own checks and has its size
 normalised : (k : Kind) (m : List ℕ) → first (ownChecks k (fixedPart k m)) ≡ 0 → sizeOf k (fixedPart k m) ≡ length m → Normalised k m
-unfolding normalOf sizeOf bodySize
+unfolding sizeOf bodySize
 normalised ConfigurationName m sound whole = name-normalised m (sym whole) (name-short m sound)
-normalised ConfigurationText m sound whole = unchanged ConfigurationText m refl
-normalised HeaderText m sound whole = unchanged HeaderText m refl
-normalised Close m sound whole = unchanged Close m refl
-normalised Text m sound whole = unchanged Text m refl
-normalised Acquisition m sound whole = unchanged Acquisition m refl
-normalised Image m sound whole = unchanged Image m refl
-normalised Waveform m sound whole = unchanged Waveform m refl
+normalised ConfigurationText m sound whole = unchanged ConfigurationText m (kept ConfigurationText m refl whole)
+normalised HeaderText m sound whole = unchanged HeaderText m (kept HeaderText m refl whole)
+normalised Close m sound whole = unchanged Close m (kept Close m refl whole)
+normalised Text m sound whole = unchanged Text m (kept Text m refl whole)
+normalised Acquisition m sound whole = unchanged Acquisition m (kept Acquisition m refl whole)
+normalised Image m sound whole = unchanged Image m (kept Image m refl whole)
+normalised Waveform m sound whole = unchanged Waveform m (kept Waveform m refl whole)
 
 -- this holds of every well-formed message's normal form
 pub well-normalised : (m : List ℕ) (w : WellFormed m) → Normalised (w .kind) m

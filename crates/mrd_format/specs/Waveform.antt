@@ -6,6 +6,8 @@ use mathlib.Core.List.{List, [], _∷_, map}
 use lib.Dec.{eqb}
 use Rattle.mrd_format.specs.Elements.{Run, one, element, u16, u32, u64, f32}
 use Rattle.mrd_logic.specs.Checks.{Check, _when_}
+use Rattle.mrd_format.specs.Parts.{waveform}
+use Rattle.mrd_format.specs.Segments.{Segment, fixed, sized, Form}
 
 pub data Field : Type 0 where
   version flags measurement-uid scan-counter time-stamp number-of-samples channels sample-time-us waveform-id : Field
@@ -42,6 +44,21 @@ checks h = (4 when not (eqb (get version h) 1)) ∷ []
 unfoldable pub bodySize : List ℕ → ℕ
 bodySize h = get channels h * get number-of-samples h * 4
 
+abbrev pub body : List ℕ → List Segment
+body h = sized waveform (bodySize h) ∷ []
+
 -- 'samples and channels for a waveform'
 unfoldable pub numbers : List ℕ → List ℕ
 numbers h = get number-of-samples h ∷ get channels h ∷ []
+
+abbrev pub form : Form
+form =
+    record {
+      table = table;
+      fixedSegments = fixed 32 ∷ [];
+      bodySegments = body;
+      checks = checks;
+      numbers = numbers;
+      counter = get scan-counter;
+      uid = get measurement-uid;
+    }

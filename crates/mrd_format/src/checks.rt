@@ -8,7 +8,7 @@ use crate::refusal;
 
 // The number of the first check that refuses, or 0: 4 where the version is not 1, then the second and the
 // third number, each where its test says so.
-pub(crate) fn first_fault(version: u16, second: u8, then: bool, third: u8, last: bool) -> u8
+pub fn first_fault(version: u16, second: u8, then: bool, third: u8, last: bool) -> u8
     ensures { λ r. ⌜ r ≡ first ((4 when not (eqb version 1)) ∷ (second when then) ∷ (third when last) ∷ []) ⌝ }
 {
     if version != 1 {

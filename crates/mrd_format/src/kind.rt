@@ -1,6 +1,7 @@
 // The eight kinds of message, with their ids and the sizes of their fixed parts.
 ghost use mathlib.Core.Path.{_≡_};
 ghost use Rattle.mrd_format.specs.Kinds.{idOf, fixedSize, identified};
+ghost use Rattle.mrd_format.specs.Kinds.{headerSize};
 
 pub enum Kind {
     ConfigurationName,
@@ -49,6 +50,9 @@ impl Kind {
 
     pub const WAVEFORM_FIXED: usize = 32;
 
+    // An image's header alone, without the 8-byte length that is in its fixed part.
+    pub const IMAGE_HEADER: usize = 198;
+
     // The kind with this id.
     pub fn of_id(id: u16) -> Identified
         ensures { λ r. ⌜ r ≡ identified id ⌝ }
@@ -94,6 +98,22 @@ impl Kind {
             Kind::Text => Kind::TEXT_FIXED,
             Kind::Acquisition => Kind::ACQUISITION_FIXED,
             Kind::Image => Kind::IMAGE_FIXED,
+            Kind::Waveform => Kind::WAVEFORM_FIXED,
+        }
+    }
+
+    // The size of the kind's header, without an image's 8-byte length; 0 where the kind has none.
+    pub fn header_size(self) -> usize
+        ensures { λ r. ⌜ r ≡ headerSize self ⌝ }
+    {
+        match self {
+            Kind::ConfigurationName => 0,
+            Kind::ConfigurationText => 0,
+            Kind::HeaderText => 0,
+            Kind::Close => 0,
+            Kind::Text => 0,
+            Kind::Acquisition => Kind::ACQUISITION_FIXED,
+            Kind::Image => Kind::IMAGE_HEADER,
             Kind::Waveform => Kind::WAVEFORM_FIXED,
         }
     }

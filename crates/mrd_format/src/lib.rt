@@ -1,17 +1,13 @@
-// The format of one message: the eight kinds, the header tables, the checks of a message's own bytes,
-// its size and its numbers.
+// The format of one message: the eight kinds, the numbers of refusal, the shape of a message, and sizes
+// that cannot wrap. The header tables, the checks and the rest of the format's definitions stand in
+// specs/.
 //
-// The functions on a fixed part ask that it has its kind's length; the callers, all proved, lend it so.
 // Assumes nothing.
-pub mod acquisition;
-mod checks;
-pub mod image;
+pub mod checks;
 mod kind;
-pub mod message;
 pub mod refusal;
 mod shape;
 pub mod size;
-mod waveform;
 
 pub use kind::Identified;
 pub use kind::Kind;

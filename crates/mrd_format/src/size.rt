@@ -4,17 +4,21 @@ ghost use Prim.Native.Nat.{_*_, _<_, _^_};
 ghost use Rattle.mrd_format.specs.Sizes.{capped};
 
 // The largest message, in bytes.
-pub const LIMIT: u64 = 268435456;
+pub const MAX_MESSAGE_SIZE: u64 = 268435456;
 
 // n, or one more than the limit where n is above it.
-pub(crate) fn cap(n: u64) -> u64
+pub fn cap(n: u64) -> u64
     ensures { λ r. ⌜ r ≡ capped n ⌝ }
 {
-    if LIMIT < n { LIMIT + 1 } else { n }
+    if MAX_MESSAGE_SIZE < n {
+        MAX_MESSAGE_SIZE + 1
+    } else {
+        n
+    }
 }
 
 // The whole product of two numbers of a header.
-pub(crate) fn product(a: u16, b: u16) -> u64
+pub fn product(a: u16, b: u16) -> u64
     ensures { λ r. ⌜ (r ≡ a * b) × (r < 2 ^ 32) ⌝ }
 {
     (a as u64) * (b as u64)

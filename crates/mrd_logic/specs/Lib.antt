@@ -1,5 +1,6 @@
 pub mod Every
 pub mod Choice
+pub mod Joined
 pub mod Checks
 pub mod CheckLaws
 pub mod Answer

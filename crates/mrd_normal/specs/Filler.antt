@@ -17,7 +17,7 @@ use Rattle.mrd_format.specs.Message.{fixedPart, nameLength, ownChecks, bodySize
 use Rattle.mrd_format.specs.Content.{normalOf}
 use Rattle.mrd_format.specs.NormalLaws.{nameBytes, name-short}
 use Rattle.mrd_stream.specs.declared.answer.Record.{Record}
-use Rattle.mrd_stream.specs.declared.cursor.Cursor.{Cursor}
+use Rattle.mrd_cursor.specs.declared.cursor.Cursor.{Cursor}
 use Rattle.mrd_stream.specs.Places.{Located, located}
 use Rattle.mrd_stream.specs.StepLaws.{Passes}
 use Rattle.mrd_stream.specs.Told.{toldRecord}

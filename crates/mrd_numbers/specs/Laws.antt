@@ -15,19 +15,20 @@ pub num-drop : (w p : ℕ) (s : List ℕ) (i : ℕ) → num w (drop p s) i ≡ n
 unfolding num
 num-drop w p s i = rw drop-drop
 
--- a number that lies in a prefix is the whole's
+-- bytes that lie in a prefix are the whole's
+pub part-take : (w n : ℕ) (s : List ℕ) (i : ℕ) → i + w ≤ n → take w (drop i (take n s)) ≡ take w (drop i s)
+part-take w n s zero h = take-take w n s (omega arith)
+part-take w zero s (suc i) h = absurd (not-all w i h)
+  where
+    not-all : (w i : ℕ) → suc i + w ≤ 0 → ⊥
+    not-all w i h = omega arith
+part-take w (suc n) [] (suc i) h = refl
+part-take w (suc n) (x ∷ s) (suc i) h = part-take w n s i (omega arith)
+
+-- and so are numbers
 pub num-take : (w n : ℕ) (s : List ℕ) (i : ℕ) → i + w ≤ n → num w (take n s) i ≡ num w s i
 unfolding num
-num-take w n s i h = ap fromBytes (inner w n s i h)
-  where
-    inner : (w n : ℕ) (s : List ℕ) (i : ℕ) → i + w ≤ n → take w (drop i (take n s)) ≡ take w (drop i s)
-    inner w n s zero h = take-take w n s (omega arith)
-    inner w zero s (suc i) h = absurd (not-all w i h)
-      where
-        not-all : (w i : ℕ) → suc i + w ≤ 0 → ⊥
-        not-all w i h = omega arith
-    inner w (suc n) [] (suc i) h = refl
-    inner w (suc n) (x ∷ s) (suc i) h = inner w n s i (omega arith)
+num-take w n s i h = ap fromBytes (part-take w n s i h)
 
 -- what follows a number does not matter to it
 pub num-append : (w : ℕ) (a b : List ℕ) (i : ℕ) → i + w ≤ length a → num w (a ++ b) i ≡ num w a i

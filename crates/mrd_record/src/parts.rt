@@ -4,9 +4,6 @@ ghost use Prim.Native.Nat.{_≤_};
 ghost use Rattle.mrd_record.specs.Parts.{extentOf, toldSought, reached, Sized};
 ghost use lib.ListN.{length};
 use mrd_format::Kind;
-use mrd_format::acquisition;
-use mrd_format::image;
-use mrd_format::message;
 
 pub enum Part {
     Name,
@@ -61,7 +58,7 @@ fn name(kind: Kind, h: &[u8], size: usize) -> Sought
     ensures { λ r. ⌜ toldSought r ≡ extentOf Part.Name kind (now (h .entry)) ⌝ }
 {
     match kind.id() {
-        Kind::CONFIGURATION_NAME => lies(2, message::name_length(h)),
+        Kind::CONFIGURATION_NAME => lies(2, mrd_message::name_length(h)),
         _ => Sought::Lacks,
     }
 }
@@ -71,9 +68,9 @@ fn text(kind: Kind, h: &[u8], size: usize) -> Sought
     ensures { λ r. ⌜ toldSought r ≡ extentOf Part.Text kind (now (h .entry)) ⌝ }
 {
     match kind.id() {
-        Kind::CONFIGURATION_TEXT => lies(6, message::text_length(h)),
-        Kind::HEADER_TEXT => lies(6, message::text_length(h)),
-        Kind::TEXT => lies(6, message::text_length(h)),
+        Kind::CONFIGURATION_TEXT => lies(6, mrd_message::text_length(h)),
+        Kind::HEADER_TEXT => lies(6, mrd_message::text_length(h)),
+        Kind::TEXT => lies(6, mrd_message::text_length(h)),
         _ => Sought::Lacks,
     }
 }
@@ -83,7 +80,7 @@ fn attributes(kind: Kind, h: &[u8], size: usize) -> Sought
     ensures { λ r. ⌜ toldSought r ≡ extentOf Part.Attributes kind (now (h .entry)) ⌝ }
 {
     match kind.id() {
-        Kind::IMAGE => lies(208, image::attribute_length(h) as usize),
+        Kind::IMAGE => lies(208, mrd_image::attribute_length(h) as usize),
         _ => Sought::Lacks,
     }
 }
@@ -93,7 +90,7 @@ fn trajectory(kind: Kind, h: &[u8], size: usize) -> Sought
     ensures { λ r. ⌜ toldSought r ≡ extentOf Part.Trajectory kind (now (h .entry)) ⌝ }
 {
     match kind.id() {
-        Kind::ACQUISITION => lies(342, acquisition::trajectory_size(h)),
+        Kind::ACQUISITION => lies(342, mrd_acquisition::trajectory_size(h)),
         _ => Sought::Lacks,
     }
 }
@@ -113,11 +110,14 @@ fn acquisition_channel(h: &[u8], c: usize) -> Sought
     requires { ⌜ length (now h) ≡ 340 ⌝ }
     ensures { λ r. ⌜ toldSought r ≡ extentOf (Part.Channel c) Kind.Acquisition (now (h .entry)) ⌝ }
 {
-    if acquisition::active_channels(h) <= c {
+    if mrd_acquisition::active_channels(h) <= c {
         return Sought::Lacks;
     }
-    let samples = acquisition::channel_size(h);
-    lies(342 + acquisition::trajectory_size(h) + c * samples, samples)
+    let samples = mrd_acquisition::channel_size(h);
+    lies(
+        342 + mrd_acquisition::trajectory_size(h) + c * samples,
+        samples,
+    )
 }
 
 // The pixels are what is left of an image after its attributes.
@@ -127,7 +127,7 @@ fn pixels(kind: Kind, h: &[u8], size: usize) -> Sought
 {
     match kind.id() {
         Kind::IMAGE => {
-            let offset = 208 + image::attribute_length(h) as usize;
+            let offset = 208 + mrd_image::attribute_length(h) as usize;
             lies(offset, size - offset)
         }
         _ => Sought::Lacks,

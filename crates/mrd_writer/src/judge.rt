@@ -10,11 +10,10 @@ ghost use Rattle.mrd_writer.specs.Refusals.{toldJudged, judged, headed};
 ghost use Rattle.mrd_writer.specs.JudgeLaws.{sized, bodied};
 use crate::answer::Judged;
 use crate::lengths::Lengths;
+use mrd_acquisition::trajectory_size;
 use mrd_format::Kind;
-use mrd_format::acquisition::trajectory_size;
-use mrd_format::message;
 use mrd_format::refusal;
-use mrd_format::size::LIMIT;
+use mrd_format::size::MAX_MESSAGE_SIZE;
 use mrd_numbers::put_u64;
 
 const IMAGE_HEADER: usize = 198;
@@ -24,7 +23,7 @@ pub(crate) fn judge(kind: Kind, header: &[u8], name: &[u8], lent: Lengths) -> Ju
     ensures { λ r. ⌜ toldJudged r ≡ judged kind (now (header .entry)) (now (name .entry)) lent ⌝ }
 {
     if header.len() != header_size(kind) {
-        return Judged::Refused(refusal::FIXED_PART);
+        return Judged::Refused(refusal::FIXED_PART_CUT);
     }
     match kind {
         Kind::ConfigurationName => judge_name(name, lent),
@@ -75,8 +74,8 @@ fn judge_text(lent: Lengths) -> Judged
 {
     let head = 2 + Kind::TEXT_FIXED;
     let text = lent.text;
-    if LIMIT - (head as u64) < text as u64 {
-        return Judged::Refused(refusal::MESSAGE_LIMIT);
+    if MAX_MESSAGE_SIZE - (head as u64) < text as u64 {
+        return Judged::Refused(refusal::TOO_LARGE);
     }
     let mut due = Lengths::none();
     due.text = text;
@@ -160,13 +159,13 @@ fn checked_size(kind: Kind, h: &[u8]) -> Judged
     requires { ⌜ length (now h) ≡ fixedSize kind ⌝ }
     ensures { λ r. ⌜ toldJudged r ≡ sized kind (now (h .entry)) ⌝ }
 {
-    let fault = message::fault(kind, h);
+    let fault = mrd_message::fault(kind, h);
     if fault != 0 {
         return Judged::Refused(fault);
     }
-    let size = message::size(kind, h);
-    if LIMIT < size as u64 {
-        return Judged::Refused(refusal::MESSAGE_LIMIT);
+    let size = mrd_message::size(kind, h);
+    if MAX_MESSAGE_SIZE < size as u64 {
+        return Judged::Refused(refusal::TOO_LARGE);
     }
     Judged::Size(size)
 }
@@ -178,6 +177,6 @@ fn judge_bodies(size: usize, lent: Lengths, due: Lengths) -> Judged
     if lent.same(due) {
         Judged::Size(size)
     } else {
-        Judged::Refused(refusal::BODY)
+        Judged::Refused(refusal::BODY_LENGTH)
     }
 }

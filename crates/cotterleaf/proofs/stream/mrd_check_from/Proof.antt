@@ -2,8 +2,7 @@
 -- Assumes nothing.
 use mathlib.Core.Path.{ap, _∙_}
 use denote.Ref.{now}
-use Rattle.mrd_stream.specs.StepLaws.{from}
-use Rattle.mrd_stream.specs.Walk.{verdict}
+use Rattle.mrd_stream.specs.Walk.{from, verdict}
 use Rattle.c_walk.specs.WalkStructs.{cChecked}
 use borrow.Author.Needs.{needs}
 use Rattle.cotterleaf.proofs.stream.mrd_check_from.Statement.{statement}

@@ -1,7 +1,7 @@
 -- `c_record::FieldAnswer::value` meets its contract: it goes by the value's case.
 -- Assumes nothing.
 use mathlib.Core.Path.{sym, ap, _∙_}
-use Rattle.mrd_field.specs.Told.{told}
+use Rattle.mrd_element.specs.Told.{told}
 use Rattle.c_record.specs.RecordStructs.{cValue}
 use mir.Syntax.{w32}
 use mir.ValLaws.{toZ-ofZ}

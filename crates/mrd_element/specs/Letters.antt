@@ -1,0 +1,14 @@
+-- The letters that the source has in place of a header's table, one for each byte: what starts there.
+-- Assumes nothing.
+use Prim.Native.Nat.{ℕ}
+use Rattle.mrd_format.specs.Elements.{u16, u32, u64, i32, f32}
+use Rattle.mrd_element.specs.Field.{Start, starts, none}
+
+-- the letters H, I, Q, i and f, and the dot
+abbrev pub letterOf : Start → ℕ
+letterOf (starts u16) = 72
+letterOf (starts u32) = 73
+letterOf (starts u64) = 81
+letterOf (starts i32) = 105
+letterOf (starts f32) = 102
+letterOf none = 46

@@ -1,0 +1,6 @@
+pub mod Field
+pub mod Told
+pub mod Letters
+pub mod LetterLaws
+pub mod Floats
+pub mod FieldLaws

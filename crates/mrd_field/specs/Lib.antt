@@ -1,5 +1,0 @@
-pub mod Field
-pub mod Told
-pub mod Letters
-pub mod Floats
-pub mod FieldLaws

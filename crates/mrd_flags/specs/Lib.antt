@@ -1,0 +1,4 @@
+pub mod Flags
+pub mod BitLaws
+pub mod BitMaskLaws
+pub mod FlagLaws

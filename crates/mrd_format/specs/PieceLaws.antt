@@ -1,0 +1,114 @@
+-- The parts of a message adjoin, from its first byte to its last; joined, they are the message.
+-- Assumes nothing.
+use Prim.Native.Nat.{ℕ, zero, suc, _+_, _-_, _*_, _≤_}
+use native.Mathlib.Nat.{zero-add, add-zero, add-assoc, add-comm, zero-mul, suc-mul}
+use native.Mathlib.Omega.{arith}
+use mathlib.Core.Path.{_≡_, refl, sym, ap, ap₂, _∙_}
+use mathlib.Core.Bool.{Bool, true, false, not, _&&_}
+use mathlib.Core.List.{List, [], _∷_, _++_, map, append-nil, map-append}
+use borrow.Author.Tests.{not-true}
+use lib.ListN.{length, take, drop, length-drop, take-append-drop}
+use lib.Seq.{take-add, take-all, drop-drop}
+use Rattle.mrd_logic.specs.Every.{Every}
+use Rattle.mrd_logic.specs.Choice.{both}
+use Rattle.mrd_logic.specs.Joined.{joined, joined-append}
+use Rattle.mrd_format.specs.Parts.{Part, filler, same, Extent}
+use Rattle.mrd_format.specs.Segments.{Segment, fixed, counted, padded, sized, channels, sizeIn, total, nameLength, Piece, channelsFrom, piecesIn, piecesFrom}
+use Rattle.mrd_format.specs.Content.{normalPiece}
+
+-- the bytes of two parts, the second after the first
+pub take-next : (a b at : ℕ) (m : List ℕ) → take (a + b) (drop at m) ≡ take a (drop at m) ++ take b (drop (at + a) m)
+take-next a b at m = rw (take-add, drop-drop)
+
+-- the bytes of n parts of w bytes each are those of the first, and then those of the others
+pub take-parts : (n w at : ℕ) (m : List ℕ) → take (suc n * w) (drop at m) ≡ take w (drop at m) ++ take (n * w) (drop (at + w) m)
+take-parts n w at m = rw (suc-mul n w, add-comm (n * w) w) (take-next w (n * w) at m)
+
+pub total-append : (ss ts : List Segment) → total (ss ++ ts) ≡ total ss + total ts
+total-append [] ts = sym (zero-add (total ts))
+total-append (s ∷ []) [] = sym (add-zero (sizeIn s))
+total-append (s ∷ []) (t ∷ ts) = refl
+total-append (s ∷ (u ∷ ss)) ts = rw (total-append (u ∷ ss) ts) (sym (add-assoc (sizeIn s) (total (u ∷ ss)) (total ts)))
+
+-- whether a segment's parts are kept by the normal form
+abbrev pub plain : Segment → Bool
+plain (fixed n) = true
+plain (counted w p) = true
+plain (padded n) = false
+plain (sized p n) = not (same p filler)
+plain (channels c n) = true
+
+abbrev pub allPlain : List Segment → Bool
+allPlain [] = true
+allPlain (s ∷ ss) = plain s && allPlain ss
+
+-- the bytes of a message's channels
+pub joined-channels : (m : List ℕ) (n c at z : ℕ) → joined (map (normalPiece m) (channelsFrom n c at z)) ≡ take (n * z) (drop at m)
+joined-channels m zero c at z = rw zero-mul
+joined-channels m (suc n) c at z = rw (take-parts n z at m, joined-channels m n (suc c) (at + z) z)
+
+module _ (m h : List ℕ) where
+  segment-joined : (at : ℕ) (s : Segment) → plain s ≡ true → joined (map (normalPiece m) (piecesIn h at s)) ≡ take (sizeIn s) (drop at m)
+  segment-joined at (fixed n) e = append-nil (take n (drop at m))
+  segment-joined at (counted w p) e = append-nil (take w (drop at m))
+  segment-joined at (sized p n) e = rw (not-true (same p filler) e) (append-nil (take n (drop at m)))
+  segment-joined at (channels c n) e = joined-channels m c 0 at n
+  segment-joined at (padded n) e = absurd (let z : _≡_ {A = ℕ} 0 1 = cc in omega arith)
+
+  -- the parts of such segments, joined, are the bytes that the segments take
+  pub segments-joined : (at : ℕ) (ss : List Segment) → allPlain ss ≡ true →
+      joined (map (normalPiece m) (piecesFrom h at ss)) ≡ take (total ss) (drop at m)
+  segments-joined at [] e = refl
+  segments-joined at (s ∷ []) e = segment-joined at s (both (plain s) true e .0)
+  segments-joined at (s ∷ (t ∷ ss)) e =
+      let p = both (plain s) (allPlain (t ∷ ss)) e in
+      rw (
+        map-append,
+        joined-append,
+        segment-joined at s (p .0),
+        segments-joined (at + sizeIn s) (t ∷ ss) (p .1),
+      ) (sym (take-next (sizeIn s) (total (t ∷ ss)) at m))
+
+-- extents that adjoin from a to b
+abbrev pub Adjoins : ℕ → ℕ → List Extent → Type 0
+Adjoins a b [] = a ≡ b
+Adjoins a b (e ∷ es) = (e .offset ≡ a) × Adjoins (a + e .size) b es
+
+adjoins-append : (a b c : ℕ) (ds es : List Extent) → Adjoins a b ds → Adjoins b c es → Adjoins a c (ds ++ es)
+adjoins-append a b c [] es p q = rw p q
+adjoins-append a b c (d ∷ ds) es p q = (p .0, adjoins-append (a + d .size) b c ds es (p .1) q)
+
+-- a name is within the bytes that it is filled up to
+abbrev pub Fits : List ℕ → Segment → Type 0
+Fits h (fixed n) = Unit {0}
+Fits h (counted w p) = Unit {0}
+Fits h (padded n) = nameLength h ≤ n
+Fits h (sized p n) = Unit {0}
+Fits h (channels c n) = Unit {0}
+
+abbrev pub placesOf : List Piece → List Extent
+placesOf ps = map (λ (p : Piece). p .place) ps
+
+channels-adjoin : (n c at z : ℕ) → Adjoins at (at + n * z) (placesOf (channelsFrom n c at z))
+channels-adjoin zero c at z = rw zero-mul (sym (add-zero at))
+channels-adjoin (suc n) c at z =
+    let end : at + suc n * z ≡ at + z + n * z = omega (arith, suc-mul n z) in
+    (refl, rw end (channels-adjoin n (suc c) (at + z) z))
+
+module _ (h : List ℕ) where
+  segment-adjoins : (at : ℕ) (s : Segment) → Fits h s → Adjoins at (at + sizeIn s) (placesOf (piecesIn h at s))
+  segment-adjoins at (fixed n) f = (refl, refl)
+  segment-adjoins at (counted w p) f = (refl, refl)
+  segment-adjoins at (padded n) f = (refl, (refl, omega arith))
+  segment-adjoins at (sized p n) f = (refl, refl)
+  segment-adjoins at (channels c n) f = channels-adjoin c 0 at n
+
+  -- the parts of segments adjoin, from the first byte to the last
+  pub segments-adjoin : (at : ℕ) (ss : List Segment) → Every (Fits h) ss → Adjoins at (at + total ss) (placesOf (piecesFrom h at ss))
+  segments-adjoin at [] f = sym (add-zero at)
+  segments-adjoin at (s ∷ []) f = segment-adjoins at s (f .0)
+  segments-adjoin at (s ∷ (t ∷ ss)) f =
+      let end : at + (sizeIn s + total (t ∷ ss)) ≡ at + sizeIn s + total (t ∷ ss) = sym (add-assoc at (sizeIn s) (total (t ∷ ss))) in
+      rw (map-append, end)
+      (adjoins-append at (at + sizeIn s) (at + sizeIn s + total (t ∷ ss)) (placesOf (piecesIn h at s)) _
+      (segment-adjoins at s (f .0)) (segments-adjoin (at + sizeIn s) (t ∷ ss) (f .1)))

@@ -1,4 +1,0 @@
-pub mod Bits
-pub mod Masks
-pub mod Signed
-pub mod FlagLaws

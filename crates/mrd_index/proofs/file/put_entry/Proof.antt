@@ -1,92 +1,67 @@
--- `mrd_index::file::put_entry` meets its contract: each field is written into the part that starts at its place.
+-- `mrd_index::file::put_entry` meets its contract: there is room, and the fields are stored one after the other.
 -- Assumes nothing.
+use Prim.Native.Nat.{_+_}
+use native.Mathlib.Omega.{arith}
+use mathlib.Core.Path.{refl}
 use borrow.Author.Needs.{needs}
 use denote.Ref.{now}
 use Rattle.mrd_numbers.specs.Little.{toBytes}
-use Rattle.mrd_index.specs.File.{tagField}
-use Rattle.mrd_index.specs.FileLaws.{four-stored}
+use Rattle.mrd_tagged.specs.Tagged.{heading}
+use Rattle.mrd_tagged.specs.TaggedLaws.{four-stored}
 use Rattle.mrd_index.proofs.file.put_entry.Statement.{statement}
 use Rattle.mrd_index.proofs.file.put_entry.Tie as tie
 
-sub-put-tag : tie.Need-sub-put-tag
-sub-put-tag c = search needs
+add-if1 : tie.Need-add-if1
+add-if1 c = search needs
 
-part-put-tag-start : tie.Need-part-put-tag-start
-part-put-tag-start c = search needs
-
-part-put-tag-end : tie.Need-part-put-tag-end
-part-put-tag-end c = search needs
+returns : tie.Need-returns
+returns c = absurd (omega (arith, c .if1 .taken, c .before .before .pre))
 
 put-tag-requires : tie.Need-put-tag-requires
 put-tag-requires c κs = search needs
 
-sub-put-u64 : tie.Need-sub-put-u64
-sub-put-u64 c = search needs
+add-put-u64-at : tie.Need-add-put-u64-at
+add-put-u64-at c = search needs
 
-part-put-u64-start : tie.Need-part-put-u64-start
-part-put-u64-start c = search needs
+put-u64-at-requires : tie.Need-put-u64-at-requires
+put-u64-at-requires c κs = search needs
 
-part-put-u64-end : tie.Need-part-put-u64-end
-part-put-u64-end c = search needs
+add-put-u16-at : tie.Need-add-put-u16-at
+add-put-u16-at c = search needs
 
-put-u64-requires : tie.Need-put-u64-requires
-put-u64-requires c κs = search needs
+put-u16-at-requires : tie.Need-put-u16-at-requires
+put-u16-at-requires c κs = search needs
 
-sub-put-u16 : tie.Need-sub-put-u16
-sub-put-u16 c = search needs
+add-put-u32-at : tie.Need-add-put-u32-at
+add-put-u32-at c = search needs
 
-part-put-u16-start : tie.Need-part-put-u16-start
-part-put-u16-start c = search needs
-
-part-put-u16-end : tie.Need-part-put-u16-end
-part-put-u16-end c = search needs
-
-put-u16-requires : tie.Need-put-u16-requires
-put-u16-requires c κs = search needs
-
-sub-put-u32 : tie.Need-sub-put-u32
-sub-put-u32 c = search needs
-
-part-put-u32-start : tie.Need-part-put-u32-start
-part-put-u32-start c = search needs
-
-part-put-u32-end : tie.Need-part-put-u32-end
-part-put-u32-end c = search needs
-
-put-u32-requires : tie.Need-put-u32-requires
-put-u32-requires c κs = search needs
+put-u32-at-requires : tie.Need-put-u32-at-requires
+put-u32-at-requires c κs = search needs
 
 same-length : tie.Need-same-length
 same-length c = search needs
 
-returns : tie.Need-returns
-returns c =
+returns-2 : tie.Need-returns-2
+returns-2 c =
     let tag = c .before .before .before .before .before .before .before .before .before .before .before .before .before .before in
-    let a = tag .before .before .before .args in
-    four-stored (now (a .out)) (tagField 3 14) (toBytes 8 (a .entry .start)) (toBytes 2 (a .entry .id)) (toBytes 4 (a .entry .counter)) _ _ _ _
-    (tag .before .before .before .pre)
-    (tag .put-tag .ensures) (c .before .before .before .before .before .before .before .before .before .before .put-u64 .ensures)
-    (c .before .before .before .before .before .before .put-u16 .ensures) (c .before .before .put-u32 .ensures)
+    let start = tag .before .before .before .before in
+    let a = start .args in
+    four-stored (now (a .out)) (heading 3 14) (toBytes 8 (a .entry .start)) (toBytes 2 (a .entry .id)) (toBytes 4 (a .entry .counter))
+    (a .at) (a .at + 3) (a .at + 11) (a .at + 13) refl (omega arith) (omega arith) (omega (arith, start .pre)) (tag .put-tag .ensures)
+    (c .before .before .before .before .before .before .before .before .before .before .put-u64-at .ensures) (c .before .before .before .before .before .before .put-u16-at .ensures) (c .before .before .put-u32-at .ensures)
 
 pub put-entry-spec : {M : Type 1} → statement M
 put-entry-spec =
     tie.close
     (tie.spec
-    sub-put-tag
-    part-put-tag-start
-    part-put-tag-end
+    add-if1
+    returns
     put-tag-requires
-    sub-put-u64
-    part-put-u64-start
-    part-put-u64-end
-    put-u64-requires
-    sub-put-u16
-    part-put-u16-start
-    part-put-u16-end
-    put-u16-requires
-    sub-put-u32
-    part-put-u32-start
-    part-put-u32-end
-    put-u32-requires
+    add-put-u64-at
+    put-u64-at-requires
+    add-put-u16-at
+    put-u16-at-requires
+    add-put-u32-at
+    put-u32-at-requires
     same-length
-    returns)
+    returns-2)

@@ -1,60 +1,26 @@
--- `mrd_index::file::put_front` meets its contract: each field is written into the part that starts at its place.
+-- `mrd_index::file::put_front` meets its contract: the fields are stored one after the other.
 -- Assumes nothing.
+use native.Mathlib.Omega.{arith}
+use mathlib.Core.Path.{refl}
 use borrow.Author.Needs.{needs}
 use denote.Ref.{now}
 use Rattle.mrd_numbers.specs.Little.{toBytes}
-use Rattle.mrd_index.specs.File.{tagField}
-use Rattle.mrd_index.specs.FileLaws.{four-stored}
+use Rattle.mrd_tagged.specs.Tagged.{heading}
+use Rattle.mrd_tagged.specs.TaggedLaws.{four-stored}
 use Rattle.mrd_index.proofs.file.put_front.Statement.{statement}
 use Rattle.mrd_index.proofs.file.put_front.Tie as tie
-
-sub-put-tag : tie.Need-sub-put-tag
-sub-put-tag c = search needs
-
-part-put-tag-start : tie.Need-part-put-tag-start
-part-put-tag-start c = search needs
-
-part-put-tag-end : tie.Need-part-put-tag-end
-part-put-tag-end c = search needs
 
 put-tag-requires : tie.Need-put-tag-requires
 put-tag-requires c κs = search needs
 
-sub-put-u16 : tie.Need-sub-put-u16
-sub-put-u16 c = search needs
-
-part-put-u16-start : tie.Need-part-put-u16-start
-part-put-u16-start c = search needs
-
-part-put-u16-end : tie.Need-part-put-u16-end
-part-put-u16-end c = search needs
-
-put-u16-requires : tie.Need-put-u16-requires
-put-u16-requires c κs = search needs
-
-sub-put-tag-2 : tie.Need-sub-put-tag-2
-sub-put-tag-2 c = search needs
-
-part-put-tag-start-2 : tie.Need-part-put-tag-start-2
-part-put-tag-start-2 c = search needs
-
-part-put-tag-end-2 : tie.Need-part-put-tag-end-2
-part-put-tag-end-2 c = search needs
+put-u16-at-requires : tie.Need-put-u16-at-requires
+put-u16-at-requires c κs = search needs
 
 put-tag-requires-2 : tie.Need-put-tag-requires-2
 put-tag-requires-2 c κs = search needs
 
-sub-put-u64 : tie.Need-sub-put-u64
-sub-put-u64 c = search needs
-
-part-put-u64-start : tie.Need-part-put-u64-start
-part-put-u64-start c = search needs
-
-part-put-u64-end : tie.Need-part-put-u64-end
-part-put-u64-end c = search needs
-
-put-u64-requires : tie.Need-put-u64-requires
-put-u64-requires c κs = search needs
+put-u64-at-requires : tie.Need-put-u64-at-requires
+put-u64-at-requires c κs = search needs
 
 same-length : tie.Need-same-length
 same-length c = search needs
@@ -62,31 +28,19 @@ same-length c = search needs
 returns : tie.Need-returns
 returns c =
     let tag = c .before .before .before .before .before .before .before .before .before .before .before .before .before .before in
-    let a = tag .before .before .before .args in
-    four-stored (now (a .out)) (tagField 1 2) (toBytes 2 1) (tagField 2 8) (toBytes 8 (a .total)) _ _ _ _
-    (tag .before .before .before .pre)
-    (tag .put-tag .ensures) (c .before .before .before .before .before .before .before .before .before .before .put-u16 .ensures)
-    (c .before .before .before .before .before .before .put-tag2 .ensures) (c .before .before .put-u64 .ensures)
+    let start = tag .before .before .before in
+    let a = start .args in
+    four-stored (now (a .out)) (heading 1 2) (toBytes 2 1) (heading 2 8) (toBytes 8 (a .total)) 0 3 5 8 refl refl refl
+    (omega (arith, start .pre)) (tag .put-tag .ensures) (c .before .before .before .before .before .before .before .before .before .before .put-u16-at .ensures)
+    (c .before .before .before .before .before .before .put-tag2 .ensures) (c .before .before .put-u64-at .ensures)
 
 pub put-front-spec : {M : Type 1} → statement M
 put-front-spec =
     tie.close
     (tie.spec
-    sub-put-tag
-    part-put-tag-start
-    part-put-tag-end
     put-tag-requires
-    sub-put-u16
-    part-put-u16-start
-    part-put-u16-end
-    put-u16-requires
-    sub-put-tag-2
-    part-put-tag-start-2
-    part-put-tag-end-2
+    put-u16-at-requires
     put-tag-requires-2
-    sub-put-u64
-    part-put-u64-start
-    part-put-u64-end
-    put-u64-requires
+    put-u64-at-requires
     same-length
     returns)

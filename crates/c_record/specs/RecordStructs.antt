@@ -2,7 +2,7 @@
 -- Assumes nothing.
 use Prim.Native.Nat.{ℕ}
 use lib.IntN.{ℤ, pos}
-use Rattle.mrd_field.specs.Field as header
+use Rattle.mrd_element.specs.Field as header
 use Rattle.mrd_find.specs.Find as find
 use Rattle.mrd_record.specs.Fields as fields
 use Rattle.mrd_record.specs.Views as views

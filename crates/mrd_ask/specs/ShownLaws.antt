@@ -3,7 +3,7 @@
 use Prim.Native.Nat.{ℕ, _-_, _≤_, _<_}
 use mathlib.Core.Path.{_≡_}
 use borrow.Author.Tests.{le-leb, lt-leb}
-use Rattle.mrd_record.specs.declared.views.Span.{Span}
+use Rattle.mrd_views.specs.declared.views.Span.{Span}
 use Rattle.mrd_ask.specs.Shown.{emptySpan, fitted}
 
 module _ (n : ℕ) (x : Span) where

@@ -49,7 +49,7 @@ fn fill(
     ensures { λ r. ⌜ now (counters .exit) ≡ outputBy (toldWritten r) (counterColumn (now (s .entry))) (now (counters .entry)) ⌝ }
 {
     if (starts.len() < count) | ((ids.len() < count) | (counters.len() < count)) {
-        return Written::Refused(refusal::OUTPUT);
+        return Written::Refused(refusal::OUTPUT_SHORT);
     }
     put_places(s, starts, ids, counters);
     Written::Length(count)

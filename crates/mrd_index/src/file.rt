@@ -54,7 +54,7 @@ fn write(s: &[u8], count: usize, out: &mut [u8]) -> Written
     let end = FRONT + ENTRY * count;
     let size = end + END;
     if out.len() < size {
-        return Written::Refused(refusal::OUTPUT);
+        return Written::Refused(refusal::OUTPUT_SHORT);
     }
     put_front(out, s.len() as u64);
     put_entries(s, out);

@@ -2,7 +2,6 @@
 -- Assumes nothing.
 use Prim.Native.Nat.{ℕ}
 use Rattle.mrd_logic.specs.Answer.{Answer, answered, stream, number}
-use Rattle.mrd_writer.specs.Refusals as writer
 use Rattle.c_written.specs.declared.written.Written.{Written}
 use Rattle.c_written.specs.declared.matched.Matched.{Matched}
 use Rattle.c_written.specs.declared.put.Put.{Put}
@@ -29,6 +28,7 @@ cMatched (number n) = matchedAs n 0 0
 abbrev pub putAs : (refusal position : ℕ) → Put
 putAs f p = record { refusal = f; position = p }
 
-abbrev pub cPut : writer.Answer → Put
-cPut (writer.done p) = putAs 0 p
-cPut (writer.refused n) = putAs n 0
+abbrev pub cPut : Answer ℕ → Put
+cPut (answered p) = putAs 0 p
+cPut (stream f r b) = putAs f 0
+cPut (number n) = putAs n 0

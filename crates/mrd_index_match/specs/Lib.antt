@@ -2,3 +2,4 @@ pub mod Compare
 pub mod CompareLaws
 pub mod Comparing
 pub mod Exactly
+pub mod Asked

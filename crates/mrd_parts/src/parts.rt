@@ -49,10 +49,8 @@ pub fn locate(kind: Kind, h: &[u8], size: usize, part: Part) -> Sought
 {
     match kind {
         Kind::ConfigurationName => in_name(h, part),
-        Kind::ConfigurationText => in_text(h, part),
-        Kind::HeaderText => in_text(h, part),
+        Kind::ConfigurationText | Kind::HeaderText | Kind::Text => in_text(h, part),
         Kind::Close => Sought::Lacks,
-        Kind::Text => in_text(h, part),
         Kind::Acquisition => in_acquisition(h, part),
         Kind::Image => in_image(h, size, part),
         Kind::Waveform => in_waveform(h, size, part),

@@ -74,7 +74,7 @@ module _ (o a b c d : List ℕ) (at i j k : ℕ) (p : i ≡ at + length a) (q : 
       two-stored o ((a ++ b) ++ c) d at k three l (omega (arith, length-append a b, length-append (a ++ b) c)) h
 
   -- and compared
-  pub four-same : (f : List ℕ) →
-      (begins a (drop at f) && (begins b (drop i f) && (begins c (drop j f) && begins d (drop k f)))) ≡ begins (a ++ (b ++ (c ++ d))) (drop at f)
-  four-same f = sym (begins-next f a (b ++ (c ++ d)) at i p ∙ ap (λ (x : Bool). begins a (drop at f) && x)
-      (begins-next f b (c ++ d) i j q ∙ ap (λ (x : Bool). begins b (drop i f) && x) (begins-next f c d j k r)))
+  pub four-same : (begins a (drop at o) && (begins b (drop i o) && (begins c (drop j o) && begins d (drop k o)))) ≡
+      begins (a ++ (b ++ (c ++ d))) (drop at o)
+  four-same = sym (begins-next o a (b ++ (c ++ d)) at i p ∙ ap (λ (x : Bool). begins a (drop at o) && x)
+      (begins-next o b (c ++ d) i j q ∙ ap (λ (x : Bool). begins b (drop i o) && x) (begins-next o c d j k r)))

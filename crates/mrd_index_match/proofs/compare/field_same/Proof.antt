@@ -48,7 +48,7 @@ returns-2 c =
     let a = c .before .before .before .before .before .before .args in
     rw (c .before .tag-same .ensures, c .u64-same .ensures, c .before .before .before .u16-same .ensures, c .before .before .u32-same .ensures)
     (four-same (now (a .file)) (heading 3 14) (toBytes 8 (a .entry .start)) (toBytes 2 (a .entry .id)) (toBytes 4 (a .entry .counter))
-    (a .at) (a .at + 3) (a .at + 11) (a .at + 13) refl (omega arith) (omega arith) (now (a .file)))
+    (a .at) (a .at + 3) (a .at + 11) (a .at + 13) refl (omega arith) (omega arith))
 
 pub field-same-spec : {M : Type 1} → statement M
 field-same-spec =

@@ -33,7 +33,7 @@ returns-2 : tie.Need-returns-2
 returns-2 c =
     let a = c .before .before .before .before .before .before .args in
     rw (c .before .tag-same2 .ensures, c .u16-same .ensures, c .before .before .before .tag-same .ensures, c .before .before .u64-same .ensures)
-    (four-same (now (a .file)) (heading 1 2) (toBytes 2 1) (heading 2 8) (toBytes 8 (a .total)) 0 3 5 8 refl refl refl (now (a .file)))
+    (four-same (now (a .file)) (heading 1 2) (toBytes 2 1) (heading 2 8) (toBytes 8 (a .total)) 0 3 5 8 refl refl refl)
 
 pub file-front-same-spec : {M : Type 1} → statement M
 file-front-same-spec =

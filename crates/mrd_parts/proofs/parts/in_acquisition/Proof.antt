@@ -2,34 +2,17 @@
 -- Assumes nothing.
 use Prim.Native.Nat.{ℕ}
 use mathlib.Core.Path.{_≡_, refl, ap, _∙_}
-use mathlib.Core.List.{List, [], _∷_}
+use mathlib.Core.List.{[], _∷_}
 use borrow.Author.Needs.{needs}
 use denote.Ref.{now}
-use denote.Enum.Declared.{tagOf}
-use types.Run.{OneOf, miss}
 use Rattle.mrd_format.specs.declared.kind.Kind.{Kind}
 use Rattle.mrd_parts.specs.declared.parts.Part.{Part}
-use Rattle.mrd_parts.specs.declared.parts.Part.the-variants.{Name, Text, Attributes, Trajectory, Channel, Pixels, Waveform}
 use Rattle.mrd_format.specs.Parts.{lacks, lies, extent}
 use Rattle.mrd_format.specs.Content.{extentOf}
 use Rattle.mrd_parts.specs.Sought.{partMeaning}
-use Rattle.mrd_parts.proofs.parts.Part.{the-type}
+use Rattle.mrd_parts.proofs.Rest.{rest}
 use Rattle.mrd_parts.proofs.parts.in_acquisition.Statement.{statement}
 use Rattle.mrd_parts.proofs.parts.in_acquisition.Tie as tie
-
--- the other parts, by the numbers of their cases
-abbrev rest : List ℕ
-rest = 0 ∷ 1 ∷ 2 ∷ 5 ∷ 6 ∷ []
-
-others : (p : Part) (h : List ℕ) → OneOf rest (tagOf the-type p) → lacks ≡ extentOf (partMeaning p) Kind.Acquisition h
-unfolding extentOf
-others Name h o = refl
-others Text h o = refl
-others Attributes h o = refl
-others Trajectory h o = absurd (miss rest 3 tt o)
-others (Channel c) h o = absurd (miss rest 4 tt o)
-others Pixels h o = refl
-others Waveform h o = refl
 
 enum-told : tie.Need-enum-told
 enum-told c = search needs
@@ -57,7 +40,11 @@ returns-2 : tie.Need-returns-2
 returns-2 c = rw (c .before .before .part .given .1) (c .channel .ensures)
 
 returns-3 : tie.Need-returns-3
-returns-3 c = let a = c .before .before .args in others (a .part) (now (a .h)) (c .match .keys3)
+unfolding extentOf
+returns-3 c =
+    let a = c .before .before .args in
+    rest (λ (p : Part). lacks ≡ extentOf (partMeaning p) Kind.Acquisition (now (a .h))) (0 ∷ 1 ∷ 2 ∷ 5 ∷ 6 ∷ []) (a .part) (c .match .keys3)
+    (refl, (refl, (refl, (refl, (refl, tt)))))
 
 pub in-acquisition-spec : {M : Type 1} → statement M
 in-acquisition-spec = tie.close (tie.spec enum-told add-lies trajectory-size-requires lies-requires enum-known-part channel-requires returns returns-2 returns-3)

@@ -3,35 +3,18 @@
 use Prim.Native.Nat.{ℕ}
 use native.Mathlib.Omega.{arith}
 use mathlib.Core.Path.{_≡_, refl, sym, ap, _∙_}
-use mathlib.Core.List.{List, [], _∷_}
+use mathlib.Core.List.{[], _∷_}
 use borrow.Author.Needs.{needs}
 use denote.Ref.{now}
-use denote.Enum.Declared.{tagOf}
-use types.Run.{OneOf, miss}
 use Rattle.mrd_format.specs.declared.kind.Kind.{Kind}
 use Rattle.mrd_parts.specs.declared.parts.Part.{Part}
-use Rattle.mrd_parts.specs.declared.parts.Part.the-variants.{Name, Text, Attributes, Trajectory, Channel, Pixels, Waveform}
 use Rattle.mrd_format.specs.Parts.{lacks, lies, extent}
 use Rattle.mrd_format.specs.Content.{extentOf}
 use Rattle.mrd_parts.specs.PartLaws.{image-rest, image-pixels}
 use Rattle.mrd_parts.specs.Sought.{partMeaning}
-use Rattle.mrd_parts.proofs.parts.Part.{the-type}
+use Rattle.mrd_parts.proofs.Rest.{rest}
 use Rattle.mrd_parts.proofs.parts.in_image.Statement.{statement}
 use Rattle.mrd_parts.proofs.parts.in_image.Tie as tie
-
--- the other parts, by the numbers of their cases
-abbrev rest : List ℕ
-rest = 0 ∷ 1 ∷ 3 ∷ 4 ∷ 6 ∷ []
-
-others : (p : Part) (h : List ℕ) → OneOf rest (tagOf the-type p) → lacks ≡ extentOf (partMeaning p) Kind.Image h
-unfolding extentOf
-others Name h o = refl
-others Text h o = refl
-others Attributes h o = absurd (miss rest 2 tt o)
-others Trajectory h o = refl
-others (Channel c) h o = refl
-others Pixels h o = absurd (miss rest 5 tt o)
-others Waveform h o = refl
 
 attribute-length-requires : tie.Need-attribute-length-requires
 attribute-length-requires c κs = search needs
@@ -79,7 +62,11 @@ returns-2 c = rw (c .before .enum-told2 .given .1)
     (c .lies2 .ensures ∙ image-pixels (c .before .before .before .before .before .pre) _ (c .before .before .before .attribute-length .ensures))
 
 returns-3 : tie.Need-returns-3
-returns-3 c = let a = c .before .before .before .args in others (a .part) (now (a .h)) (c .match .keys3)
+unfolding extentOf
+returns-3 c =
+    let a = c .before .before .before .args in
+    rest (λ (p : Part). lacks ≡ extentOf (partMeaning p) Kind.Image (now (a .h))) (0 ∷ 1 ∷ 3 ∷ 4 ∷ 6 ∷ []) (a .part) (c .match .keys3)
+    (refl, (refl, (refl, ((λ n. refl), (refl, tt)))))
 
 pub in-image-spec : {M : Type 1} → statement M
 in-image-spec = tie.close (tie.spec attribute-length-requires add-after enum-told lies-requires enum-told-2 add-lies sub-lies sub-lies-2 lies-requires-2 returns returns-2 returns-3)

@@ -2,34 +2,17 @@
 -- Assumes nothing.
 use Prim.Native.Nat.{ℕ}
 use mathlib.Core.Path.{_≡_, refl, ap, _∙_}
-use mathlib.Core.List.{List, [], _∷_}
+use mathlib.Core.List.{[], _∷_}
 use borrow.Author.Needs.{needs}
 use denote.Ref.{now}
-use denote.Enum.Declared.{tagOf}
-use types.Run.{OneOf, miss}
 use Rattle.mrd_format.specs.declared.kind.Kind.{Kind}
 use Rattle.mrd_parts.specs.declared.parts.Part.{Part}
-use Rattle.mrd_parts.specs.declared.parts.Part.the-variants.{Name, Text, Attributes, Trajectory, Channel, Pixels, Waveform}
 use Rattle.mrd_format.specs.Parts.{lacks, lies, extent}
 use Rattle.mrd_format.specs.Content.{extentOf}
 use Rattle.mrd_parts.specs.Sought.{partMeaning}
-use Rattle.mrd_parts.proofs.parts.Part.{the-type}
+use Rattle.mrd_parts.proofs.Rest.{rest}
 use Rattle.mrd_parts.proofs.parts.in_text.Statement.{statement}
 use Rattle.mrd_parts.proofs.parts.in_text.Tie as tie
-
--- the other parts, by the numbers of their cases
-abbrev rest : List ℕ
-rest = 0 ∷ 2 ∷ 3 ∷ 4 ∷ 5 ∷ 6 ∷ []
-
-others : (p : Part) (h : List ℕ) → OneOf rest (tagOf the-type p) → lacks ≡ extentOf (partMeaning p) Kind.Text h
-unfolding extentOf
-others Name h o = refl
-others Text h o = absurd (miss rest 1 tt o)
-others Attributes h o = refl
-others Trajectory h o = refl
-others (Channel c) h o = refl
-others Pixels h o = refl
-others Waveform h o = refl
 
 enum-told : tie.Need-enum-told
 enum-told c = search needs
@@ -48,7 +31,11 @@ unfolding extentOf
 returns c = rw (c .before .before .enum-told .given .1) (c .lies .ensures ∙ ap (λ (n : ℕ). lies (extent 6 n)) (c .before .text-length .ensures .0))
 
 returns-2 : tie.Need-returns-2
-returns-2 c = let a = c .before .before .args in others (a .part) (now (a .h)) (c .match .keys2)
+unfolding extentOf
+returns-2 c =
+    let a = c .before .before .args in
+    rest (λ (p : Part). lacks ≡ extentOf (partMeaning p) Kind.Text (now (a .h))) (0 ∷ 2 ∷ 3 ∷ 4 ∷ 5 ∷ 6 ∷ []) (a .part) (c .match .keys2)
+    (refl, (refl, (refl, ((λ n. refl), (refl, (refl, tt))))))
 
 pub in-text-spec : {M : Type 1} → statement M
 in-text-spec = tie.close (tie.spec enum-told add-lies text-length-requires lies-requires returns returns-2)

@@ -5,39 +5,34 @@ use native.Mathlib.Omega.{arith}
 use mathlib.Core.Path.{_≡_, refl}
 use mathlib.Core.Bool.{Bool, true, false}
 use mathlib.Core.List.{List}
-use lib.Dec.{ltb}
+use lib.ListN.{length}
 use Rattle.mrd_logic.specs.Answer.{Verdict, accepted, refused, Answer, answered, stream, number, unlessRefused, andThen}
 use Rattle.mrd_logic.specs.Choice.{pick}
 use Rattle.mrd_logic.specs.Checks.{first}
 use Rattle.mrd_format.specs.declared.kind.Identified.{Identified}
 use Rattle.mrd_format.specs.declared.kind.Identified.the-variants.{Known, Unknown}
 use Rattle.mrd_format.specs.Kinds.{identified}
-use Rattle.mrd_format.specs.Elements.{ElementType, u16, u32, u64, i32, f32}
-use Rattle.mrd_format.specs.Message.{fixedPart}
+use Rattle.mrd_format.specs.Parts.{Contents}
 use Rattle.mrd_cursor.specs.declared.cursor.Cursor as walk
 use Rattle.mrd_stream.specs.Walk.{from, verdict, answer}
 use Rattle.mrd_stream.specs.Places.{Located, place, Stepped, handed, over, step}
+use Rattle.mrd_stream.specs.Index.{entries}
 use Rattle.mrd_stream.specs.Output.{answerBy, answerFor}
-use Rattle.mrd_cut.specs.Places.{partAt}
 use Rattle.mrd_record.specs.AtCursor.{placeAt}
 use Rattle.mrd_parts.specs.declared.parts.Part.{Part}
-use Rattle.mrd_views.specs.declared.views.Span.{Span}
 use Rattle.mrd_views.specs.Views.{viewBy, viewOf}
-use Rattle.mrd_element.specs.Field as header
-use Rattle.mrd_fields.specs.Fields.{valued, fieldBy, fieldOf}
+use Rattle.mrd_fields.specs.Fields.{fieldBy, fieldOf}
 use Rattle.mrd_find.specs.Find.{findOf}
 use Rattle.mrd_index.specs.Columns.{columnsAnswer}
 use Rattle.mrd_index_match.specs.Compare.{believed, fileMatch, columnsMatch}
 use Rattle.mrd_ask.specs.declared.question.Question.{Question}
-use Rattle.mrd_ask.specs.Replies.{Replied}
 use Rattle.mrd_ask.specs.Questions.{askOf}
 use Rattle.mrd_ask.specs.RefusalLaws.{Numbered, Refuses, unless-refuses, then-refuses, from-numbered, answer-numbered, over-numbered, place-refuses, at-refuses, view-refuses, field-refuses, find-refuses, ask-refuses}
-use Rattle.mrd_writer.specs.Refusals as writer
-use Rattle.mrd_writer.specs.Lent.{Lent, lengthsOf}
-use Rattle.mrd_writer.specs.Write.{writeChecks, answerAs, writeAnswer}
+use Rattle.mrd_write_checks.specs.WriteChecks.{unless}
+use Rattle.mrd_writer.specs.Write.{sizeGiven, writeChecks, answerAs, writeAnswer}
 use Rattle.c_place.specs.PlacedStruct.{cPlaced}
 use Rattle.c_walk.specs.WalkStructs.{cChecked, cStep}
-use Rattle.c_record.specs.RecordStructs.{cView, cValue, cField, cFound}
+use Rattle.c_record.specs.RecordStructs.{cView, cField, cFound}
 use Rattle.c_written.specs.WrittenStructs.{cWritten, cMatched, cPut}
 use Rattle.c_ask.specs.AskStructs.{cReply}
 
@@ -153,3 +148,30 @@ zero-ask-file s file = zero-asked s (fileMatch s file) (file-refuses s file)
 pub zero-ask-columns : (s a b c : List ℕ) (q : Question) (cs : List ℕ) → cReply (andThen (columnsMatch s a b c) (λ _. askOf s q cs)) .refusal ≡ 0 →
     Answered (andThen (columnsMatch s a b c) (λ _. askOf s q cs))
 zero-ask-columns s a b c = zero-asked s (columnsMatch s a b c) (columns-refuses s a b c)
+
+-- what was written to the front of an output, or to three columns: n, where n are to be written
+zero-output : (v : Verdict) (short : Bool) (n : ℕ) → Numbered v → cWritten (answerBy v short n) .refusal ≡ 0 → answerBy v short n ≡ answered n
+zero-output (accepted k) true n v z = absurd (omega (arith, z))
+zero-output (accepted k) false n v z = refl
+zero-output (refused f r b) short n v z = absurd (omega (arith, v, z))
+
+pub zero-written : (s : List ℕ) (n room : ℕ) → cWritten (answerFor s n room) .refusal ≡ 0 → answerFor s n room ≡ answered n
+unfolding answerFor
+zero-written s n room = zero-output (answer s) _ n (answer-numbered s)
+
+pub zero-filled : (s : List ℕ) (a b c : ℕ) → cWritten (columnsAnswer s a b c) .refusal ≡ 0 → columnsAnswer s a b c ≡ answered (length (entries s))
+unfolding columnsAnswer
+zero-filled s a b c = zero-output (answer s) _ (length (entries s)) (answer-numbered s)
+
+-- the position after a message
+pub zero-put : (id : ℕ) (c : Contents) (at : ℕ) (o : List ℕ) → cPut (writeAnswer id c at o) .refusal ≡ 0 → Answered (writeAnswer id c at o)
+unfolding writeAnswer answerAs
+zero-put id c at o = zero-answer (λ a. cPut a .refusal) (λ f r b. refl) (λ k. refl) _ (by (identified id))
+  where
+    judged : (f n : ℕ) → Refuses 1 (unless f n)
+    judged zero n = tt
+    judged (suc f) n = omega arith
+
+    by : (i : Identified) → Refuses 1 (answerAs i c at o)
+    by Unknown = omega arith
+    by (Known k) = judged (first (writeChecks k c at o)) (at + sizeGiven k c)

@@ -1,4 +1,5 @@
 pub mod Messages
 pub mod Normal
+pub mod RecordViews
 pub mod Demands
 pub mod Examples

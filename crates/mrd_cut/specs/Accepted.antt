@@ -8,9 +8,11 @@ use mathlib.Core.Bool.{Bool, true, false}
 use mathlib.Core.List.{List, [], _∷_, _++_, append-nil}
 use lib.ListN.{length}
 use Rattle.mrd_format.specs.declared.kind.Kind.{Kind}
-use Rattle.mrd_stream.specs.declared.cursor.Cursor.{Cursor}
-use Rattle.mrd_stream.specs.Order.{isClosed}
-use Rattle.mrd_stream.specs.Walk.{messageLimit, accepted, endedAs, ended, trace, walk, verdict, answer}
+use Rattle.mrd_cursor.specs.declared.cursor.Cursor.{Cursor}
+use Rattle.mrd_cursor.specs.Order.{isClosed}
+use Rattle.mrd_cursor.specs.Cursors.{maxMessages}
+use Rattle.mrd_logic.specs.Answer.{accepted}
+use Rattle.mrd_stream.specs.Walk.{endedAs, ended, trace, walk, verdict, answer}
 use Rattle.mrd_stream.specs.WalkLaws.{walk-end}
 use Rattle.mrd_stream.specs.Cut.{joined, Cut, kindsIn, InOrder, EndsInClose}
 use Rattle.mrd_cut.specs.Order.{phaseAfter, closed-iff-ends}
@@ -23,7 +25,7 @@ kindsOf c = kindsIn (c .pieces) (c .well)
 -- s has a cut into not too many messages, in order, the last a close
 pub record Acceptable (s : List ℕ) : Type 0 where
   pub cut : Cut s
-  pub few : length (cut .pieces) ≤ messageLimit
+  pub few : length (cut .pieces) ≤ maxMessages
   pub ordered : InOrder (kindsOf cut)
   pub closed : EndsInClose (kindsOf cut)
 

@@ -8,9 +8,10 @@ use lib.ListN.{length, length-append}
 use lib.Seq.{take-append-seam, drop-at}
 use Rattle.mrd_logic.specs.Every.{Every}
 use Rattle.mrd_format.specs.Message.{fixedPart, numbersOf, WellFormed}
-use Rattle.mrd_stream.specs.declared.cursor.Cursor.{Cursor}
-use Rattle.mrd_stream.specs.Walk.{Verdict, accepted, refused, Trace, trace, answer}
-use Rattle.mrd_stream.specs.Places.{Located, located, places, Answer, found, stream, number, nth, placeBy, place}
+use Rattle.mrd_cursor.specs.declared.cursor.Cursor.{Cursor}
+use Rattle.mrd_logic.specs.Answer.{Verdict, accepted, refused, Answer, answered, stream, number, unlessRefused}
+use Rattle.mrd_stream.specs.Walk.{Trace, trace, answer}
+use Rattle.mrd_stream.specs.Places.{Located, located, places, nth, place}
 use Rattle.mrd_cut.specs.Places.{partAt}
 use Rattle.mrd_cut.specs.Walked.{Walks, ends, faults, meets, walks}
 
@@ -40,16 +41,16 @@ places-inside (meets {c} {m} {rest} {r} w a n v) before h =
       later,
     )
 
-nth-inside : {s : List ℕ} (ls : List Located) (n : ℕ) {l : Located} → Every (Inside s) ls → nth ls n ≡ found l → Inside s l
+nth-inside : {s : List ℕ} (ls : List Located) (n : ℕ) {l : Located} → Every (Inside s) ls → nth ls n ≡ answered l → Inside s l
 nth-inside [] n i e = absurd (let z : _≡_ {A = ℕ} 0 1 = cc in omega arith)
 nth-inside (l ∷ ls) zero i e = subst (Inside _) (cc) (i .0)
 nth-inside (l ∷ ls) (suc n) i e = nth-inside ls n (i .1) e
 
 -- the place that is answered for a record lies in the stream
-pub place-inside : (s : List ℕ) (n : ℕ) {l : Located} → place s n ≡ found l → Inside s l
+pub place-inside : (s : List ℕ) (n : ℕ) {l : Located} → place s n ≡ answered l → Inside s l
 unfolding place
 place-inside s n {l} e = by-verdict (answer s) e
   where
-    by-verdict : (v : Verdict) → placeBy v (places (trace s)) n ≡ found l → Inside s l
+    by-verdict : (v : Verdict) → unlessRefused v (nth (places (trace s)) n) ≡ answered l → Inside s l
     by-verdict (accepted k) e = nth-inside (places (trace s)) n (places-inside (walks s) [] refl) e
     by-verdict (refused f r b) e = absurd (let z : _≡_ {A = ℕ} 0 1 = cc in omega arith)

@@ -11,10 +11,10 @@ use lib.Dec.{eqb}
 use borrow.Author.Tests.{eqb-false}
 use Rattle.mrd_format.specs.declared.kind.Kind.{Kind}
 use Rattle.mrd_format.specs.declared.kind.Kind.the-variants.{ConfigurationName, ConfigurationText, HeaderText, Close, Text, Acquisition, Image, Waveform}
-use Rattle.mrd_stream.specs.declared.cursor.Phase.{Phase}
-use Rattle.mrd_stream.specs.declared.cursor.Phase.the-variants.{Start, Configured, Headed, Closed}
-use Rattle.mrd_stream.specs.OrderLaws.{allowed-open}
-use Rattle.mrd_stream.specs.Order.{isStart, isBeforeHeader, isHeaded, isOpen, isClosed, allowed, nextPhase}
+use Rattle.mrd_cursor.specs.declared.cursor.Phase.{Phase}
+use Rattle.mrd_cursor.specs.declared.cursor.Phase.the-variants.{Start, Configured, Headed, Closed}
+use Rattle.mrd_cursor.specs.OrderLaws.{allowed-open}
+use Rattle.mrd_cursor.specs.Order.{isStart, isBeforeHeader, isHeaded, isOpen, isClosed, allowed, nextPhase}
 use Rattle.mrd_stream.specs.Cut.{Role, configuration, header, measured, text, close, roleOf, Lacks, May, InOrder, EndsInClose}
 
 -- the phase that kinds lead to from p

@@ -6,8 +6,9 @@ use mathlib.Core.List.{List, [], _∷_, _++_, map, append-assoc}
 use lib.ListN.{length, take, drop, length-append}
 use lib.Seq.{take-append-seam, drop-at}
 use Rattle.mrd_format.specs.Message.{WellFormed}
-use Rattle.mrd_stream.specs.declared.cursor.Cursor.{Cursor}
-use Rattle.mrd_stream.specs.Walk.{accepted, Trace, trace, answer}
+use Rattle.mrd_cursor.specs.declared.cursor.Cursor.{Cursor}
+use Rattle.mrd_logic.specs.Answer.{accepted}
+use Rattle.mrd_stream.specs.Walk.{Trace, trace, answer}
 use Rattle.mrd_stream.specs.Places.{Located, located, places}
 use Rattle.mrd_logic.specs.Every.{Every}
 use Rattle.mrd_stream.specs.Cut.{joined, Cut}

@@ -10,15 +10,18 @@ use lib.ListN.{length}
 use Rattle.mrd_format.specs.declared.kind.Kind.{Kind}
 use Rattle.mrd_format.specs.Kinds.{identified}
 use Rattle.mrd_format.specs.Message.{idAt, WellFormed}
-use Rattle.mrd_stream.specs.declared.cursor.Cursor.{Cursor}
-use Rattle.mrd_stream.specs.Order.{isClosed}
-use Rattle.mrd_stream.specs.Walk.{messageLimit, checksAs, refused, endedAs, ended, trace, walk, verdict, answer}
+use Rattle.mrd_cursor.specs.declared.cursor.Cursor.{Cursor}
+use Rattle.mrd_cursor.specs.Order.{isClosed}
+use Rattle.mrd_cursor.specs.Cursors.{maxMessages}
+use Rattle.mrd_judge.specs.Stages.{checksAs}
+use Rattle.mrd_logic.specs.Answer.{refused}
+use Rattle.mrd_stream.specs.Walk.{endedAs, ended, trace, walk, verdict, answer}
 use Rattle.mrd_stream.specs.WalkLaws.{walk-end, walk-fault}
 use Rattle.mrd_logic.specs.Every.{Every}
 use Rattle.mrd_logic.specs.Checks.{FirstFault}
 use Rattle.mrd_stream.specs.Cut.{joined, kindsIn, close, Lacks, InOrder}
 use Rattle.mrd_cut.specs.Order.{open-iff-lacks-close}
-use Rattle.mrd_stream.specs.Judged.{faulty-judge}
+use Rattle.mrd_judge.specs.WholeLaws.{faulty-judge}
 use Rattle.mrd_cut.specs.Walked.{refused-not-accepted, Stops, met, piecesOf, cursorAfter, answer-after}
 
 -- the fault f where the walk stands at c, after messages of the kinds ks, with t left: 'the stream ends without a close', or the first check
@@ -35,7 +38,7 @@ pub record RefusedAt (s : List ℕ) (f n b : ℕ) : Type 0 where
   pub whole : joined pieces ++ rest ≡ s
   pub number : length pieces ≡ n
   pub byte : length (joined pieces) ≡ b
-  pub few : length pieces ≤ messageLimit
+  pub few : length pieces ≤ maxMessages
   pub ordered : InOrder (kindsIn pieces well)
   pub fault : FaultAt f (cursorAfter pieces well) (kindsIn pieces well) rest
 

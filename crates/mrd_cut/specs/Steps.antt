@@ -7,12 +7,13 @@ use mathlib.Core.List.{List, [], _∷_, _++_, append-assoc}
 use lib.ListN.{length, length-append}
 use lib.Seq.{take-append-seam, drop-at}
 use Rattle.mrd_format.specs.Message.{WellFormed}
-use Rattle.mrd_stream.specs.declared.cursor.Cursor.{Cursor}
-use Rattle.mrd_stream.specs.Order.{allowed}
-use Rattle.mrd_stream.specs.Walk.{messageLimit, after, beginning, Trace, message, done, trace}
+use Rattle.mrd_cursor.specs.declared.cursor.Cursor.{Cursor}
+use Rattle.mrd_cursor.specs.Order.{allowed}
+use Rattle.mrd_cursor.specs.Cursors.{maxMessages, after, beginning}
+use Rattle.mrd_stream.specs.Walk.{Trace, message, done, trace}
 use Rattle.mrd_stream.specs.Places.{located, handed, over, stepAt, step}
 use Rattle.mrd_cut.specs.Unique.{not-empty}
-use Rattle.mrd_stream.specs.Judged.{well-judge}
+use Rattle.mrd_judge.specs.WholeLaws.{well-judge}
 use Rattle.mrd_cut.specs.Walked.{Walks, ends, faults, meets, walks}
 
 -- the steps from c on hand out what the trace holds: each message's place and kind, with the cursor of what follows, and last the answer
@@ -26,7 +27,7 @@ unfolding step
 step-after c before t h = rw (drop-at before t (c .start) h)
 
 -- the step at a well-formed message that the order and the count allow
-step-well : (c : Cursor) (m rest : List ℕ) (w : WellFormed m) → allowed (w .kind) (c .phase) ≡ true → c .number < messageLimit →
+step-well : (c : Cursor) (m rest : List ℕ) (w : WellFormed m) → allowed (w .kind) (c .phase) ≡ true → c .number < maxMessages →
     stepAt c (m ++ rest) ≡ handed (located c (w .kind) m) (after c (w .kind) (length m))
 unfolding stepAt
 step-well c [] rest w a n = absurd (not-empty [] [] w refl)

@@ -12,16 +12,20 @@ use lib.Seq.{take-append-seam, drop-append-seam}
 use Rattle.mrd_format.specs.Kinds.{identified}
 use Rattle.mrd_format.specs.Message.{idAt, fixedPart, WellFormed}
 use Rattle.mrd_format.specs.MessageLaws.{size-least}
-use Rattle.mrd_stream.specs.declared.cursor.Cursor.{Cursor}
-use Rattle.mrd_stream.specs.Order.{allowed}
-use Rattle.mrd_stream.specs.Walk.{messageLimit, checksAs, Judged, faulty, whole, judge, Verdict, accepted, refused, ended, after, beginning, Trace, message, done, walk, trace, verdict, answer}
+use Rattle.mrd_cursor.specs.declared.cursor.Cursor.{Cursor}
+use Rattle.mrd_cursor.specs.Order.{allowed}
+use Rattle.mrd_cursor.specs.Cursors.{maxMessages, after, beginning}
+use Rattle.mrd_judge.specs.Stages.{checksAs}
+use Rattle.mrd_judge.specs.Judge.{Judged, faulty, whole, judge}
+use Rattle.mrd_logic.specs.Answer.{Verdict, accepted, refused}
+use Rattle.mrd_stream.specs.Walk.{ended, Trace, message, done, walk, trace, verdict, answer}
 use Rattle.mrd_stream.specs.WalkLaws.{walk-end, walk-fault, walk-next}
 use Rattle.mrd_logic.specs.Every.{Every}
 use Rattle.mrd_logic.specs.Checks.{FirstFault}
 use Rattle.mrd_stream.specs.Cut.{joined, kindsIn, InOrder}
 use Rattle.mrd_cut.specs.Order.{phaseFrom, phaseAfter, AllowedFrom, in-order-iff}
 use Rattle.mrd_cut.specs.Unique.{not-empty}
-use Rattle.mrd_stream.specs.Judged.{WholeAt, judge-whole, judge-faulty, wellFormed, well-judge}
+use Rattle.mrd_judge.specs.WholeLaws.{WholeAt, judge-whole, judge-faulty, wellFormed, well-judge}
 
 -- walking s from c meets r: the end, a fault, or a well-formed message and then the rest
 pub data Walks : Cursor → List ℕ → Trace → Type 0 where
@@ -29,10 +33,10 @@ pub data Walks : Cursor → List ℕ → Trace → Type 0 where
   faults : {c : Cursor} {b : ℕ} {t : List ℕ} {f : ℕ} → judge c (b ∷ t) ≡ faulty f →
       Walks c (b ∷ t) (done (refused f (c .number) (c .start)))
   meets : {c : Cursor} {m rest : List ℕ} {r : Trace} (w : WellFormed m) → allowed (w .kind) (c .phase) ≡ true →
-      c .number < messageLimit → Walks (after c (w .kind) (length m)) rest r → Walks c (m ++ rest) (message c (w .kind) m r)
+      c .number < maxMessages → Walks (after c (w .kind) (length m)) rest r → Walks c (m ++ rest) (message c (w .kind) m r)
 
 -- at a well-formed message that the order and the count allow, the walk meets it and goes on after it
-pub walk-well : (c : Cursor) (m rest : List ℕ) (w : WellFormed m) → allowed (w .kind) (c .phase) ≡ true → c .number < messageLimit →
+pub walk-well : (c : Cursor) (m rest : List ℕ) (w : WellFormed m) → allowed (w .kind) (c .phase) ≡ true → c .number < maxMessages →
     walk (m ++ rest) 0 c ≡ message c (w .kind) m (walk rest 0 (after c (w .kind) (length m)))
 walk-well c [] rest w a n = absurd (not-empty [] [] w refl)
 walk-well c (b ∷ m) rest w a n =
@@ -88,7 +92,7 @@ pub record Walked (c : Cursor) (s : List ℕ) (r : Trace) : Type 0 where
   pub rest : List ℕ
   pub whole : joined (piecesOf r) ++ rest ≡ s
   pub ordered : AllowedFrom (c .phase) (kindsIn (piecesOf r) well)
-  pub counted : c .number ≤ messageLimit → c .number + length (piecesOf r) ≤ messageLimit
+  pub counted : c .number ≤ maxMessages → c .number + length (piecesOf r) ≤ maxMessages
   pub stops : Stops (standing c (piecesOf r) well) rest (verdict r)
 
 -- after no message the walk stands where it stood; after one more, where the next message is due
@@ -145,7 +149,7 @@ pub record Met (s : List ℕ) : Type 0 where
   pub rest : List ℕ
   pub whole : joined (piecesOf (trace s)) ++ rest ≡ s
   pub ordered : InOrder (kindsIn (piecesOf (trace s)) well)
-  pub few : length (piecesOf (trace s)) ≤ messageLimit
+  pub few : length (piecesOf (trace s)) ≤ maxMessages
   pub stops : Stops (cursorAfter (piecesOf (trace s)) well) rest (answer s)
 
 -- this holds of every stream
@@ -165,14 +169,14 @@ met s =
 
 -- well-formed messages, allowed and not too many, are walked over, whatever follows them
 pub walk-pieces : (ms : List (List ℕ)) (w : Every WellFormed ms) (c : Cursor) (rest : List ℕ) → AllowedFrom (c .phase) (kindsIn ms w) →
-    c .number + length ms ≤ messageLimit → verdict (walk (joined ms ++ rest) 0 c) ≡ verdict (walk rest 0 (standing c ms w))
+    c .number + length ms ≤ maxMessages → verdict (walk (joined ms ++ rest) 0 c) ≡ verdict (walk rest 0 (standing c ms w))
 walk-pieces [] w c rest a n = ap (λ (d : Cursor). verdict (walk rest 0 d)) (sym (standing-none c))
 walk-pieces (m ∷ ms) w c rest a n =
     rw (append-assoc, walk-well c m (joined ms ++ rest) (w .0) (a .0) (omega arith), ← standing-next c m ms w)
     (walk-pieces ms (w .1) (after c (w .0 .kind) (length m)) rest (a .1) (omega arith))
 
 -- the answer about well-formed messages in order, not too many, and what follows them: that of the walk from there on
-pub answer-after : (ms : List (List ℕ)) (w : Every WellFormed ms) (rest : List ℕ) → InOrder (kindsIn ms w) → length ms ≤ messageLimit →
+pub answer-after : (ms : List (List ℕ)) (w : Every WellFormed ms) (rest : List ℕ) → InOrder (kindsIn ms w) → length ms ≤ maxMessages →
     answer (joined ms ++ rest) ≡ verdict (walk rest 0 (cursorAfter ms w))
 unfolding answer trace
 answer-after ms w rest o n =

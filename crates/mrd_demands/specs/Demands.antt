@@ -9,7 +9,8 @@ use mathlib.Core.List.{List, map}
 use lib.ListN.{length}
 use Rattle.mrd_numbers.specs.Little.{Bytes}
 use Rattle.mrd_format.specs.Content.{Record, bytesOf}
-use Rattle.mrd_stream.specs.Walk.{accepted, refused, answer}
+use Rattle.mrd_logic.specs.Answer.{accepted, refused}
+use Rattle.mrd_stream.specs.Walk.{answer}
 use Rattle.mrd_stream.specs.Records.{records}
 use Rattle.mrd_stream.specs.Normal.{normal}
 use Rattle.mrd_stream.specs.Cut.{joined, Cut}

@@ -9,7 +9,10 @@ use Rattle.mrd_numbers.specs.Little.{num}
 use Rattle.mrd_format.specs.Kinds.{identified}
 use Rattle.mrd_format.specs.Message.{fixedPart, nameLength, ownChecks, bodySize, sizeOf}
 use Rattle.mrd_format.specs.Content.{extentOf, contentsOf, fieldsOf, recordOf, normalOf}
-use Rattle.mrd_stream.specs.Walk.{accepted, answer, trace, walk, judge, judgeAs, checksAs, earlyChecks, lateChecks, ended}
+use Rattle.mrd_logic.specs.Answer.{accepted}
+use Rattle.mrd_stream.specs.Walk.{answer, trace, walk, ended}
+use Rattle.mrd_judge.specs.Judge.{judge, judgeAs}
+use Rattle.mrd_judge.specs.Stages.{checksAs, frontChecks, idChecks, fixedChecks, sizeChecks}
 use Rattle.mrd_stream.specs.Records.{records}
 use Rattle.mrd_stream.specs.Normal.{normal}
 
@@ -21,5 +24,5 @@ pub filler-is-no-meaning :
     (answer (named 7) ≡ accepted 2) ×
     (answer (named 0) ≡ accepted 2) × (records (named 7) ≡ records (named 0)) ×
     (normal (named 7) ≡ named 0)
-unfolding answer trace walk judge judgeAs checksAs earlyChecks lateChecks ended identified num fixedPart nameLength indexOf indexAfter ownChecks bodySize sizeOf records recordOf fieldsOf contentsOf extentOf normal normalOf
+unfolding answer trace walk judge judgeAs checksAs frontChecks idChecks fixedChecks sizeChecks ended identified num fixedPart nameLength indexOf indexAfter ownChecks bodySize sizeOf records recordOf fieldsOf contentsOf extentOf normal normalOf
 filler-is-no-meaning = (refl, refl, refl, refl)

@@ -8,8 +8,9 @@ use Rattle.mrd_numbers.specs.Little.{Bytes}
 use Rattle.mrd_logic.specs.Every.{Every}
 use Rattle.mrd_format.specs.Message.{WellFormed}
 use Rattle.mrd_format.specs.Content.{Record, recordOf, normalOf, bytesOf}
-use Rattle.mrd_stream.specs.declared.cursor.Cursor.{Cursor}
-use Rattle.mrd_stream.specs.Walk.{Trace, trace, accepted, answer}
+use Rattle.mrd_cursor.specs.declared.cursor.Cursor.{Cursor}
+use Rattle.mrd_stream.specs.Walk.{Trace, trace, answer}
+use Rattle.mrd_logic.specs.Answer.{accepted}
 use Rattle.mrd_stream.specs.Records.{recordsOf, records}
 use Rattle.mrd_stream.specs.Normal.{normalFrom, normal}
 use Rattle.mrd_stream.specs.Cut.{joined, Cut}

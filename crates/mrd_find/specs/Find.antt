@@ -9,8 +9,10 @@ use Rattle.mrd_format.specs.Kinds.{idOf}
 use Rattle.mrd_format.specs.Elements.{elements}
 use Rattle.mrd_format.specs.Acquisition.{layout, counters}
 use Rattle.mrd_format.specs.Message.{fixedPart}
-use Rattle.mrd_stream.specs.declared.cursor.Cursor.{Cursor}
-use Rattle.mrd_stream.specs.Walk.{Verdict, accepted, refused, Trace, message, done, trace, answer}
+use Rattle.mrd_cursor.specs.declared.cursor.Cursor.{Cursor}
+use Rattle.mrd_logic.specs.Answer.{Answer, answered, number, unlessRefused}
+use Rattle.mrd_logic.specs.Choice.{pick}
+use Rattle.mrd_stream.specs.Walk.{Trace, message, done, trace, answer}
 
 -- whether two lists are equal
 abbrev pub same : List ℕ → List ℕ → Bool
@@ -31,26 +33,11 @@ candidate n i k = leb n i && eqb (idOf k) 1008
 abbrev pub matches : ℕ → List ℕ → Cursor → Kind → List ℕ → Bool
 matches n cs c k m = candidate n (c .number) k && same (countersOf (fixedPart k m)) cs
 
--- the answer: a record's number, the stream's refusal, or a number alone
-pub data Sought : Type 0 where
-  found : ℕ → Sought
-  stream : ℕ → ℕ → ℕ → Sought
-  number : ℕ → Sought
-
-abbrev pub pick : Bool → Sought → Sought → Sought
-pick true a b = a
-pick false a b = b
-
 -- the first match of a trace, else 16
-abbrev pub firstMatch : ℕ → List ℕ → Trace → Sought
-firstMatch n cs (message c k m r) = pick (matches n cs c k m) (found (c .number)) (firstMatch n cs r)
+abbrev pub firstMatch : ℕ → List ℕ → Trace → Answer ℕ
+firstMatch n cs (message c k m r) = pick (matches n cs c k m) (answered (c .number)) (firstMatch n cs r)
 firstMatch n cs (done v) = number 16
 
--- what was found, unless the stream is refused
-abbrev pub unlessRefused : Verdict → Sought → Sought
-unlessRefused (accepted k) a = a
-unlessRefused (refused f r b) a = stream f r b
-
 -- the record with the counters cs, from record n on: the stream's refusal first, then 16
-unfoldable pub findOf : List ℕ → ℕ → List ℕ → Sought
+unfoldable pub findOf : List ℕ → ℕ → List ℕ → Answer ℕ
 findOf s n cs = unlessRefused (answer s) (firstMatch n cs (trace s))

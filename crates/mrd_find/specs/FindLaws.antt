@@ -15,18 +15,20 @@ use Rattle.mrd_format.specs.KindLaws.{kind-of-id}
 use Rattle.mrd_format.specs.Message.{fixedPart}
 use Rattle.mrd_format.specs.Shapes.{kindOf}
 use Rattle.mrd_format.specs.MessageLaws.{well-least, well-fixed}
-use Rattle.mrd_stream.specs.declared.cursor.Cursor.{Cursor}
-use Rattle.mrd_stream.specs.Walk.{Trace, message, verdict, beginning, answer}
+use Rattle.mrd_cursor.specs.declared.cursor.Cursor.{Cursor}
+use Rattle.mrd_stream.specs.Walk.{Trace, message, verdict, answer, from}
+use Rattle.mrd_cursor.specs.Cursors.{beginning}
 use Rattle.mrd_stream.specs.Places.{Located, step}
-use Rattle.mrd_stream.specs.StepLaws.{from, Passes, step-handed, On, on-start, on-next, on-less, kept-next}
+use Rattle.mrd_stream.specs.StepLaws.{Passes, step-handed, On, on-start, on-next, on-less, kept-next}
 use Rattle.mrd_stream.specs.Told.{toldRecord, toldStep}
 use Rattle.mrd_stream.specs.declared.answer.Record.{Record}
 use Rattle.mrd_stream.specs.declared.answer.Step.{Step}
 use Rattle.mrd_stream.specs.declared.answer.Step
-use Rattle.mrd_find.specs.Find.{same, candidate, countersOf, Sought, found, firstMatch, unlessRefused, findOf}
+use Rattle.mrd_find.specs.Find.{same, candidate, countersOf, firstMatch, findOf}
+use Rattle.mrd_logic.specs.Answer.{Answer, answered, unlessRefused}
 
 -- the answer that a trace gives
-abbrev pub findIn : ℕ → List ℕ → Trace → Sought
+abbrev pub findIn : ℕ → List ℕ → Trace → Answer ℕ
 findIn n cs t = unlessRefused (verdict t) (firstMatch n cs t)
 
 -- a walk that stands at c: the answer from there on is the answer wanted
@@ -99,11 +101,11 @@ module _ {n : ℕ} {cs : List ℕ} {c : Cursor} {s : List ℕ} {here : Record} {
           on-next (findIn n cs) s (findIn n cs) (t .finding) (t .passes) (λ r. rw (one, other))
 
       -- counters that are the same: what follows only tells whether the stream is refused
-      pub match-found : same (countersOf h) cs ≡ true → unlessRefused (verdict (from next s)) (found (here .place .number)) ≡ findOf s n cs
+      pub match-found : same (countersOf h) cs ≡ true → unlessRefused (verdict (from next s)) (answered (here .place .number)) ≡ findOf s n cs
       match-found f =
           let one = handed-out ∙ e in
           let all = rw header-own at f in
           let number : here .place .number ≡ c .number = ap (λ (l : Located). l .number) (t .passes .place) in
           rw number
-          (kept-next (findIn n cs) s (λ (r : Trace). unlessRefused (verdict r) (found (c .number))) (t .finding .kept) (t .passes)
+          (kept-next (findIn n cs) s (λ (r : Trace). unlessRefused (verdict r) (answered (c .number))) (t .finding .kept) (t .passes)
           (λ r. rw (one, all)))

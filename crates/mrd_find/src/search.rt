@@ -6,13 +6,14 @@ ghost use Rattle.mrd_format.specs.declared.kind.Kind.«the-variants».{Acquisit
 ghost use Rattle.mrd_format.specs.Message.{fixedPart};
 ghost use Rattle.mrd_format.specs.Shapes.{kindOf};
 ghost use Rattle.mrd_stream.specs.Told.{toldChecked};
-ghost use Rattle.mrd_find.specs.Find.{candidate, unlessRefused, findOf};
+ghost use Rattle.mrd_find.specs.Find.{candidate, findOf};
+ghost use Rattle.mrd_logic.specs.Answer.{unlessRefused};
 ghost use Rattle.mrd_find.specs.Told.{told};
+use mrd_cursor::Cursor;
 use mrd_format::Kind;
 use mrd_format::refusal;
 use mrd_numbers::read_u16;
 use mrd_stream::Checked;
-use mrd_stream::Cursor;
 use mrd_stream::Record;
 use mrd_stream::Refusal;
 use mrd_stream::Step;
@@ -42,7 +43,7 @@ pub fn find(s: &[u8], n: usize, counters: &[u16; 17]) -> Found
     let asked: &[u16] = counters;
     let mut c = Cursor::beginning();
     'records: loop {
-        let step = c.next(s);
+        let step = mrd_stream::next(c, s);
         match step {
             Step::Message(here, next) => {
                 if !candidate(here, n) {

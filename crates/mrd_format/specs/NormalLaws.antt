@@ -5,7 +5,7 @@ use native.Mathlib.Nat.{le-of-eq}
 use native.Mathlib.Omega.{arith}
 use mathlib.Core.Path.{_≡_, refl, sym, ap, ap₂, _∙_}
 use mathlib.Core.Bool.{Bool, true, false}
-use mathlib.Core.List.{List, [], _∷_, _++_, append-nil}
+use mathlib.Core.List.{List, [], _∷_, _++_, append-nil, append-assoc}
 use borrow.Author.Tests.{eq-eqb, leb-false}
 use lib.Dec.{eqb}
 use lib.ListN.{length, take, drop, replicate, length-append, length-drop, length-replicate, take-append-drop}
@@ -93,6 +93,13 @@ module _ (m : List ℕ) (whole : length m ≡ 1026) (short : nameLength (nameByt
       let n = nameLength (take 1024 (drop 2 m)) in
       rw (take-take n 1024 (drop 2 m) (omega arith), append-nil)
 
+  -- it ends in zeros, after the name
+  pub name-ends : normalOf ConfigurationName m ≡ take (2 + nameLength (nameBytes m)) m ++ replicate (1024 - nameLength (nameBytes m)) 0
+  unfolding normalOf fixedPart
+  name-ends =
+      let n = nameLength (take 1024 (drop 2 m)) in
+      rw (take-add 2 n m, append-nil) (sym (append-assoc (take 2 m) (take n (drop 2 m)) (replicate (1024 - n) 0)))
+
   name-fixed : nameBytes (normalOf ConfigurationName m) ≡ filled (nameBytes m)
   unfolding fixedPart
   name-fixed =
@@ -148,7 +155,7 @@ name-normalised m whole short =
     }
 
 -- a message of its kind's size whose parts are all kept is its normal form
-kept : (k : Kind) (m : List ℕ) → allPlain (segmentsOf k (fixedPart k m)) ≡ true → sizeOf k (fixedPart k m) ≡ length m → normalOf k m ≡ m
+pub kept : (k : Kind) (m : List ℕ) → allPlain (segmentsOf k (fixedPart k m)) ≡ true → sizeOf k (fixedPart k m) ≡ length m → normalOf k m ≡ m
 unfolding normalOf sizeOf bodySize
 kept k m p whole =
     let h = fixedPart k m in

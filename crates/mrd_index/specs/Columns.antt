@@ -11,10 +11,12 @@ use lib.Dec.{ltb}
 use lib.ListN.{length, drop, set, length-map}
 use lib.Seq.{set-split}
 use Rattle.mrd_numbers.specs.Stored.{stored, front, stored-front}
-use Rattle.mrd_stream.specs.declared.cursor.Cursor.{Cursor}
-use Rattle.mrd_stream.specs.Walk.{messageLimit, Verdict, accepted, refused, answer, beginning}
+use Rattle.mrd_cursor.specs.declared.cursor.Cursor.{Cursor}
+use Rattle.mrd_cursor.specs.Cursors.{maxMessages, beginning}
+use Rattle.mrd_logic.specs.Answer.{Verdict, accepted, refused, Answer, answered, stream, number}
+use Rattle.mrd_stream.specs.Walk.{answer}
 use Rattle.mrd_stream.specs.Index.{Entry, entries, startColumn, idColumn, counterColumn}
-use Rattle.mrd_stream.specs.Output.{OutputAnswer, written, stream, number, answerBy}
+use Rattle.mrd_stream.specs.Output.{answerBy}
 use Rattle.mrd_stream.specs.Places.{Located, handed, over, step}
 use Rattle.mrd_stream.specs.StepLaws.{Passes, step-handed}
 use Rattle.mrd_index.specs.Counted.{step-few}
@@ -24,7 +26,7 @@ use Rattle.mrd_index.specs.Filling as filling
 use Rattle.mrd_index.specs.Filling.{inColumn, Filling}
 
 -- 'the stream refusal, then 14 if any column is too short', by the lengths of the three; else the number of records
-unfoldable pub columnsAnswer : List ℕ → ℕ → ℕ → ℕ → OutputAnswer
+unfoldable pub columnsAnswer : List ℕ → ℕ → ℕ → ℕ → Answer ℕ
 columnsAnswer s a b c =
     answerBy (answer s) (ltb a (length (entries s)) || (ltb b (length (entries s)) || ltb c (length (entries s)))) (length (entries s))
 
@@ -54,7 +56,7 @@ module _ (s : List ℕ) {n : ℕ} (e : answer s ≡ accepted n) (a b c : ℕ) wh
   counters-short f g h = simp (e, entries-count s e, le-ltb a n f, le-ltb b n g, lt-ltb c n h)
 
   module _ (f : n ≤ a) (g : n ≤ b) (h : n ≤ c) where
-    pub columns-fit : columnsAnswer s a b c ≡ written n
+    pub columns-fit : columnsAnswer s a b c ≡ answered n
     unfolding columnsAnswer
     columns-fit = simp (e, entries-count s e, le-ltb a n f, le-ltb b n g, le-ltb c n h)
 
@@ -100,7 +102,7 @@ module _ {s o p q starts ids counters : List ℕ} {c d : Cursor} {l : Located} (
   passes : Passes c s l d
   passes = step-handed c s e
 
-  pub few : l .number < messageLimit
+  pub few : l .number < maxMessages
   few = omega (arith, passes-number passes, step-few c s e)
 
   -- it has a place in each column

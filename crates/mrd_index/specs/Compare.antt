@@ -7,7 +7,9 @@ use lib.ListN.{drop}
 use Rattle.mrd_format.specs.Kinds.{idOf}
 use Rattle.mrd_format.specs.Message.{fixedPart}
 use Rattle.mrd_format.specs.Content.{counterOf}
-use Rattle.mrd_stream.specs.Walk.{messageLimit, Verdict, accepted, refused, Trace, message, done, answer}
+use Rattle.mrd_cursor.specs.Cursors.{maxMessages}
+use Rattle.mrd_logic.specs.Answer.{Verdict, accepted, refused}
+use Rattle.mrd_stream.specs.Walk.{Trace, message, done, answer}
 use Rattle.mrd_stream.specs.Index.{Entry, index, startColumn, idColumn, counterColumn}
 use Rattle.mrd_index.specs.declared.compare.Form.{Form}
 use Rattle.mrd_index.specs.declared.compare.Form
@@ -80,7 +82,7 @@ conclusion k f b (refused n r a) = stream n r a
 
 -- so many records as an accepted stream can have
 abbrev pub Counts : Verdict → Type 0
-Counts (accepted n) = n ≤ messageLimit
+Counts (accepted n) = n ≤ maxMessages
 Counts (refused n r b) = Unit {0}
 
 -- the answer from a trace on, where b says whether all was the same so far

@@ -10,7 +10,9 @@ use lib.Seq.{drop-drop}
 use Rattle.mrd_format.specs.Kinds.{idOf}
 use Rattle.mrd_format.specs.Message.{fixedPart}
 use Rattle.mrd_format.specs.Content.{counterOf}
-use Rattle.mrd_stream.specs.Walk.{Verdict, accepted, refused, Trace, message, done, beginning, trace, verdict, answer}
+use Rattle.mrd_logic.specs.Answer.{Verdict, accepted, refused}
+use Rattle.mrd_stream.specs.Walk.{Trace, message, done, trace, verdict, answer}
+use Rattle.mrd_cursor.specs.Cursors.{beginning}
 use Rattle.mrd_stream.specs.Index.{Entry, entriesOf, entries, entryFields, index, startColumn, idColumn, counterColumn}
 use Rattle.mrd_stream.specs.Seek.{Numbered, walk-numbered}
 use Rattle.mrd_index.specs.declared.compare.Form.the-variants.{File, Columns}

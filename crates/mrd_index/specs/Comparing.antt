@@ -4,8 +4,10 @@ use Prim.Native.Nat.{ℕ}
 use mathlib.Core.Path.{_≡_, refl, sym, ap, _∙_}
 use mathlib.Core.Bool.{Bool, true, false, _&&_}
 use mathlib.Core.List.{List}
-use Rattle.mrd_stream.specs.declared.cursor.Cursor.{Cursor}
-use Rattle.mrd_stream.specs.Walk.{Verdict, accepted, refused, beginning, trace, verdict, answer}
+use Rattle.mrd_cursor.specs.declared.cursor.Cursor.{Cursor}
+use Rattle.mrd_logic.specs.Answer.{Verdict, accepted, refused}
+use Rattle.mrd_cursor.specs.Cursors.{beginning}
+use Rattle.mrd_stream.specs.Walk.{trace, verdict, answer}
 use Rattle.mrd_stream.specs.Index.{Entry}
 use Rattle.mrd_stream.specs.Places.{Located, over, step}
 use Rattle.mrd_stream.specs.StepLaws.{Passes, On, on-start, on-next, on-end}

@@ -12,7 +12,7 @@ use Rattle.mrd_format.specs.Kinds.{idOf, fixedSize}
 use Rattle.mrd_format.specs.Message.{fixedPart}
 use Rattle.mrd_format.specs.MessageLaws.{well-least, well-fixed}
 use Rattle.mrd_format.specs.Content.{counterOf}
-use Rattle.mrd_stream.specs.declared.cursor.Cursor.{Cursor}
+use Rattle.mrd_cursor.specs.declared.cursor.Cursor.{Cursor}
 use Rattle.mrd_stream.specs.Walk.{Trace, message}
 use Rattle.mrd_stream.specs.Index.{Entry, entriesOf}
 use Rattle.mrd_stream.specs.Places.{Located}

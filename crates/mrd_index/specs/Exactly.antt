@@ -6,7 +6,8 @@ use mathlib.Core.Path.{_≡_, refl, sym, ap, _∙_}
 use mathlib.Core.Bool.{Bool, true, false, _&&_, true≢false}
 use mathlib.Core.List.{List}
 use lib.ListN.{length, take}
-use Rattle.mrd_stream.specs.Walk.{Verdict, accepted, refused, answer}
+use Rattle.mrd_logic.specs.Answer.{Verdict, accepted, refused}
+use Rattle.mrd_stream.specs.Walk.{answer}
 use Rattle.mrd_stream.specs.Index.{index, startColumn, idColumn, counterColumn}
 use Rattle.mrd_index.specs.Same.{begins, equal, equal-refl, equal-same, begins-take, take-begins}
 use Rattle.mrd_index.specs.Compare.{MatchAnswer, same, stream, number, matchedBy, fileMatch, columnsMatch}

@@ -5,7 +5,8 @@ use mathlib.Core.List.{List, _∷_, _++_}
 use lib.ListN.{length}
 use Rattle.mrd_numbers.specs.Little.{toBytes}
 use Rattle.mrd_stream.specs.Index.{Entry, tagged, index}
-use Rattle.mrd_stream.specs.Output.{OutputAnswer, answerFor, outputFor}
+use Rattle.mrd_logic.specs.Answer.{Answer}
+use Rattle.mrd_stream.specs.Output.{answerFor, outputFor}
 
 -- 'one-byte tag, two-byte length'
 abbrev pub tagField : ℕ → ℕ → List ℕ
@@ -24,7 +25,7 @@ abbrev pub endField : ℕ → List ℕ
 endField n = tagged 4 (toBytes 4 n)
 
 -- the answer for the stream s and an output of so many bytes
-abbrev pub indexAnswer : List ℕ → ℕ → OutputAnswer
+abbrev pub indexAnswer : List ℕ → ℕ → Answer ℕ
 indexAnswer s room = answerFor s (length (index s)) room
 
 -- the output afterwards, which held o

@@ -7,9 +7,10 @@ use mathlib.Core.List.{List, [], _∷_, _++_, append-assoc}
 use lib.ListN.{length, drop, set, length-append}
 use Rattle.mrd_numbers.specs.Little.{toBytes}
 use Rattle.mrd_numbers.specs.Stored.{stored, stored-front, length-stored, stored-next, stored-lent, lentFrom, returned, front-first, front-next}
-use Rattle.mrd_stream.specs.Walk.{accepted, answer}
+use Rattle.mrd_logic.specs.Answer.{accepted, answered}
+use Rattle.mrd_stream.specs.Walk.{answer}
 use Rattle.mrd_stream.specs.Index.{Entry, entries, entryFields, index}
-use Rattle.mrd_stream.specs.Output.{written, Answered, output-fits}
+use Rattle.mrd_stream.specs.Output.{Answered, output-fits}
 use Rattle.mrd_index.specs.Counted.{counted}
 use Rattle.mrd_index.specs.File.{frontField, entryField, endField}
 
@@ -69,7 +70,7 @@ module _ (s : List ℕ) {n : ℕ} (e : answer s ≡ accepted n) where
     front-room = rw (fronted, length-stored 0 (frontField (length s)) o (omega arith), entries-long) (omega arith)
 
     pub all-written : (b x : List ℕ) → b ≡ stored 16 (entryFields (entries s)) a → x ≡ endField n ++ drop 7 (lentFrom (16 + 17 * n) b) →
-        Answered s (length (index s)) (index s) o (written (16 + 17 * n + 7)) (returned (16 + 17 * n) b x)
+        Answered s (length (index s)) (index s) o (answered (16 + 17 * n + 7)) (returned (16 + 17 * n) b x)
     all-written b x p q =
         let f = frontField (length s) in
         let es = entryFields (entries s) in
@@ -81,4 +82,4 @@ module _ (s : List ℕ) {n : ℕ} (e : answer s ≡ accepted n) where
         stored-lent (16 + 17 * n) b t x q ∙ rw (filled, place) (stored-next 0 (f ++ es) t o fits) in
         let whole : (f ++ es) ++ t ≡ index s = append-assoc f es t ∙ sym index-fields in
         let right = output-fits s (length (index s)) (index s) o e (rw index-long h) in
-        (ap written (sym index-long) ∙ right .0, ended ∙ rw whole (stored-front (index s) o ∙ right .1))
+        (ap answered (sym index-long) ∙ right .0, ended ∙ rw whole (stored-front (index s) o ∙ right .1))

@@ -7,11 +7,13 @@ use mathlib.Core.Path.{_≡_, refl, sym, ap, _∙_}
 use mathlib.Core.List.{List, [], _∷_, _++_, map, append-nil, append-assoc}
 use lib.ListN.{length, drop, length-append, take-append-drop}
 use Rattle.mrd_numbers.specs.Stored.{stored, length-stored, stored-next}
-use Rattle.mrd_stream.specs.declared.cursor.Cursor.{Cursor}
-use Rattle.mrd_stream.specs.Walk.{Trace, message, beginning, Verdict}
+use Rattle.mrd_cursor.specs.declared.cursor.Cursor.{Cursor}
+use Rattle.mrd_stream.specs.Walk.{Trace, message, from}
+use Rattle.mrd_cursor.specs.Cursors.{beginning}
+use Rattle.mrd_logic.specs.Answer.{Verdict}
 use Rattle.mrd_stream.specs.Index.{Entry, entriesOf, entries, entryFields}
 use Rattle.mrd_stream.specs.Places.{Located, over, step}
-use Rattle.mrd_stream.specs.StepLaws.{from, Passes, On, on-start, on-next, on-end}
+use Rattle.mrd_stream.specs.StepLaws.{Passes, On, on-start, on-next, on-end}
 use Rattle.mrd_index.specs.Entries.{entryAt, passes-number, passes-entry}
 use Rattle.mrd_index.specs.File.{entryField}
 

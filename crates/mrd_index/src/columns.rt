@@ -2,14 +2,15 @@
 ghost use mathlib.Core.Path.{_≡_};
 ghost use lib.ListN.{length};
 ghost use Rattle.mrd_numbers.specs.Stored.{front};
-ghost use Rattle.mrd_stream.specs.Walk.{accepted, answer};
+ghost use Rattle.mrd_logic.specs.Answer.{accepted};
+ghost use Rattle.mrd_stream.specs.Walk.{answer};
 ghost use Rattle.mrd_stream.specs.Index.{startColumn, idColumn, counterColumn};
 ghost use Rattle.mrd_stream.specs.Output.{toldWritten, outputBy};
 ghost use Rattle.mrd_index.specs.Columns.{columnsAnswer, Rooms};
 use crate::entry::entry_of;
+use mrd_cursor::Cursor;
 use mrd_format::refusal;
 use mrd_stream::Checked;
-use mrd_stream::Cursor;
 use mrd_stream::Step;
 use mrd_stream::Written;
 use mrd_stream::check;
@@ -45,13 +46,13 @@ fn fill(
     ensures { λ r. ⌜ now (counters .exit) ≡ outputBy (toldWritten r) (counterColumn (now (s .entry))) (now (counters .entry)) ⌝ }
 {
     if starts.len() < count {
-        return Written::Refused(refusal::OUTPUT);
+        return Written::Refused(refusal::OUTPUT_SHORT);
     }
     if ids.len() < count {
-        return Written::Refused(refusal::OUTPUT);
+        return Written::Refused(refusal::OUTPUT_SHORT);
     }
     if counters.len() < count {
-        return Written::Refused(refusal::OUTPUT);
+        return Written::Refused(refusal::OUTPUT_SHORT);
     }
     put_places(s, starts, ids, counters);
     Written::Length(count)
@@ -66,7 +67,7 @@ fn put_places(s: &[u8], starts: &mut [u64], ids: &mut [u16], counters: &mut [u32
 {
     let mut c = Cursor::beginning();
     loop {
-        let step = c.next(s);
+        let step = mrd_stream::next(c, s);
         match step {
             Step::Message(record, next) => {
                 let place = record.place;

@@ -5,7 +5,8 @@ ghost use Prim.Native.Nat.{_+_, _*_, _≤_, _<_, _^_};
 ghost use mathlib.Core.List.{[], _∷_};
 ghost use lib.ListN.{length, drop};
 ghost use Rattle.mrd_numbers.specs.Little.{toBytes};
-ghost use Rattle.mrd_stream.specs.Walk.{messageLimit, trace};
+ghost use Rattle.mrd_cursor.specs.Cursors.{maxMessages};
+ghost use Rattle.mrd_stream.specs.Walk.{trace};
 ghost use Rattle.mrd_stream.specs.Told.{toldChecked, toldRecord};
 ghost use Rattle.mrd_index.specs.Entries.{toldEntry, entryAt, Within};
 ghost use Rattle.mrd_index.specs.File.{tagField, frontField, entryField, endField};
@@ -16,11 +17,11 @@ use crate::entry::entry_of;
 use crate::file::END;
 use crate::file::ENTRY;
 use crate::file::FRONT;
+use mrd_cursor::Cursor;
 use mrd_numbers::read_u16;
 use mrd_numbers::read_u32;
 use mrd_numbers::read_u64;
 use mrd_stream::Checked;
-use mrd_stream::Cursor;
 use mrd_stream::Record;
 use mrd_stream::Refusal;
 use mrd_stream::Step;
@@ -74,7 +75,7 @@ pub(crate) fn compare(
     let mut same = front_same(form, file, s.len() as u64);
     let mut c = Cursor::beginning();
     loop {
-        let step = c.next(s);
+        let step = mrd_stream::next(c, s);
         match step {
             Step::Message(record, next) => {
                 if same {
@@ -99,7 +100,7 @@ fn record_same(
     ids: &[u16],
     counters: &[u32],
 ) -> bool
-    requires { ⌜ Within (now s) (toldRecord here) × (here .place .number < messageLimit) ⌝ }
+    requires { ⌜ Within (now s) (toldRecord here) × (here .place .number < maxMessages) ⌝ }
     ensures { λ r. ⌜ r ≡ entrySame (lent form (now (file .entry)) (now (starts .entry)) (now (ids .entry)) (now (counters .entry))) (here .place .number) (entryAt (now (s .entry)) (toldRecord here)) ⌝ }
 {
     let place = here.place;
@@ -201,7 +202,7 @@ fn concluded(same: bool, answer: Checked, form: Form, file: &[u8]) -> Matched
 
 // Whether the lent form ends as the index of a stream of so many records.
 fn end_same(form: Form, file: &[u8], count: usize) -> bool
-    requires { ⌜ count ≤ messageLimit ⌝ }
+    requires { ⌜ count ≤ maxMessages ⌝ }
     ensures { λ r. ⌜ r ≡ endBy form (now (file .entry)) count ⌝ }
 {
     match form {

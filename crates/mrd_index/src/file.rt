@@ -4,19 +4,20 @@ ghost use mathlib.Core.List.{_++_};
 ghost use Prim.Native.Nat.{_+_, _≤_};
 ghost use lib.ListN.{length, drop};
 ghost use Rattle.mrd_numbers.specs.Stored.{stored};
-ghost use Rattle.mrd_stream.specs.Walk.{accepted, answer};
+ghost use Rattle.mrd_logic.specs.Answer.{accepted};
+ghost use Rattle.mrd_stream.specs.Walk.{answer};
 ghost use Rattle.mrd_stream.specs.Index.{entries, entryFields};
 ghost use Rattle.mrd_stream.specs.Output.{toldWritten};
 ghost use Rattle.mrd_index.specs.Entries.{toldEntry};
 ghost use Rattle.mrd_index.specs.File.{tagField, frontField, entryField, endField, indexAnswer, indexOutput};
 use crate::entry::Entry;
 use crate::entry::entry_of;
+use mrd_cursor::Cursor;
 use mrd_format::refusal;
 use mrd_numbers::put_u16;
 use mrd_numbers::put_u32;
 use mrd_numbers::put_u64;
 use mrd_stream::Checked;
-use mrd_stream::Cursor;
 use mrd_stream::Step;
 use mrd_stream::Written;
 use mrd_stream::check;
@@ -53,7 +54,7 @@ fn write(s: &[u8], count: usize, out: &mut [u8]) -> Written
     let end = FRONT + ENTRY * count;
     let size = end + END;
     if out.len() < size {
-        return Written::Refused(refusal::OUTPUT);
+        return Written::Refused(refusal::OUTPUT_SHORT);
     }
     put_front(out, s.len() as u64);
     put_entries(s, out);
@@ -68,7 +69,7 @@ fn put_entries(s: &[u8], out: &mut [u8])
 {
     let mut c = Cursor::beginning();
     loop {
-        let step = c.next(s);
+        let step = mrd_stream::next(c, s);
         match step {
             Step::Message(record, next) => {
                 let place = record.place;

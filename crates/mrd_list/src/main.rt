@@ -3,8 +3,8 @@
 // comes after the first byte too many is not read.
 use libc::STDIN_FILENO;
 use libc::STDOUT_FILENO;
+use mrd_cursor::Cursor;
 use mrd_stream::Checked;
-use mrd_stream::Cursor;
 use mrd_stream::Record;
 use mrd_stream::Refusal;
 use mrd_stream::Step;
@@ -44,7 +44,7 @@ fn list(s: &[u8]) {
 fn list_records(s: &[u8]) {
     let mut c = Cursor::beginning();
     loop {
-        let step = c.next(s);
+        let step = mrd_stream::next(c, s);
         match step {
             Step::Message(record, next) => {
                 list_record(record);

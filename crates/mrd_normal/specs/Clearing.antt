@@ -9,8 +9,11 @@ use lib.Seq.{take-append-add, take-append-le, drop-at}
 use borrow.Author.Fill.{fill-none, fill-more}
 use borrow.Rule.Slice.PartMut.{midOf, postOf, putMid, mid-len, post-is}
 use Rattle.mrd_stream.specs.declared.answer.Record.{Record}
-use Rattle.mrd_stream.specs.declared.cursor.Cursor.{Cursor}
-use Rattle.mrd_stream.specs.Walk.{Judged, faulty, whole, judge, Verdict, accepted, beginning, verdict, answer}
+use Rattle.mrd_cursor.specs.declared.cursor.Cursor.{Cursor}
+use Rattle.mrd_judge.specs.Judge.{Judged, faulty, whole, judge}
+use Rattle.mrd_logic.specs.Answer.{Verdict, accepted}
+use Rattle.mrd_cursor.specs.Cursors.{beginning}
+use Rattle.mrd_stream.specs.Walk.{verdict, answer}
 use Rattle.mrd_stream.specs.Normal.{normalFrom, normal}
 use Rattle.mrd_stream.specs.Places.{Located, handed, over, stepBy, stepAt, step}
 use Rattle.mrd_stream.specs.StepLaws.{Passes, step-handed, On, on-start, on-next, on-end}

@@ -3,7 +3,7 @@
 use Prim.Native.Nat.{ℕ, _+_, _-_, _≤_, _<_}
 use native.Mathlib.Nat.{sub-zero}
 use native.Mathlib.Omega.{arith}
-use mathlib.Core.Path.{_≡_, refl, ap}
+use mathlib.Core.Path.{_≡_, refl, ap, sym}
 use mathlib.Core.List.{List, _++_, append-nil}
 use lib.ListN.{length, take, replicate, length-append, length-replicate}
 use lib.Seq.{take-length, length-take-le}
@@ -15,9 +15,9 @@ use Rattle.mrd_format.specs.Shapes.{kindOf, toldNumbers}
 use Rattle.mrd_logic.specs.Checks.{first}
 use Rattle.mrd_format.specs.Message.{fixedPart, nameLength, ownChecks, bodySize, sizeOf, numbersOf}
 use Rattle.mrd_format.specs.Content.{normalOf}
-use Rattle.mrd_format.specs.NormalLaws.{nameBytes, name-short}
+use Rattle.mrd_format.specs.NormalLaws.{nameBytes, name-short, name-ends, kept}
 use Rattle.mrd_stream.specs.declared.answer.Record.{Record}
-use Rattle.mrd_stream.specs.declared.cursor.Cursor.{Cursor}
+use Rattle.mrd_cursor.specs.declared.cursor.Cursor.{Cursor}
 use Rattle.mrd_stream.specs.Places.{Located, located}
 use Rattle.mrd_stream.specs.StepLaws.{Passes}
 use Rattle.mrd_stream.specs.Told.{toldRecord}
@@ -51,20 +51,20 @@ unfilled k m e = record { within = omega arith; normal = rw (e, sub-zero, take-l
 filled-as : (h : Shape) (m : List ℕ) → toldNumbers h ≡ numbersOf (kindOf h) (fixedPart (kindOf h) m) →
     first (ownChecks (kindOf h) (fixedPart (kindOf h) m)) ≡ 0 → sizeOf (kindOf h) (fixedPart (kindOf h) m) ≡ length m →
     Filled (kindOf h) m (fillerOf h)
-unfolding normalOf numbersOf sizeOf bodySize
+unfolding numbersOf sizeOf bodySize
 filled-as (ConfigurationName s) m told sound whole =
     let n = nameLength (nameBytes m) in
     let same : s .length ≡ n = cc in
     let short : n < 1024 = name-short m sound in
-    let kept : length m - (1024 - n) ≡ 2 + n = omega arith in
-    record { within = omega arith; normal = rw (same, kept) }
-filled-as (ConfigurationText s) m told sound whole = unfilled Kind.ConfigurationText m refl
-filled-as (HeaderText s) m told sound whole = unfilled Kind.HeaderText m refl
-filled-as Close m told sound whole = unfilled Kind.Close m refl
-filled-as (Text s) m told sound whole = unfilled Kind.Text m refl
-filled-as (Acquisition s) m told sound whole = unfilled Kind.Acquisition m refl
-filled-as (Image s) m told sound whole = unfilled Kind.Image m refl
-filled-as (Waveform s) m told sound whole = unfilled Kind.Waveform m refl
+    let stays : length m - (1024 - n) ≡ 2 + n = omega arith in
+    record { within = omega arith; normal = rw (same, stays) (name-ends m (sym whole) short) }
+filled-as (ConfigurationText s) m told sound whole = unfilled Kind.ConfigurationText m (kept Kind.ConfigurationText m refl whole)
+filled-as (HeaderText s) m told sound whole = unfilled Kind.HeaderText m (kept Kind.HeaderText m refl whole)
+filled-as Close m told sound whole = unfilled Kind.Close m (kept Kind.Close m refl whole)
+filled-as (Text s) m told sound whole = unfilled Kind.Text m (kept Kind.Text m refl whole)
+filled-as (Acquisition s) m told sound whole = unfilled Kind.Acquisition m (kept Kind.Acquisition m refl whole)
+filled-as (Image s) m told sound whole = unfilled Kind.Image m (kept Kind.Image m refl whole)
+filled-as (Waveform s) m told sound whole = unfilled Kind.Waveform m (kept Kind.Waveform m refl whole)
 
 -- the filler that a message's record tells
 pub told-filler : {c d : Cursor} {s : List ℕ}

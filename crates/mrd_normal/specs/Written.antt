@@ -4,10 +4,11 @@ use Prim.Native.Nat.{ℕ}
 use mathlib.Core.List.{List}
 use lib.ListN.{length}
 use Rattle.mrd_stream.specs.Normal.{normal}
-use Rattle.mrd_stream.specs.Output.{OutputAnswer, answerFor, outputFor}
+use Rattle.mrd_logic.specs.Answer.{Answer}
+use Rattle.mrd_stream.specs.Output.{answerFor, outputFor}
 
 -- the answer for the stream s and an output of so many bytes: the normal form is as long as the stream
-abbrev pub normalAnswer : List ℕ → ℕ → OutputAnswer
+abbrev pub normalAnswer : List ℕ → ℕ → Answer ℕ
 normalAnswer s room = answerFor s (length s) room
 
 -- the output afterwards, which held o

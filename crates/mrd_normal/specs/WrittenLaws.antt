@@ -6,9 +6,10 @@ use mathlib.Core.Path.{_≡_, ap, _∙_}
 use mathlib.Core.List.{List, _++_}
 use lib.ListN.{length, take, drop, length-append}
 use lib.Seq.{take-length, take-append-seam, drop-append-seam}
-use Rattle.mrd_stream.specs.Walk.{accepted, answer}
+use Rattle.mrd_logic.specs.Answer.{accepted, answered}
+use Rattle.mrd_stream.specs.Walk.{answer}
 use Rattle.mrd_stream.specs.Normal.{normal}
-use Rattle.mrd_stream.specs.Output.{written, Answered, output-fits}
+use Rattle.mrd_stream.specs.Output.{Answered, output-fits}
 use Rattle.mrd_normal.specs.Clearing.{Copied}
 
 -- an accepted stream, and an output long enough
@@ -21,9 +22,9 @@ module _ (s o : List ℕ) {n : ℕ} (e : answer s ≡ accepted n) (h : length s 
 
   -- and then cleared
   pub all-written : {k : ℕ} {c out : List ℕ} → k ≡ length s → c ≡ take (length s) s ++ drop (length s) o → out ≡ normal s ++ drop (length s) c →
-      Answered s (length s) (normal s) o (written k) out
+      Answered s (length s) (normal s) o (answered k) out
   all-written {k} {c} {out} size q p =
       let whole : c ≡ s ++ drop (length s) o = q ∙ rw take-length in
       let rest : drop (length s) c ≡ drop (length s) o = rw whole (drop-append-seam s (drop (length s) o)) in
       let right = output-fits s (length s) (normal s) o e h in
-      (ap written size ∙ right .0, p ∙ rw rest (right .1))
+      (ap answered size ∙ right .0, p ∙ rw rest (right .1))

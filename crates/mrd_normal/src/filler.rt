@@ -6,9 +6,9 @@ ghost use lib.ListN.{length, drop, replicate};
 ghost use Rattle.mrd_stream.specs.Normal.{normal};
 ghost use Rattle.mrd_normal.specs.Filler.{fillerOf};
 ghost use Rattle.mrd_normal.specs.Clearing.{Copied};
+use mrd_cursor::Cursor;
 use mrd_format::Kind;
 use mrd_format::Shape;
-use mrd_stream::Cursor;
 use mrd_stream::Step;
 
 // Makes the filler of each configuration name zero, where the front of out is a copy of the accepted
@@ -19,7 +19,7 @@ pub(crate) fn clear_fillers(s: &[u8], out: &mut [u8])
 {
     let mut c = Cursor::beginning();
     loop {
-        let step = c.next(s);
+        let step = mrd_stream::next(c, s);
         match step {
             Step::Message(record, next) => {
                 let shape = record.shape;

@@ -8,7 +8,8 @@ mod filler;
 ghost use mathlib.Core.Path.{_≡_};
 ghost use Prim.Native.Nat.{ℕ};
 ghost use lib.ListN.{length};
-ghost use Rattle.mrd_stream.specs.Walk.{accepted, answer};
+ghost use Rattle.mrd_logic.specs.Answer.{accepted};
+ghost use Rattle.mrd_stream.specs.Walk.{answer};
 ghost use Rattle.mrd_stream.specs.Output.{toldWritten};
 ghost use Rattle.mrd_normal.specs.Written.{normalAnswer, normalOutput};
 use mrd_format::refusal;
@@ -37,7 +38,7 @@ fn write(s: &[u8], out: &mut [u8]) -> Written
     ensures { λ _. ⌜ now (out .exit) ≡ normalOutput (now (s .entry)) (now (out .entry)) ⌝ }
 {
     if out.len() < s.len() {
-        return Written::Refused(refusal::OUTPUT);
+        return Written::Refused(refusal::OUTPUT_SHORT);
     }
     let length = bytes::copy(s, out);
     filler::clear_fillers(s, out);

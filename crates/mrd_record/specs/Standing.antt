@@ -7,35 +7,37 @@ use mathlib.Core.List.{List, _++_}
 use lib.ListN.{length, take, drop, length-append, length-drop}
 use lib.Seq.{take-append-seam}
 use Rattle.mrd_format.specs.Message.{fixedPart, numbersOf, WellFormed}
-use Rattle.mrd_stream.specs.declared.cursor.Cursor.{Cursor}
-use Rattle.mrd_stream.specs.Walk.{Verdict, accepted, refused, beginning, Trace, message, done, trace, verdict, answer}
-use Rattle.mrd_stream.specs.Places as answers
-use Rattle.mrd_stream.specs.Places.{Located, located, places, Answer, found, stream, number, nth, place, Stepped, handed, over, step}
+use Rattle.mrd_cursor.specs.declared.cursor.Cursor.{Cursor}
+use Rattle.mrd_logic.specs.Answer.{Verdict, accepted, refused, Answer, answered, stream, number}
+use Rattle.mrd_cursor.specs.Cursors.{beginning}
+use Rattle.mrd_stream.specs.Walk.{Trace, message, done, trace, verdict, answer}
+use Rattle.mrd_logic.specs.Answer as answers
+use Rattle.mrd_stream.specs.Places.{Located, located, places, nth, place, Stepped, handed, over, step}
 use Rattle.mrd_stream.specs.StepLaws.{Passes, step-handed}
 use Rattle.mrd_cut.specs.Places.{partAt}
 use Rattle.mrd_cut.specs.Inside.{Inside, place-inside}
 use Rattle.mrd_cut.specs.Steps.{Handed, steps-follow}
 
 -- the record that a step hands out; where the walk is over, the stream's refusal, or 16: 'no such record'
-abbrev pub placeBy : Stepped → Answer
-placeBy (handed l d) = found l
+abbrev pub placeBy : Stepped → Answer Located
+placeBy (handed l d) = answered l
 placeBy (over (accepted n)) = number 16
 placeBy (over (refused f r b)) = stream f r b
 
-unfoldable pub placeAt : Cursor → List ℕ → Answer
+unfoldable pub placeAt : Cursor → List ℕ → Answer Located
 placeAt c s = placeBy (step c s)
 
 -- an answered place lies in s
-abbrev pub LiesIn : List ℕ → Answer → Type 0
-LiesIn s (found l) = Inside s l
+abbrev pub LiesIn : List ℕ → Answer Located → Type 0
+LiesIn s (answered l) = Inside s l
 LiesIn s (stream f r b) = Unit {0}
 LiesIn s (number n) = Unit {0}
 
 pub place-lies : (s : List ℕ) (n : ℕ) → LiesIn s (place s n)
 place-lies s n = by (place s n) refl
   where
-    by : (a : Answer) → place s n ≡ a → LiesIn s a
-    by (found l) e = place-inside s n e
+    by : (a : Answer Located) → place s n ≡ a → LiesIn s a
+    by (answered l) e = place-inside s n e
     by (stream f r b) e = tt
     by (number k) e = tt
 
@@ -74,7 +76,7 @@ reached-place : (s : List ℕ) (c d : Cursor) (n : ℕ) (r : Trace) {k : ℕ} �
     placeAt d s ≡ nth (places r) n
 unfolding placeAt
 reached-place s c d zero (message b k m r) h e a =
-    ap (λ (x : Cursor). placeBy (step x s)) (sym e) ∙ ap placeBy (h .1 .1) ∙ ap (λ (x : Cursor). found (located x k m)) (sym (h .0))
+    ap (λ (x : Cursor). placeBy (step x s)) (sym e) ∙ ap placeBy (h .1 .1) ∙ ap (λ (x : Cursor). answered (located x k m)) (sym (h .0))
 reached-place s c d zero (done v) h e a =
     ap (λ (x : Cursor). placeBy (step x s)) (sym e) ∙ ap placeBy h ∙ ap (λ (v : Verdict). placeBy (over v)) a
 reached-place s c d (suc n) (message b k m r) h e a =
@@ -89,4 +91,4 @@ reached-place s c d (suc n) (done v) h e a = absurd (not-over (sym h ∙ e .1 .1
 pub walked-place : (s : List ℕ) {k : ℕ} → answer s ≡ accepted k → (n : ℕ) (d : Cursor) → Reached s beginning n d → placeAt d s ≡ place s n
 unfolding place answer
 walked-place s {k} a n d e =
-    reached-place s beginning d n (trace s) (steps-follow s) e a ∙ sym (ap (λ (v : Verdict). answers.placeBy v (places (trace s)) n) a)
+    reached-place s beginning d n (trace s) (steps-follow s) e a ∙ sym (ap (λ (v : Verdict). answers.unlessRefused v (nth (places (trace s)) n)) a)

@@ -3,8 +3,8 @@
 use mathlib.Core.Path.{_≡_}
 use mathlib.Core.Bool.{Bool, true}
 use lib.Dec.{T}
-use Rattle.mrd_field.specs.Field.{number}
-use Rattle.mrd_field.specs.Told.{told, nanApart}
+use Rattle.mrd_element.specs.Field.{number}
+use Rattle.mrd_element.specs.Told.{told, nanApart}
 use Rattle.mrd_record.specs.declared.views.ViewPlace.{ViewPlace}
 use Rattle.mrd_record.specs.declared.views.ViewPlace
 use Rattle.mrd_record.specs.declared.fields.FieldAnswer.{FieldAnswer}

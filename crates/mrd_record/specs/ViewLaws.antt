@@ -21,7 +21,8 @@ use Rattle.mrd_format.specs.Content.{Extent, extent}
 use Rattle.mrd_format.specs.Acquisition as acquisition
 use Rattle.mrd_format.specs.Image as image
 use Rattle.mrd_format.specs.Waveform as waveform
-use Rattle.mrd_stream.specs.Places.{Located, Answer, found, stream, number}
+use Rattle.mrd_stream.specs.Places.{Located}
+use Rattle.mrd_logic.specs.Answer.{Answer, answered, stream, number}
 use Rattle.mrd_cut.specs.Places.{partAt}
 use Rattle.mrd_cut.specs.Inside.{Inside}
 use Rattle.mrd_record.specs.declared.parts.Part.{Part}
@@ -150,8 +151,8 @@ ViewIn s (faulty f r b) = Unit {0}
 ViewIn s (refusal n) = Unit {0}
 
 -- a view of a record that lies in the stream does
-pub view-fits : (s : List ℕ) (a : Answer) (p : Part) → LiesIn s a → ViewIn s (viewBy a p s)
-view-fits s (found l) p x = by (extentOf p (l .kind) (fixedPart (l .kind) (partAt s l))) refl
+pub view-fits : (s : List ℕ) (a : Answer Located) (p : Part) → LiesIn s a → ViewIn s (viewBy a p s)
+view-fits s (answered l) p x = by (extentOf p (l .kind) (fixedPart (l .kind) (partAt s l))) refl
   where
     by : (r : Reach) → extentOf p (l .kind) (fixedPart (l .kind) (partAt s l)) ≡ r → ViewIn s (shownAt r (l .start))
     by (lies d) q = part-fits s l x p q

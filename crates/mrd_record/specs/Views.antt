@@ -4,7 +4,8 @@ use Prim.Native.Nat.{ℕ, _+_}
 use mathlib.Core.List.{List, []}
 use lib.ListN.{take, drop}
 use Rattle.mrd_format.specs.Message.{fixedPart}
-use Rattle.mrd_stream.specs.Places.{Answer, found, stream, number, place}
+use Rattle.mrd_stream.specs.Places.{Located, place}
+use Rattle.mrd_logic.specs.Answer.{Answer, answered, stream, number}
 use Rattle.mrd_cut.specs.Places.{partAt}
 use Rattle.mrd_record.specs.declared.parts.Part.{Part}
 use Rattle.mrd_record.specs.Parts.{Reach, lies, lacks, extentOf}
@@ -20,8 +21,8 @@ abbrev pub shownAt : Reach → ℕ → Shown
 shownAt (lies e) start = at (start + e .offset) (e .size)
 shownAt lacks start = refusal 17
 
-abbrev pub viewBy : Answer → Part → List ℕ → Shown
-viewBy (found l) p s = shownAt (extentOf p (l .kind) (fixedPart (l .kind) (partAt s l))) (l .start)
+abbrev pub viewBy : Answer Located → Part → List ℕ → Shown
+viewBy (answered l) p s = shownAt (extentOf p (l .kind) (fixedPart (l .kind) (partAt s l))) (l .start)
 viewBy (stream f r b) p s = faulty f r b
 viewBy (number n) p s = refusal n
 

@@ -5,7 +5,7 @@ ghost use Rattle.mrd_record.specs.Standing.{LiesIn};
 ghost use Rattle.mrd_stream.specs.Told.{toldPlaced};
 ghost use Rattle.mrd_record.specs.Told.{TellsField};
 use crate::views::fixed_part;
-use mrd_field::Value;
+use mrd_element::Value;
 use mrd_stream::Placed;
 use mrd_stream::Refusal;
 
@@ -36,7 +36,7 @@ pub(crate) fn placed_field(placed: Placed, s: &[u8], offset: usize) -> FieldAnsw
     match placed {
         Placed::Found(here) => {
             let shape = here.shape;
-            FieldAnswer::Value(mrd_field::field(shape.kind(), fixed_part(s, here), offset))
+            FieldAnswer::Value(mrd_element::field(shape.kind(), fixed_part(s, here), offset))
         }
         Placed::Stream(refusal) => FieldAnswer::Stream(refusal),
         Placed::Refused(number) => FieldAnswer::Refused(number),

@@ -12,9 +12,9 @@ use crate::parts::Part;
 use crate::views::ViewPlace;
 use crate::views::placed_view;
 use crate::views::viewed;
+use mrd_cursor::Cursor;
 use mrd_format::refusal;
 use mrd_stream::Checked;
-use mrd_stream::Cursor;
 use mrd_stream::Placed;
 use mrd_stream::Step;
 
@@ -47,7 +47,7 @@ pub fn field_at(c: Cursor, s: &[u8], offset: usize) -> FieldAnswer
 fn place_at(c: Cursor, s: &[u8]) -> Placed
     ensures { λ r. ⌜ toldPlaced r ≡ placeAt c (now (s .entry)) ⌝ }
 {
-    let step = c.next(s);
+    let step = mrd_stream::next(c, s);
     match step {
         Step::Message(here, _) => Placed::Found(here),
         Step::End(answer) => ended(answer),

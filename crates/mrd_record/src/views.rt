@@ -5,7 +5,7 @@ ghost use lib.ListN.{take, drop};
 ghost use lib.ListN.{length as List·length};
 ghost use Rattle.mrd_format.specs.Message.{fixedPart};
 ghost use Rattle.mrd_format.specs.Shapes.{kindOf};
-ghost use Rattle.mrd_stream.specs.Places.{found};
+ghost use Rattle.mrd_logic.specs.Answer.{answered};
 ghost use Rattle.mrd_stream.specs.Told.{toldRecord, toldPlaced};
 ghost use Rattle.mrd_cut.specs.Places.{partAt};
 ghost use Rattle.mrd_cut.specs.Inside.{Inside};
@@ -90,7 +90,7 @@ fn spanned(s: &[u8], start: usize, length: usize) -> &[u8]
 // Where a part of a record that lies in s is.
 fn record_view(s: &[u8], here: Record, part: Part) -> ViewPlace
     requires { ⌜ Inside (now s) (toldRecord here) ⌝ }
-    ensures { λ r. ⌜ toldView r ≡ viewBy (found (toldRecord here)) part (now (s .entry)) ⌝ }
+    ensures { λ r. ⌜ toldView r ≡ viewBy (answered (toldRecord here)) part (now (s .entry)) ⌝ }
 {
     let place = here.place;
     let shape = here.shape;

@@ -12,9 +12,12 @@ use Rattle.mrd_format.specs.Kinds.{identified}
 use Rattle.mrd_format.specs.Message.{fixedPart, ownChecks, bodySize, sizeOf, textLength}
 use Rattle.mrd_format.specs.Acquisition as acquisition
 use Rattle.mrd_format.specs.Content.{counterOf}
-use Rattle.mrd_format.specs.Flags.{flagSet, withBit, bit}
-use Rattle.mrd_format.specs.Counters.{counterStep, signed}
-use Rattle.mrd_stream.specs.Walk.{Verdict, accepted, refused, answer, trace, walk, judge, judgeAs, checksAs, earlyChecks, lateChecks, ended}
+use Rattle.mrd_flags.specs.Flags.{flagSet, withBit, bit}
+use Rattle.mrd_counter_step.specs.Counters.{counterStep, signed}
+use Rattle.mrd_logic.specs.Answer.{Verdict, accepted, refused}
+use Rattle.mrd_stream.specs.Walk.{answer, trace, walk, ended}
+use Rattle.mrd_judge.specs.Judge.{judge, judgeAs}
+use Rattle.mrd_judge.specs.Stages.{checksAs, frontChecks, idChecks, fixedChecks, sizeChecks}
 use Rattle.mrd_logic.specs.Every.{Every}
 use Rattle.mrd_stream.specs.Index.{index, entries}
 
@@ -68,6 +71,6 @@ examples =
     []
 
 pub worked-examples : Every Holds examples
-unfolding answer trace walk judge judgeAs checksAs earlyChecks lateChecks ended identified num fixedPart ownChecks bodySize sizeOf textLength acquisition.bodySize acquisition.trajectorySize acquisition.channelSize flagSet withBit bit counterStep signed index entries counterOf
+unfolding answer trace walk judge judgeAs checksAs frontChecks idChecks fixedChecks sizeChecks ended identified num fixedPart ownChecks bodySize sizeOf textLength acquisition.bodySize acquisition.trajectorySize acquisition.channelSize flagSet withBit bit counterStep signed index entries counterOf
 worked-examples =
     (refl, (refl, (refl, (refl, (refl, (refl, (refl, (refl, (refl, (refl, (refl, (refl, (refl, (refl, (refl, tt)))))))))))))))

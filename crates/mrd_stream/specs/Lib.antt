@@ -1,15 +1,12 @@
-pub mod Order
 pub mod Walk
 pub mod Places
 pub mod Records
 pub mod Cut
 pub mod Normal
 pub mod Index
-pub mod OrderLaws
-pub mod Judged
-pub mod JudgeLaws
 pub mod WalkLaws
 pub mod StepLaws
+pub mod NextLaws
 pub mod Seek
 pub mod Told
 pub mod Output

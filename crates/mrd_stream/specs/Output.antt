@@ -3,40 +3,34 @@
 -- Assumes nothing.
 use Prim.Native.Nat.{ℕ, _≤_, _<_}
 use mathlib.Core.Path.{_≡_, sym, ap}
-use mathlib.Core.Bool.{Bool, true, false}
+use mathlib.Core.Bool.{Bool}
 use mathlib.Core.List.{List, _++_}
 use borrow.Author.Tests.{lt-ltb, le-ltb}
 use lib.Dec.{ltb}
 use lib.ListN.{length, drop}
 use Rattle.mrd_stream.specs.declared.answer.Written.{Written}
 use Rattle.mrd_stream.specs.declared.answer.Written
-use Rattle.mrd_stream.specs.Walk.{Verdict, accepted, refused, answer}
-
--- the length written, the stream's refusal, or a number alone
-pub data OutputAnswer : Type 0 where
-  written : ℕ → OutputAnswer
-  stream : ℕ → ℕ → ℕ → OutputAnswer
-  number : ℕ → OutputAnswer
+use Rattle.mrd_logic.specs.Answer.{Verdict, accepted, refused, Answer, answered, stream, number, unlessRefused}
+use Rattle.mrd_logic.specs.Choice.{pick}
+use Rattle.mrd_stream.specs.Walk.{answer}
 
 -- what each case of the enum says: the paper's number and values
-abbrev pub toldWritten : Written → OutputAnswer
-toldWritten (Written.Length n) = written n
+abbrev pub toldWritten : Written → Answer ℕ
+toldWritten (Written.Length n) = answered n
 toldWritten (Written.Stream r) = stream (r .number) (r .record) (r .byte)
 toldWritten (Written.Refused n) = number n
 
 -- by the stream's answer and whether the output is too short for the n that are to be written
-abbrev pub answerBy : Verdict → Bool → ℕ → OutputAnswer
-answerBy (refused f r b) short n = stream f r b
-answerBy (accepted k) true n = number 14
-answerBy (accepted k) false n = written n
+abbrev pub answerBy : Verdict → Bool → ℕ → Answer ℕ
+answerBy v short n = unlessRefused v (pick short (number 14) (answered n))
 
 -- the answer for the stream s, of which n are to be written, and an output with so much room
-unfoldable pub answerFor : List ℕ → ℕ → ℕ → OutputAnswer
+unfoldable pub answerFor : List ℕ → ℕ → ℕ → Answer ℕ
 answerFor s n room = answerBy (answer s) (ltb room n) n
 
 -- the output afterwards, which held o, by the answer: where the tool wrote, w stands at its front
-abbrev pub outputBy : OutputAnswer → List ℕ → List ℕ → List ℕ
-outputBy (written n) w o = w ++ drop n o
+abbrev pub outputBy : Answer ℕ → List ℕ → List ℕ → List ℕ
+outputBy (answered n) w o = w ++ drop n o
 outputBy (stream f r b) w o = o
 outputBy (number n) w o = o
 
@@ -44,14 +38,14 @@ unfoldable pub outputFor : List ℕ → ℕ → List ℕ → List ℕ → List �
 outputFor s n w o = outputBy (answerFor s n (length o)) w o
 
 -- a call that answers a and leaves out, for the stream s, of which w, n long, is to be written to the output o
-abbrev pub Answered : List ℕ → ℕ → List ℕ → List ℕ → OutputAnswer → List ℕ → Type 0
+abbrev pub Answered : List ℕ → ℕ → List ℕ → List ℕ → Answer ℕ → List ℕ → Type 0
 Answered s n w o a out = (a ≡ answerFor s n (length o)) × (out ≡ outputFor s n w o)
 
 module _ (s : List ℕ) (n : ℕ) (w o : List ℕ) where
   -- the output follows from the answer
-  by-answer : {a : OutputAnswer} → answerFor s n (length o) ≡ a → Answered s n w o a (outputBy a w o)
+  by-answer : {a : Answer ℕ} → answerFor s n (length o) ≡ a → Answered s n w o a (outputBy a w o)
   unfolding outputFor
-  by-answer e = (sym e, ap (λ (a : OutputAnswer). outputBy a w o) (sym e))
+  by-answer e = (sym e, ap (λ (a : Answer ℕ). outputBy a w o) (sym e))
 
   -- a refused stream
   pub stream-refused : {f r b : ℕ} → answer s ≡ refused f r b → Answered s n w o (stream f r b) o
@@ -63,6 +57,6 @@ module _ (s : List ℕ) (n : ℕ) (w o : List ℕ) where
   unfolding answerFor
   output-short e h = by-answer {a = number 14} (simp (e, lt-ltb _ _ h))
 
-  pub output-fits : {k : ℕ} → answer s ≡ accepted k → n ≤ length o → Answered s n w o (written n) (w ++ drop n o)
+  pub output-fits : {k : ℕ} → answer s ≡ accepted k → n ≤ length o → Answered s n w o (answered n) (w ++ drop n o)
   unfolding answerFor
-  output-fits e h = by-answer {a = written n} (simp (e, le-ltb _ _ h))
+  output-fits e h = by-answer {a = answered n} (simp (e, le-ltb _ _ h))

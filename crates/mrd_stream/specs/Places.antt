@@ -5,8 +5,11 @@ use mathlib.Core.List.{List, [], _∷_}
 use lib.ListN.{length, take, drop}
 use Rattle.mrd_format.specs.declared.kind.Kind.{Kind}
 use Rattle.mrd_format.specs.Message.{fixedPart, numbersOf}
-use Rattle.mrd_stream.specs.declared.cursor.Cursor.{Cursor}
-use Rattle.mrd_stream.specs.Walk.{Verdict, accepted, refused, Trace, message, done, Judged, faulty, whole, judge, ended, after, trace, answer}
+use Rattle.mrd_cursor.specs.declared.cursor.Cursor.{Cursor}
+use Rattle.mrd_logic.specs.Answer.{Verdict, refused, Answer, answered, number, unlessRefused}
+use Rattle.mrd_stream.specs.Walk.{Trace, message, done, ended, trace, answer}
+use Rattle.mrd_judge.specs.Judge.{Judged, faulty, whole, judge}
+use Rattle.mrd_cursor.specs.Cursors.{after}
 
 -- 'number, start, size (id included)', the kind and that kind's own numbers
 pub record Located : Type 0 where
@@ -26,25 +29,15 @@ abbrev pub places : Trace → List Located
 places (message c k m r) = located c k m ∷ places r
 places (done v) = []
 
--- the answer about one record: found, the stream's refusal, or a number alone
-pub data Answer : Type 0 where
-  found : Located → Answer
-  stream : ℕ → ℕ → ℕ → Answer
-  number : ℕ → Answer
-
 -- entry n of a list, else 16: 'no such record'
-abbrev pub nth : List Located → ℕ → Answer
+abbrev pub nth : List Located → ℕ → Answer Located
 nth [] n = number 16
-nth (l ∷ ls) zero = found l
+nth (l ∷ ls) zero = answered l
 nth (l ∷ ls) (suc n) = nth ls n
 
-abbrev pub placeBy : Verdict → List Located → ℕ → Answer
-placeBy (accepted k) ls n = nth ls n
-placeBy (refused f r b) ls n = stream f r b
-
 -- the place and kind of record n: the stream's refusal first, then 16
-unfoldable pub place : List ℕ → ℕ → Answer
-place s n = placeBy (answer s) (places (trace s)) n
+unfoldable pub place : List ℕ → ℕ → Answer Located
+place s n = unlessRefused (answer s) (nth (places (trace s)) n)
 
 -- what one step of a walk hands out: a message and the next cursor, or the stream's answer
 pub data Stepped : Type 0 where
@@ -63,3 +56,8 @@ stepAt c (b ∷ t) = stepBy (judge c (b ∷ t)) c (b ∷ t)
 -- the step from a cursor, any cursor, over a stream
 unfoldable pub step : Cursor → List ℕ → Stepped
 step c s = stepAt c (drop (c .start) s)
+
+-- a message of kind k and size z handed out, by its fixed part h
+abbrev pub handedOut : Cursor → Kind → List ℕ → ℕ → Stepped
+handedOut c k h z =
+    handed (record { number = c .number; start = c .start; size = z; kind = k; numbers = numbersOf k h }) (after c k z)

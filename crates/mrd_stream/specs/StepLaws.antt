@@ -9,15 +9,14 @@ use lib.Seq.{drop-drop}
 use Rattle.mrd_format.specs.declared.kind.Kind.{Kind}
 use Rattle.mrd_format.specs.Message.{fixedPart, WellFormed}
 use Rattle.mrd_format.specs.MessageLaws.{size-least}
-use Rattle.mrd_stream.specs.declared.cursor.Cursor.{Cursor}
-use Rattle.mrd_stream.specs.Walk.{Judged, faulty, whole, judge, after, Verdict, Trace, message, done, beginning, walk, trace}
+use Rattle.mrd_cursor.specs.declared.cursor.Cursor.{Cursor}
+use Rattle.mrd_judge.specs.Judge.{Judged, faulty, whole, judge}
+use Rattle.mrd_cursor.specs.Cursors.{after, beginning}
+use Rattle.mrd_logic.specs.Answer.{Verdict}
+use Rattle.mrd_stream.specs.Walk.{Trace, message, done, walk, trace, from}
 use Rattle.mrd_stream.specs.WalkLaws.{walk-end, walk-fault, walk-next}
-use Rattle.mrd_stream.specs.Judged.{WholeAt, judge-whole, wellFormed}
+use Rattle.mrd_judge.specs.WholeLaws.{WholeAt, judge-whole, wellFormed}
 use Rattle.mrd_stream.specs.Places.{Located, located, Stepped, handed, over, stepBy, stepAt, step}
-
--- the trace from a cursor on
-abbrev pub from : Cursor → List ℕ → Trace
-from c s = walk (drop (c .start) s) 0 c
 
 -- a step from c over s that hands out l goes to d: it passes one message of the trace, the well-formed bytes at c
 pub record Passes (c : Cursor) (s : List ℕ) (l : Located) (d : Cursor) : Type 0 where
@@ -79,7 +78,7 @@ step-handed c s {l} {d} e = at (drop (c .start) s) refl e
     at [] here e = absurd (not-both e)
     at (b ∷ t) here e = judged b t here (judge c (b ∷ t)) refl e
 
--- a walk over s that stands at c, and of whose trace f is to be found: f of what is left is the answer wanted
+-- a walk over s that is at c, and of whose trace f is to be found: f of what is left is the answer wanted
 pub record On {A : Type 0} (f : Trace → A) (wanted : A) (c : Cursor) (s : List ℕ) : Type 0 where
   pub within : c .start ≤ length s
   pub kept : f (from c s) ≡ wanted

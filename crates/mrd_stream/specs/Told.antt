@@ -9,20 +9,13 @@ use Rattle.mrd_stream.specs.declared.answer.Placed
 use Rattle.mrd_stream.specs.declared.answer.Step.{Step}
 use Rattle.mrd_stream.specs.declared.answer.Step
 use Rattle.mrd_stream.specs.declared.answer.Record.{Record}
-use Rattle.mrd_stream.specs.declared.judge.Judgement.{Judgement}
-use Rattle.mrd_stream.specs.declared.judge.Judgement
-use Rattle.mrd_stream.specs.Walk.{Judged, whole, faulty, Verdict, accepted, refused}
-use Rattle.mrd_stream.specs.Places.{Located, Answer, found, stream, number, Stepped, handed, over}
+use Rattle.mrd_logic.specs.Answer.{Verdict, accepted, refused, Answer, answered, stream, number}
+use Rattle.mrd_stream.specs.Places.{Located, Stepped, handed, over}
 
 -- the stream's answer
 abbrev pub toldChecked : Checked → Verdict
 toldChecked (Checked.Accepted n) = accepted n
 toldChecked (Checked.Refused r) = refused (r .number) (r .record) (r .byte)
-
--- what judging a message finds
-abbrev pub toldJudgement : Judgement → Judged
-toldJudgement (Judgement.Whole k z) = whole k z
-toldJudgement (Judgement.Faulty n) = faulty n
 
 -- a record's place and kind
 abbrev pub toldRecord : Record → Located
@@ -41,7 +34,7 @@ toldStep (Step.Message r c) = handed (toldRecord r) c
 toldStep (Step.End v) = over (toldChecked v)
 
 -- the answer about one record
-abbrev pub toldPlaced : Placed → Answer
-toldPlaced (Placed.Found r) = found (toldRecord r)
+abbrev pub toldPlaced : Placed → Answer Located
+toldPlaced (Placed.Found r) = answered (toldRecord r)
 toldPlaced (Placed.Stream r) = stream (r .number) (r .record) (r .byte)
 toldPlaced (Placed.Refused n) = number n

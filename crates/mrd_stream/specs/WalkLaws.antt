@@ -7,8 +7,11 @@ use mathlib.Core.Path.{_≡_, refl, sym, ap, _∙_}
 use mathlib.Core.List.{List, [], _∷_, _++_}
 use lib.ListN.{length, take, drop, length-drop}
 use Rattle.mrd_format.specs.declared.kind.Kind.{Kind}
-use Rattle.mrd_stream.specs.declared.cursor.Cursor.{Cursor}
-use Rattle.mrd_stream.specs.Walk.{Judged, faulty, whole, judge, ended, after, refused, Trace, message, done, walk}
+use Rattle.mrd_cursor.specs.declared.cursor.Cursor.{Cursor}
+use Rattle.mrd_judge.specs.Judge.{Judged, faulty, whole, judge}
+use Rattle.mrd_stream.specs.Walk.{ended, Trace, message, done, walk}
+use Rattle.mrd_cursor.specs.Cursors.{after}
+use Rattle.mrd_logic.specs.Answer.{refused}
 
 -- bytes to pass are bytes dropped
 pub walk-skip : (t : List ℕ) (k : ℕ) (c : Cursor) → walk t k c ≡ walk (drop k t) 0 c

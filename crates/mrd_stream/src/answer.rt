@@ -1,5 +1,5 @@
 // What the reader answers.
-use crate::cursor::Cursor;
+use mrd_cursor::Cursor;
 use mrd_format::Shape;
 
 // Why a stream is refused: the number of refusal, the record it met, counted from 0, and the byte

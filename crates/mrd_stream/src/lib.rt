@@ -3,8 +3,6 @@
 // No public function here has a `requires`: any bytes, any number and any cursor get an answer. Nothing
 // is copied, nothing is kept, and no payload byte is read. Assumes nothing.
 mod answer;
-mod cursor;
-mod judge;
 mod reader;
 
 pub use answer::Checked;
@@ -14,9 +12,7 @@ pub use answer::Record;
 pub use answer::Refusal;
 pub use answer::Step;
 pub use answer::Written;
-pub use cursor::Cursor;
-pub use cursor::Phase;
-pub use judge::MESSAGE_LIMIT;
 pub use reader::check;
 pub use reader::check_from;
+pub use reader::next;
 pub use reader::place;

@@ -3,49 +3,68 @@ ghost use mathlib.Core.Path.{_≡_};
 ghost use Prim.Native.Nat.{_+_, _<_, _^_};
 ghost use lib.ListN.{length};
 ghost use Rattle.mrd_format.specs.Kinds.{fixedSize};
-ghost use Rattle.mrd_stream.specs.Walk.{messageLimit, verdict, answer};
-ghost use Rattle.mrd_stream.specs.Places.{place, step};
-ghost use Rattle.mrd_stream.specs.JudgeLaws.{handedOut};
-ghost use Rattle.mrd_stream.specs.StepLaws.{from};
-ghost use Rattle.mrd_stream.specs.Seek.{concluded, keptBy};
+ghost use Rattle.mrd_cursor.specs.Cursors.{maxMessages};
+ghost use Rattle.mrd_logic.specs.Answer.{refused, unlessRefused};
+ghost use Rattle.mrd_stream.specs.Walk.{ended, verdict, answer, from};
+ghost use Rattle.mrd_stream.specs.Places.{place, step, handedOut};
+ghost use Rattle.mrd_stream.specs.Seek.{keptBy};
 ghost use Rattle.mrd_stream.specs.Told.{toldChecked, toldPlaced, toldRecord, toldStep};
 use crate::answer::Checked;
 use crate::answer::Place;
 use crate::answer::Placed;
 use crate::answer::Record;
+use crate::answer::Refusal;
 use crate::answer::Step;
-use crate::cursor::Cursor;
-use crate::judge::Judgement;
-use crate::judge::fixed_part;
-use crate::judge::judge;
+use mrd_cursor::Cursor;
 use mrd_format::Kind;
 use mrd_format::refusal;
+use mrd_judge::Judgement;
+use mrd_judge::fixed_part;
+use mrd_judge::judge;
 
-impl Cursor {
-    // One step over the stream s: the message that is due, with its place and kind and the cursor of
-    // what follows, or the stream's answer. From Cursor::beginning() on, the steps hand out the
-    // stream's messages in order and then its answer; any other cursor gets some answer too. A step
-    // reads the fixed part of one message and none of its payload.
-    pub fn next(self, s: &[u8]) -> Step
-        ensures { λ r. ⌜ toldStep r ≡ step self (now (s .entry)) ⌝ }
-    {
-        let start = self.start;
-        if start >= s.len() {
-            return Step::End(self.ended());
-        }
-        let judgement = judge(self, &s[start..]);
-        match judgement {
-            Judgement::Whole(kind, size) => {
-                handed(self, kind, fixed_part(kind, &s[start..]), size)
-            }
-            Judgement::Faulty(number) => Step::End(self.refused(number)),
-        }
+// One step over the stream s: the message that is due at c, with its place and kind and the cursor of
+// what follows, or the stream's answer. From Cursor::beginning() on, the steps hand out the stream's
+// messages in order and then its answer; any other cursor gets some answer too. A step reads the fixed
+// part of one message and none of its payload.
+pub fn next(c: Cursor, s: &[u8]) -> Step
+    ensures { λ r. ⌜ toldStep r ≡ step c (now (s .entry)) ⌝ }
+{
+    let start = c.start;
+    if start >= s.len() {
+        return Step::End(ended(c));
     }
+    let judgement = judge(c, &s[start..]);
+    match judgement {
+        Judgement::Whole(kind, size) => handed(c, kind, fixed_part(kind, &s[start..]), size),
+        Judgement::Faulty(number) => Step::End(refused(c, number)),
+    }
+}
+
+// The answer where no bytes are left.
+fn ended(c: Cursor) -> Checked
+    ensures { λ r. ⌜ toldChecked r ≡ ended c ⌝ }
+{
+    let phase = c.phase;
+    if phase.is_closed() {
+        return Checked::Accepted(c.number);
+    }
+    refused(c, refusal::NO_CLOSE)
+}
+
+// The answer where the message that is due is refused with this number.
+fn refused(c: Cursor, number: u8) -> Checked
+    ensures { λ r. ⌜ toldChecked r ≡ refused number (c .number) (c .start) ⌝ }
+{
+    Checked::Refused(Refusal {
+        number: number,
+        record: c.number,
+        byte: c.start,
+    })
 }
 
 // A message that passed every check, handed out.
 fn handed(c: Cursor, kind: Kind, h: &[u8], size: usize) -> Step
-    requires { ⌜ (length (now h) ≡ fixedSize kind) × (c .number < messageLimit) × (c .start + size < 2 ^ 64) ⌝ }
+    requires { ⌜ (length (now h) ≡ fixedSize kind) × (c .number < maxMessages) × (c .start + size < 2 ^ 64) ⌝ }
     ensures { λ r. ⌜ toldStep r ≡ handedOut c kind (now (h .entry)) size ⌝ }
 {
     let place = Place {
@@ -77,7 +96,7 @@ pub fn check_from(c: Cursor, s: &[u8]) -> Checked
     loop {
         let start = c.start;
         if s.len() <= start {
-            return c.ended();
+            return ended(c);
         }
         let judgement = judge(c, &s[start..]);
         match judgement {
@@ -85,7 +104,7 @@ pub fn check_from(c: Cursor, s: &[u8]) -> Checked
                 c = c.after(kind, size);
             }
             Judgement::Faulty(number) => {
-                return c.refused(number);
+                return refused(c, number);
             }
         }
     }
@@ -99,11 +118,11 @@ pub fn place(s: &[u8], n: usize) -> Placed
     let mut c = Cursor::beginning();
     let mut found = Placed::Refused(refusal::NO_RECORD);
     loop {
-        let step = c.next(s);
+        let step = next(c, s);
         match step {
-            Step::Message(record, next) => {
+            Step::Message(record, after) => {
                 found = kept(found, record, n);
-                c = next;
+                c = after;
             }
             Step::End(answer) => {
                 return concluded(found, answer);
@@ -125,7 +144,7 @@ fn kept(before: Placed, here: Record, n: usize) -> Placed
 
 // What was found, unless the stream is refused.
 fn concluded(found: Placed, answer: Checked) -> Placed
-    ensures { λ r. ⌜ toldPlaced r ≡ concluded (toldPlaced found) (toldChecked answer) ⌝ }
+    ensures { λ r. ⌜ toldPlaced r ≡ unlessRefused (toldChecked answer) (toldPlaced found) ⌝ }
 {
     match answer {
         Checked::Accepted(_) => found,

@@ -13,9 +13,10 @@ use Rattle.mrd_format.specs.declared.kind.Identified.the-variants.{Known, Unkno
 use Rattle.mrd_format.specs.Kinds.{identified}
 use Rattle.mrd_logic.specs.Checks.{_when_, first}
 use Rattle.mrd_logic.specs.CheckLaws.{first-passed, passed-first, numbered-append, every-split}
-use Rattle.mrd_stream.specs.declared.cursor.Cursor.{Cursor}
-use Rattle.mrd_stream.specs.Order.{allowed}
-use Rattle.mrd_stream.specs.Walk.{messageLimit, message, walk, after}
+use Rattle.mrd_cursor.specs.declared.cursor.Cursor.{Cursor}
+use Rattle.mrd_cursor.specs.Order.{allowed}
+use Rattle.mrd_cursor.specs.Cursors.{maxMessages, after}
+use Rattle.mrd_stream.specs.Walk.{message, walk}
 use Rattle.mrd_cut.specs.Walked.{walk-well}
 use Rattle.mrd_writer.specs.Lent.{Lent, lengthsOf, messageOf}
 use Rattle.mrd_writer.specs.Sound.{Sound, lent-numbered, passed-sound}
@@ -25,7 +26,7 @@ use Rattle.mrd_writer.specs.JudgeLaws.{done-not-refused, unless-done}
 use Rattle.mrd_writer.specs.Written.{message-length, written-well}
 
 -- the walk meets the message that was written, and goes on after it, whatever follows
-pub written-reads-back : (c : Cursor) (k : Kind) (l : Lent) (rest : List ℕ) → Sound k l → allowed k (c .phase) ≡ true → c .number < messageLimit →
+pub written-reads-back : (c : Cursor) (k : Kind) (l : Lent) (rest : List ℕ) → Sound k l → allowed k (c .phase) ≡ true → c .number < maxMessages →
     walk (messageOf k l ++ rest) 0 c ≡ message c k (messageOf k l) (walk rest 0 (after c k (length (messageOf k l))))
 written-reads-back c k l rest s a n = walk-well c (messageOf k l) rest (written-well k l s) a n
 

@@ -13,7 +13,7 @@ use crate::lengths::Lengths;
 use mrd_acquisition::trajectory_size;
 use mrd_format::Kind;
 use mrd_format::refusal;
-use mrd_format::size::LIMIT;
+use mrd_format::size::MAX_MESSAGE_SIZE;
 use mrd_numbers::put_u64;
 
 const IMAGE_HEADER: usize = 198;
@@ -23,7 +23,7 @@ pub(crate) fn judge(kind: Kind, header: &[u8], name: &[u8], lent: Lengths) -> Ju
     ensures { λ r. ⌜ toldJudged r ≡ judged kind (now (header .entry)) (now (name .entry)) lent ⌝ }
 {
     if header.len() != header_size(kind) {
-        return Judged::Refused(refusal::FIXED_PART);
+        return Judged::Refused(refusal::FIXED_PART_CUT);
     }
     match kind {
         Kind::ConfigurationName => judge_name(name, lent),
@@ -74,8 +74,8 @@ fn judge_text(lent: Lengths) -> Judged
 {
     let head = 2 + Kind::TEXT_FIXED;
     let text = lent.text;
-    if LIMIT - (head as u64) < text as u64 {
-        return Judged::Refused(refusal::MESSAGE_LIMIT);
+    if MAX_MESSAGE_SIZE - (head as u64) < text as u64 {
+        return Judged::Refused(refusal::TOO_LARGE);
     }
     let mut due = Lengths::none();
     due.text = text;
@@ -164,8 +164,8 @@ fn checked_size(kind: Kind, h: &[u8]) -> Judged
         return Judged::Refused(fault);
     }
     let size = mrd_message::size(kind, h);
-    if LIMIT < size as u64 {
-        return Judged::Refused(refusal::MESSAGE_LIMIT);
+    if MAX_MESSAGE_SIZE < size as u64 {
+        return Judged::Refused(refusal::TOO_LARGE);
     }
     Judged::Size(size)
 }
@@ -177,6 +177,6 @@ fn judge_bodies(size: usize, lent: Lengths, due: Lengths) -> Judged
     if lent.same(due) {
         Judged::Size(size)
     } else {
-        Judged::Refused(refusal::BODY)
+        Judged::Refused(refusal::BODY_LENGTH)
     }
 }

@@ -86,10 +86,10 @@ fn store(
         position (now (out .entry)) ⌝ }
 {
     if out.len() < position {
-        return Written::Refused(refusal::OUTPUT);
+        return Written::Refused(refusal::OUTPUT_SHORT);
     }
     if out.len() - position < size {
-        return Written::Refused(refusal::OUTPUT);
+        return Written::Refused(refusal::OUTPUT_SHORT);
     }
     put_u16(&mut out[position..], kind.id());
     let content = position + 2;

@@ -3,7 +3,7 @@
 use mathlib.Core.Path.{sym, ap}
 use borrow.Author.Needs.{needs}
 use Rattle.mrd_stream.specs.Told.{toldChecked}
-use Rattle.mrd_find.specs.Find.{unlessRefused}
+use Rattle.mrd_logic.specs.Answer.{unlessRefused}
 use Rattle.mrd_find.specs.Told.{told}
 use Rattle.mrd_find.proofs.search.concluded.Statement.{statement}
 use Rattle.mrd_find.proofs.search.concluded.Tie as tie

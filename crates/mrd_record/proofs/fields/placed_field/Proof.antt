@@ -6,8 +6,8 @@ use Rattle.mrd_format.specs.Message.{fixedPart}
 use Rattle.mrd_format.specs.Shapes.{kindOf}
 use Rattle.mrd_stream.specs.Told.{toldRecord}
 use Rattle.mrd_cut.specs.Places.{partAt}
-use Rattle.mrd_field.specs.Field as header
-use Rattle.mrd_field.specs.Told.{told}
+use Rattle.mrd_element.specs.Field as header
+use Rattle.mrd_element.specs.Told.{told}
 use Rattle.mrd_record.specs.Fields.{answered}
 use Rattle.mrd_record.specs.ViewLaws.{fixed-sized}
 use borrow.Author.Needs.{needs}

@@ -7,11 +7,11 @@ use borrow.Author.Needs.{needs}
 use denote.Ref.{now}
 use lib.ListN.{length, drop}
 use Rattle.mrd_numbers.specs.Stored.{lent-is}
-use Rattle.mrd_stream.specs.declared.cursor.Cursor.{Cursor}
-use Rattle.mrd_stream.specs.JudgeLaws as laws
-use Rattle.mrd_stream.specs.StepLaws.{from, kept-next, kept-end, on-less, step-handed}
-use Rattle.mrd_stream.specs.Told.{toldJudgement}
-use Rattle.mrd_stream.specs.Walk.{verdict, judge, whole, faulty}
+use Rattle.mrd_cursor.specs.declared.cursor.Cursor.{Cursor}
+use Rattle.mrd_stream.specs.NextLaws as laws
+use Rattle.mrd_stream.specs.Walk.{from, verdict}
+use Rattle.mrd_stream.specs.StepLaws.{kept-next, kept-end, on-less, step-handed}
+use Rattle.mrd_judge.specs.Judge.{toldJudgement, judge, whole, faulty}
 use Rattle.mrd_stream.proofs.reader.check_from.Statement.{statement}
 use Rattle.mrd_stream.proofs.reader.check_from.Tie as tie
 

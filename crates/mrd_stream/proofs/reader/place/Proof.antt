@@ -6,7 +6,8 @@ use mathlib.Core.Path.{sym, ap, _∙_}
 use borrow.Author.Needs.{needs}
 use denote.Ref.{now}
 use lib.ListN.{length}
-use Rattle.mrd_stream.specs.Places.{number, place}
+use Rattle.mrd_logic.specs.Answer.{number}
+use Rattle.mrd_stream.specs.Places.{place}
 use Rattle.mrd_stream.specs.Seek.{seek, seek-place, seek-next, keptBy}
 use Rattle.mrd_stream.specs.StepLaws.{On, on-start, on-next, on-end, on-less, step-handed}
 use Rattle.mrd_stream.specs.Told.{toldPlaced, toldRecord, toldStep}

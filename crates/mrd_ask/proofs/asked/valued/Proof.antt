@@ -1,0 +1,50 @@
+-- `mrd_ask::asked::valued` meets its contract: it goes by the value's case.
+-- Assumes nothing.
+use borrow.Author.Needs.{needs}
+use Rattle.mrd_ask.proofs.asked.valued.Statement.{statement}
+use Rattle.mrd_ask.proofs.asked.valued.Tie as tie
+
+enum-told : tie.Need-enum-told
+enum-told c = search needs
+
+enum-told-2 : tie.Need-enum-told-2
+enum-told-2 c = search needs
+
+enum-told-3 : tie.Need-enum-told-3
+enum-told-3 c = search needs
+
+enum-told-4 : tie.Need-enum-told-4
+enum-told-4 c = search needs
+
+enum-told-5 : tie.Need-enum-told-5
+enum-told-5 c = search needs
+
+returns : tie.Need-returns
+returns c = search needs
+
+returns-2 : tie.Need-returns-2
+returns-2 c = record { says = rw (c .enum-told2 .given .1); apart = c .before .before .pre }
+
+returns-3 : tie.Need-returns-3
+returns-3 c = record { says = rw (c .enum-told3 .given .1); apart = c .before .before .pre }
+
+returns-4 : tie.Need-returns-4
+returns-4 c = record { says = rw (c .enum-told4 .given .1); apart = c .before .before .pre }
+
+returns-5 : tie.Need-returns-5
+returns-5 c = record { says = rw (c .enum-told5 .given .1); apart = c .before .before .pre }
+
+pub valued-spec : {M : Type 1} → statement M
+valued-spec =
+    tie.close
+    (tie.spec
+    enum-told
+    enum-told-2
+    enum-told-3
+    enum-told-4
+    enum-told-5
+    returns
+    returns-2
+    returns-3
+    returns-4
+    returns-5)

@@ -1,0 +1,4 @@
+pub mod Replies
+pub mod Questions
+pub mod Shown
+pub mod ShownLaws

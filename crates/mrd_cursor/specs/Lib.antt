@@ -1,0 +1,3 @@
+pub mod Order
+pub mod Cursors
+pub mod OrderLaws

@@ -1,0 +1,136 @@
+-- What judging a message finds, stage by stage: where the stages before it passed, a stage that refuses decides.
+-- Assumes nothing.
+use Prim.Native.Nat.{ℕ, zero, suc, _+_, _≤_, _<_}
+use native.Mathlib.Omega.{arith}
+use native.Mathlib.Decide.{decLe}
+use mathlib.Core.Path.{_≡_, refl, sym, ap, _∙_}
+use mathlib.Core.Bool.{true}
+use mathlib.Core.List.{List, [], _∷_, _++_}
+use borrow.Author.Tests.{eqb-false, lt-ltb, ltb-false}
+use lib.ListN.{length, drop, length-drop}
+use lib.Seq.{length-take-le}
+use Rattle.mrd_format.specs.declared.kind.Kind.{Kind}
+use Rattle.mrd_format.specs.declared.kind.Identified.{Identified}
+use Rattle.mrd_format.specs.declared.kind.Identified.the-variants.{Known, Unknown}
+use Rattle.mrd_format.specs.Kinds.{fixedSize}
+use Rattle.mrd_format.specs.CheckLaws.{own-numbered}
+use Rattle.mrd_format.specs.Message.{limit, fixedPart, ownChecks, sizeOf}
+use Rattle.mrd_format.specs.Sizes.{capped}
+use Rattle.mrd_logic.specs.Checks.{Check, _when_, first}
+use Rattle.mrd_logic.specs.CheckLaws.{first-skip, first-passed, first-stops, numbered}
+use Rattle.mrd_cursor.specs.declared.cursor.Cursor.{Cursor}
+use Rattle.mrd_judge.specs.Stages.{frontChecks, idChecks, fixedChecks, sizeChecks, id, fixed, size, checksOf, checksAs}
+use Rattle.mrd_judge.specs.Judge.{Judged, faulty, whole, unless, judgeAs, judgeBody}
+
+-- a fixed part that fits is as long as its kind's
+pub fixed-long : (k : Kind) (t : List ℕ) → 2 + fixedSize k ≤ length t → length (fixedPart k t) ≡ fixedSize k
+unfolding fixedPart
+fixed-long k t h = length-take-le (fixedSize k) (drop 2 t) (simp length-drop (omega arith))
+
+-- the judgement that the first of some checks leads to
+abbrev judgedBy : Identified → ℕ → List ℕ → Judged
+judgedBy Unknown f t = faulty f
+judgedBy (Known k) f t = unless f k (sizeOf k (fixedPart k t))
+
+judged-by : (i : Identified) (c : Cursor) (t : List ℕ) → judgeAs i c t ≡ judgedBy i (first (checksAs i c t)) t
+unfolding judgeAs
+judged-by Unknown c t = refl
+judged-by (Known k) c t = refl
+
+-- checks that refuse decide; checks that pass leave it to the next
+stopped : (i : Identified) (t : List ℕ) (cs ds : List Check) {f : ℕ} → first cs ≡ f → (f ≡ 0 → ⊥) → judgedBy i (first (cs ++ ds)) t ≡ faulty f
+stopped i t cs ds {f = zero} e n = absurd (n refl)
+stopped Unknown t cs ds {f = suc f} e n = ap faulty (first-stops cs ds e)
+stopped (Known k) t cs ds {f = suc f} e n = ap (λ (x : ℕ). judgedBy (Known k) x t) (first-stops cs ds e)
+
+passed : (cs ds : List Check) → numbered cs ≡ true → first cs ≡ 0 → first (cs ++ ds) ≡ first ds
+passed cs ds n e = first-skip cs ds (first-passed cs n e)
+
+front-numbered : (c : Cursor) (t : List ℕ) → numbered (frontChecks c t) ≡ true
+unfolding frontChecks
+front-numbered c t = refl
+
+id-numbered : (i : Identified) (c : Cursor) → numbered (idChecks i c) ≡ true
+unfolding idChecks
+id-numbered Unknown c = refl
+id-numbered (Known k) c = refl
+
+fixed-numbered : (k : Kind) (t : List ℕ) → numbered (fixedChecks k t) ≡ true
+unfolding fixedChecks
+fixed-numbered k t = own-numbered k (fixedPart k t)
+
+-- where the front passed, an id has two bytes
+pub front-two : (c : Cursor) (t : List ℕ) → 0 < length t → first (frontChecks c t) ≡ 0 → 2 ≤ length t
+unfolding frontChecks
+front-two c t h e =
+    let other : length t ≡ 1 → ⊥ = eqb-false (length t) 1 (first-passed (frontChecks c t) refl e .1 .1 .0) in
+    omega (arith, other)
+
+module _ (i : Identified) (c : Cursor) (t : List ℕ) where
+  pub front-stops : {f : ℕ} → first (frontChecks c t) ≡ f → (f ≡ 0 → ⊥) → judgeAs i c t ≡ faulty f
+  unfolding checksAs
+  front-stops e n = judged-by i c t ∙ stopped i t (frontChecks c t) (checksOf (id ∷ fixed ∷ size ∷ []) i c t) e n
+
+  -- where the front passed, the id
+  module _ (front : first (frontChecks c t) ≡ 0) where
+    front-passed : judgeAs i c t ≡ judgedBy i (first (idChecks i c ++ checksOf (fixed ∷ size ∷ []) i c t)) t
+    unfolding checksAs
+    front-passed =
+        judged-by i c t ∙ ap (λ (f : ℕ). judgedBy i f t)
+        (passed (frontChecks c t) (checksOf (id ∷ fixed ∷ size ∷ []) i c t) (front-numbered c t) front)
+
+    pub id-stops : {f : ℕ} → first (idChecks i c) ≡ f → (f ≡ 0 → ⊥) → judgeAs i c t ≡ faulty f
+    id-stops e n = front-passed ∙ stopped i t (idChecks i c) (checksOf (fixed ∷ size ∷ []) i c t) e n
+
+-- an id that no kind has stops
+pub unknown-stops : (c : Cursor) (t : List ℕ) {f : ℕ} → first (frontChecks c t) ≡ 0 → first (idChecks Unknown c) ≡ f →
+    judgeAs Unknown c t ≡ faulty f
+unfolding idChecks
+unknown-stops c t front e = id-stops Unknown c t front e (λ z. let never : _≡_ {A = ℕ} 2 0 = e ∙ z in omega arith)
+
+-- where the front and the id passed, the last two stages
+pub id-passed : (k : Kind) (c : Cursor) (t : List ℕ) → first (frontChecks c t) ≡ 0 → first (idChecks (Known k) c) ≡ 0 →
+    judgeAs (Known k) c t ≡ judgeBody k t
+unfolding judgeBody sizeChecks
+id-passed k c t front e =
+    front-passed (Known k) c t front ∙
+    ap (λ (f : ℕ). judgedBy (Known k) f t) (passed (idChecks (Known k) c) (checksOf (fixed ∷ size ∷ []) (Known k) c t) (id-numbered (Known k) c) e)
+
+-- the checks of a size tell a capped size from no other
+capped-size : (z : ℕ) (t : List ℕ) → first (sizeChecks (capped z) t) ≡ first (sizeChecks z t)
+unfolding sizeChecks
+capped-size z t =
+    elim (decLe z limit) [
+      | yes h ↦ let same : capped z ≡ z = omega arith in rw same
+      | no h ↦ let over : limit < z = omega arith in let capped-over : limit < capped z = omega arith in simp (lt-ltb _ _ over, lt-ltb _ _ capped-over)
+    ]
+
+module _ (k : Kind) (t : List ℕ) where
+  pub fixed-stops : {f : ℕ} → first (fixedChecks k t) ≡ f → (f ≡ 0 → ⊥) → judgeBody k t ≡ faulty f
+  unfolding judgeBody
+  fixed-stops e n = stopped (Known k) t (fixedChecks k t) (sizeChecks (sizeOf k (fixedPart k t)) t) e n
+
+  -- where the fixed part passed, it is there, and the size decides
+  module _ (e : first (fixedChecks k t) ≡ 0) where
+    pub fixed-fits : 2 + fixedSize k ≤ length t
+    unfolding fixedChecks
+    fixed-fits = ltb-false (length t) (2 + fixedSize k) (first-passed (fixedChecks k t) (fixed-numbered k t) e .0)
+
+    module _ {z : ℕ} (sized : z ≡ capped (sizeOf k (fixedPart k t))) where
+      by-size : judgeBody k t ≡ unless (first (sizeChecks z t)) k (sizeOf k (fixedPart k t))
+      unfolding judgeBody
+      by-size =
+          let same : first (sizeChecks z t) ≡ first (sizeChecks (sizeOf k (fixedPart k t)) t) = rw sized (capped-size (sizeOf k (fixedPart k t)) t) in
+          ap (λ (f : ℕ). judgedBy (Known k) f t)
+          (passed (fixedChecks k t) (sizeChecks (sizeOf k (fixedPart k t)) t) (fixed-numbered k t) e ∙ sym same)
+
+      pub size-stops : {f : ℕ} → first (sizeChecks z t) ≡ f → (f ≡ 0 → ⊥) → judgeBody k t ≡ faulty f
+      size-stops {f = zero} q n = absurd (n refl)
+      size-stops {f = suc f} q n = by-size ∙ rw q
+
+      pub size-passed : first (sizeChecks z t) ≡ 0 → judgeBody k t ≡ whole k z
+      unfolding sizeChecks
+      size-passed q =
+          let small : z ≤ limit = ltb-false limit z (first-passed (sizeChecks z t) refl q .0) in
+          let same : sizeOf k (fixedPart k t) ≡ z = omega arith in
+          by-size ∙ rw (q, same)

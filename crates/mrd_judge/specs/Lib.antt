@@ -1,0 +1,4 @@
+pub mod Stages
+pub mod Judge
+pub mod WholeLaws
+pub mod JudgeLaws

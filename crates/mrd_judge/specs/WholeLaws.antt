@@ -1,0 +1,170 @@
+-- What judging finds, said of the bytes: a whole message passes every check, which is to be well formed, in order and
+-- within the count; a refusal's number is that of the first check that refuses.
+-- Assumes nothing.
+use Prim.Native.Nat.{ℕ, zero, suc, _+_, _≤_, _<_}
+use native.Mathlib.Omega.{arith}
+use mathlib.Core.Path.{_≡_, refl, sym, ap, _∙_}
+use mathlib.Core.Bool.{true, false, not, true≢false}
+use mathlib.Core.List.{List, [], _∷_, _++_}
+use lib.ListN.{length, take, length-append}
+use lib.Seq.{length-take-le}
+use lib.Dec.{ltb, eqb}
+use borrow.Author.Tests.{leb-false, ltb-false, not-false, lt-leb, le-ltb, ne-eqb}
+use Rattle.mrd_format.specs.declared.kind.Kind.{Kind}
+use Rattle.mrd_format.specs.declared.kind.Identified.{Identified}
+use Rattle.mrd_format.specs.declared.kind.Identified.the-variants.{Known, Unknown}
+use Rattle.mrd_format.specs.Kinds.{fixedSize, identified}
+use Rattle.mrd_logic.specs.Checks.{Check, _when_, first, Passed, FirstFault}
+use Rattle.mrd_format.specs.Message.{limit, idAt, fixedPart, ownChecks, sizeOf, WellFormed}
+use Rattle.mrd_format.specs.MessageLaws.{size-least, id-take, fixed-take, well-known, well-fixed, well-size}
+use Rattle.mrd_cursor.specs.declared.cursor.Cursor.{Cursor}
+use Rattle.mrd_cursor.specs.Order.{allowed}
+use Rattle.mrd_cursor.specs.Cursors.{maxMessages}
+use Rattle.mrd_judge.specs.Stages.{frontChecks, idChecks, fixedChecks, sizeChecks, checksAs}
+use Rattle.mrd_judge.specs.Judge.{faulty, whole, unless, judgeAs, judge}
+use Rattle.mrd_logic.specs.Every.{Every}
+use Rattle.mrd_cursor.specs.OrderLaws.{allowed-open}
+use Rattle.mrd_logic.specs.CheckLaws.{numbered, first-passed, passed-first, first-fault, fault-first, numbered-append, every-split, every-append, fault-not-zero}
+use Rattle.mrd_format.specs.CheckLaws.{own-numbered}
+
+-- the message at the front of t, of kind k and size z, passes every check where the walk is at c
+pub record WholeAt (c : Cursor) (t : List ℕ) (k : Kind) (z : ℕ) : Type 0 where
+  pub counted : c .number < maxMessages
+  pub known : identified (idAt t) ≡ Known k
+  pub ordered : allowed k (c .phase) ≡ true
+  pub sound : first (ownChecks k (fixedPart k t)) ≡ 0
+  pub size : sizeOf k (fixedPart k t) ≡ z
+  pub small : z ≤ limit
+  pub fits : z ≤ length t
+
+-- no check has the number 0
+pub all-numbered : (i : Identified) (c : Cursor) (t : List ℕ) → numbered (checksAs i c t) ≡ true
+unfolding checksAs frontChecks idChecks fixedChecks sizeChecks
+all-numbered Unknown c t = refl
+all-numbered (Known k) c t =
+    numbered-append (ownChecks k (fixedPart k t)) (sizeChecks (sizeOf k (fixedPart k t)) t) (own-numbered k (fixedPart k t)) refl
+
+-- every check of a message of kind k passed exactly when the facts of WholeAt hold
+module _ (c : Cursor) (t : List ℕ) (k : Kind) where
+  passed-facts : identified (idAt t) ≡ Known k → Every Passed (checksAs (Known k) c t) → WholeAt c t k (sizeOf k (fixedPart k t))
+  unfolding checksAs frontChecks idChecks fixedChecks sizeChecks
+  passed-facts e p =
+      let own = ownChecks k (fixedPart k t) in
+      let z = sizeOf k (fixedPart k t) in
+      let late = every-split own (sizeChecks z t) (p .1 .1 .1 .1 .1) in
+      record {
+        counted = leb-false maxMessages (c .number) (p .1 .0);
+        known = e;
+        ordered = not-false (allowed k (c .phase)) (p .1 .1 .1 .0);
+        sound = passed-first own (late .0);
+        size = refl;
+        small = ltb-false limit z (late .1 .0);
+        fits = ltb-false (length t) z (late .1 .1 .0);
+      }
+
+  facts-passed : {z : ℕ} → WholeAt c t k z → Every Passed (checksAs (Known k) c t)
+  unfolding checksAs frontChecks idChecks fixedChecks sizeChecks
+  facts-passed {z} w =
+      let own = ownChecks k (fixedPart k t) in
+      let least : 2 + fixedSize k ≤ length t = omega (arith, size-least k (fixedPart k t)) in
+      let small : sizeOf k (fixedPart k t) ≤ limit = rw (w .size) (w .small) in
+      let fits : sizeOf k (fixedPart k t) ≤ length t = rw (w .size) (w .fits) in
+      let passed : Every Passed own = first-passed own (own-numbered k (fixedPart k t)) (w .sound) in
+      let late = every-append own (sizeChecks (sizeOf k (fixedPart k t)) t) passed (le-ltb _ _ small, (le-ltb _ _ fits, tt)) in
+      let two : eqb (length t) 1 ≡ false = ne-eqb (length t) 1 (λ e. omega arith) in
+      (allowed-open k (c .phase) (w .ordered), (lt-leb _ _ (w .counted), (two, (ap not (w .ordered), (le-ltb _ _ least, late)))))
+
+-- an id that no kind has is always refused
+unknown-refused : (c : Cursor) (t : List ℕ) → first (checksAs Unknown c t) ≡ 0 → ⊥
+unfolding checksAs frontChecks idChecks
+unknown-refused c t e = true≢false (first-passed (checksAs Unknown c t) refl e .1 .1 .1 .0)
+
+-- a judgement is one or the other
+not-both : {f : ℕ} {k : Kind} {z : ℕ} → faulty f ≡ whole k z → ⊥
+not-both e = let z : _≡_ {A = ℕ} 0 1 = cc in omega arith
+
+-- which judgement a number leads to
+unless-whole : (n : ℕ) (j : Kind) (y : ℕ) {k : Kind} {z : ℕ} → unless n j y ≡ whole k z → (n ≡ 0) × (j ≡ k) × (y ≡ z)
+unless-whole zero j y e = (refl, cc, cc)
+unless-whole (suc n) j y e = absurd (not-both e)
+
+unless-faulty : (n : ℕ) (j : Kind) (y : ℕ) {f : ℕ} → unless n j y ≡ faulty f → (n ≡ f) × (f ≡ 0 → ⊥)
+unless-faulty zero j y e = absurd (not-both (sym e))
+unless-faulty (suc n) j y {f} e = let s : suc n ≡ f = cc in (s, λ z. omega arith)
+
+-- what is judged whole passes every check
+pub judge-whole : (c : Cursor) (t : List ℕ) {k : Kind} {z : ℕ} → judge c t ≡ whole k z → WholeAt c t k z
+unfolding judge judgeAs
+judge-whole c t {k} {z} e = by-id (identified (idAt t)) refl e
+  where
+    by-id : (i : Identified) → identified (idAt t) ≡ i → judgeAs i c t ≡ whole k z → WholeAt c t k z
+    by-id Unknown n e = absurd (not-both e)
+    by-id (Known j) n e =
+        let u = unless-whole (first (checksAs (Known j) c t)) j (sizeOf j (fixedPart j t)) e in
+        rw (← u .1, ← u .2) (passed-facts c t j n (first-passed (checksAs (Known j) c t) (all-numbered (Known j) c t) (u .0)))
+
+-- what passes every check is judged whole
+pub whole-judge : (c : Cursor) (t : List ℕ) {k : Kind} {z : ℕ} → WholeAt c t k z → judge c t ≡ whole k z
+unfolding judge judgeAs
+whole-judge c t {k} {z} w = rw (w .known, passed-first _ (facts-passed c t k w), w .size)
+
+-- what is judged faulty is refused by the first check that refuses
+pub judge-faulty : (c : Cursor) (t : List ℕ) {f : ℕ} → judge c t ≡ faulty f → FirstFault f (checksAs (identified (idAt t)) c t)
+unfolding judge judgeAs
+judge-faulty c t {f} e = by-id (identified (idAt t)) e
+  where
+    by-id : (i : Identified) → judgeAs i c t ≡ faulty f → FirstFault f (checksAs i c t)
+    by-id Unknown e =
+        let n : first (checksAs Unknown c t) ≡ f = cc in
+        first-fault (checksAs Unknown c t) f n (λ z. unknown-refused c t (n ∙ z))
+    by-id (Known k) e =
+        let u = unless-faulty (first (checksAs (Known k) c t)) k (sizeOf k (fixedPart k t)) e in
+        first-fault (checksAs (Known k) c t) f (u .0) (u .1)
+
+unless-fault : (n : ℕ) (k : Kind) (z : ℕ) → (n ≡ 0 → ⊥) → unless n k z ≡ faulty n
+unless-fault zero k z h = absurd (h refl)
+unless-fault (suc n) k z h = refl
+
+-- where a check refuses, the message is judged faulty by the first that does
+pub faulty-judge : (c : Cursor) (t : List ℕ) {f : ℕ} → FirstFault f (checksAs (identified (idAt t)) c t) → judge c t ≡ faulty f
+unfolding judge judgeAs
+faulty-judge c t {f} r = by-id (identified (idAt t)) r
+  where
+    by-id : (i : Identified) → FirstFault f (checksAs i c t) → judgeAs i c t ≡ faulty f
+    by-id Unknown r = ap faulty (fault-first (checksAs Unknown c t) r)
+    by-id (Known k) r =
+        let n = fault-not-zero (checksAs (Known k) c t) (all-numbered (Known k) c t) r in
+        rw (fault-first (checksAs (Known k) c t) r) (unless-fault f k (sizeOf k (fixedPart k t)) n)
+
+-- the bytes of a whole message are a well-formed message
+abbrev pub wellFormed : (c : Cursor) (t : List ℕ) {k : Kind} {z : ℕ} → WholeAt c t k z → WellFormed (take z t)
+wellFormed c t {k} {z} w =
+    let least : 2 + fixedSize k ≤ z = omega (arith, size-least k (fixedPart k t)) in
+    let same : fixedPart k (take z t) ≡ fixedPart k t = fixed-take k z t least (w .fits) in
+    let size : sizeOf k (fixedPart k (take z t)) ≡ z = rw same (w .size) in
+    record {
+      kind = k;
+      known = rw (id-take k z t least (w .fits)) (w .known);
+      sound = rw same (w .sound);
+      small = rw size (w .small);
+      whole = size ∙ sym (length-take-le z t (w .fits));
+    }
+
+-- a well-formed message that the order and the count allow is whole, whatever follows it
+pub well-whole : (c : Cursor) (m rest : List ℕ) (w : WellFormed m) → allowed (w .kind) (c .phase) ≡ true → c .number < maxMessages →
+    WholeAt c (m ++ rest) (w .kind) (length m)
+well-whole c m rest w a n =
+    record {
+      counted = n;
+      known = well-known m rest w;
+      ordered = a;
+      sound = rw (well-fixed m rest w) (w .sound);
+      size = well-size m rest w;
+      small = rw (← w .whole) (w .small);
+      fits = simp length-append (omega arith);
+    }
+
+-- so it is judged whole, with its kind and length
+pub well-judge : (c : Cursor) (m rest : List ℕ) (w : WellFormed m) → allowed (w .kind) (c .phase) ≡ true → c .number < maxMessages →
+    judge c (m ++ rest) ≡ whole (w .kind) (length m)
+well-judge c m rest w a n = whole-judge c (m ++ rest) (well-whole c m rest w a n)

@@ -1,0 +1,14 @@
+// One message judged where a walk is: the order of checks, in four stages, each with its own function.
+//
+// A message is judged by its fixed part and by how many bytes there are: no payload byte is read. Assumes
+// nothing.
+mod stages;
+
+pub use stages::Judgement;
+pub use stages::MAX_MESSAGES;
+pub use stages::fixed_part;
+pub use stages::judge;
+pub use stages::judge_fixed;
+pub use stages::judge_front;
+pub use stages::judge_id;
+pub use stages::judge_size;

@@ -1,0 +1,132 @@
+// One message judged where a walk is, by the bytes from its first on: the order of checks, stage by stage.
+// Each stage answers the number of its first check that refuses, or 0.
+ghost use mathlib.Core.Path.{_≡_};
+ghost use Prim.Native.Nat.{_+_, _≤_, _<_};
+ghost use lib.ListN.{length};
+ghost use Rattle.mrd_format.specs.Kinds.{fixedSize};
+ghost use Rattle.mrd_format.specs.Message.{fixedPart};
+ghost use Rattle.mrd_logic.specs.Checks.{first};
+ghost use Rattle.mrd_judge.specs.Stages.{frontChecks, idChecks, fixedChecks, sizeChecks};
+ghost use Rattle.mrd_judge.specs.Judge.{toldJudgement, judge, judgeBody};
+use mrd_cursor::Cursor;
+use mrd_format::Identified;
+use mrd_format::Kind;
+use mrd_format::refusal;
+use mrd_format::size::MAX_MESSAGE_SIZE;
+use mrd_numbers::read_u16;
+
+// The most messages that a stream may have.
+pub const MAX_MESSAGES: usize = 1000000;
+
+// What judging a message finds. It is small, so that a check keeps it, and its cursor, in registers.
+pub enum Judgement {
+    // Every check passed: its kind and its size.
+    Whole(Kind, usize),
+    // The number of the first check that refuses.
+    Faulty(u8),
+}
+
+// The message at the front of t, which is not empty.
+pub fn judge(c: Cursor, t: &[u8]) -> Judgement
+    requires { ⌜ 0 < length (now t) ⌝ }
+    ensures { λ r. ⌜ toldJudgement r ≡ judge c (now (t .entry)) ⌝ }
+{
+    let front = judge_front(c, t);
+    if front != 0 {
+        return Judgement::Faulty(front);
+    }
+    let identified = Kind::of_id(read_u16(t, 0));
+    let id = judge_id(c, identified);
+    match identified {
+        Identified::Known(kind) => {
+            if id != 0 {
+                return Judgement::Faulty(id);
+            }
+            judge_body(kind, t)
+        }
+        Identified::Unknown => Judgement::Faulty(id),
+    }
+}
+
+// Before the id: 12 after a close, 19, 1.
+pub fn judge_front(c: Cursor, t: &[u8]) -> u8
+    ensures { λ r. ⌜ r ≡ first (frontChecks c (now (t .entry))) ⌝ }
+{
+    let phase = c.phase;
+    if phase.is_closed() {
+        return refusal::ORDER;
+    }
+    if MAX_MESSAGES <= c.number {
+        return refusal::TOO_MANY;
+    }
+    if t.len() == 1 {
+        return refusal::ID_CUT;
+    }
+    0
+}
+
+// The id: 2 where no kind has it, else 12 by the order of messages.
+pub fn judge_id(c: Cursor, identified: Identified) -> u8
+    ensures { λ r. ⌜ r ≡ first (idChecks identified c) ⌝ }
+{
+    let phase = c.phase;
+    match identified {
+        Identified::Known(kind) => {
+            if phase.allows(kind) {
+                return 0;
+            }
+            refusal::ORDER
+        }
+        Identified::Unknown => refusal::UNKNOWN_ID,
+    }
+}
+
+// A message of a known kind, by its last two stages.
+fn judge_body(kind: Kind, t: &[u8]) -> Judgement
+    requires { ⌜ 2 ≤ length (now t) ⌝ }
+    ensures { λ r. ⌜ toldJudgement r ≡ judgeBody kind (now (t .entry)) ⌝ }
+{
+    let fixed = judge_fixed(kind, t);
+    if fixed != 0 {
+        return Judgement::Faulty(fixed);
+    }
+    let size = mrd_message::size(kind, fixed_part(kind, t));
+    let end = judge_size(size, t);
+    if end != 0 {
+        return Judgement::Faulty(end);
+    }
+    Judgement::Whole(kind, size)
+}
+
+// The fixed part: 3 where it does not fit, else 4 to 9.
+pub fn judge_fixed(kind: Kind, t: &[u8]) -> u8
+    requires { ⌜ 2 ≤ length (now t) ⌝ }
+    ensures { λ r. ⌜ r ≡ first (fixedChecks kind (now (t .entry))) ⌝ }
+{
+    if t.len() - 2 < kind.fixed_size() {
+        return refusal::FIXED_PART_CUT;
+    }
+    mrd_message::fault(kind, fixed_part(kind, t))
+}
+
+// A message's size, and its end: 10, 11.
+pub fn judge_size(size: usize, t: &[u8]) -> u8
+    ensures { λ r. ⌜ r ≡ first (sizeChecks size (now (t .entry))) ⌝ }
+{
+    if MAX_MESSAGE_SIZE < size as u64 {
+        return refusal::TOO_LARGE;
+    }
+    if t.len() < size {
+        return refusal::MESSAGE_CUT;
+    }
+    0
+}
+
+// The fixed part of the message at the front of t.
+pub fn fixed_part(kind: Kind, t: &[u8]) -> &[u8]
+    requires { ⌜ 2 + fixedSize kind ≤ length (now t) ⌝ }
+    ensures { λ r. ⌜ now r ≡ fixedPart kind (now (t .entry)) ⌝ }
+{
+    let end = 2 + kind.fixed_size();
+    &t[2..end]
+}

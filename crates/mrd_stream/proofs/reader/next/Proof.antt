@@ -1,0 +1,131 @@
+-- `mrd_stream::next` meets its contract: the bytes from the cursor's start on are judged, and a whole message is handed out.
+-- Assumes nothing.
+use native.Mathlib.Omega.{arith}
+use Prim.Native.Nat.{ℕ}
+use mathlib.Core.Path.{_≡_, sym, ap, _∙_}
+use mathlib.Core.List.{List}
+use denote.Ref.{now}
+use lib.ListN.{length, drop}
+use Rattle.mrd_format.specs.Message.{fixedPart}
+use Rattle.mrd_numbers.specs.Stored.{lentFrom, lent-is}
+use Rattle.mrd_stream.specs.NextLaws as laws
+use Rattle.mrd_stream.specs.Places.{over, handedOut}
+use Rattle.mrd_judge.specs.Judge.{toldJudgement, Judged, judge, whole, faulty}
+use borrow.Author.Needs.{needs}
+use Rattle.mrd_stream.proofs.reader.next.Statement.{statement}
+use Rattle.mrd_stream.proofs.reader.next.Tie as tie
+
+ended-requires : tie.Need-ended-requires
+ended-requires c κs = search needs
+
+returns : tie.Need-returns
+returns c =
+    let a = c .before .before .before .args in
+    ap over (c .ended .ensures) ∙ sym (laws.step-ended (a .c) (now (a .s)) (c .before .if1 .taken))
+
+sub-judge : tie.Need-sub-judge
+sub-judge c = search needs
+
+part-judge-start : tie.Need-part-judge-start
+part-judge-start c = search needs
+
+part-judge-end : tie.Need-part-judge-end
+part-judge-end c = search needs
+
+judge-requires : tie.Need-judge-requires
+judge-requires c κs = search needs
+
+enum-known-judgement : tie.Need-enum-known-judgement
+enum-known-judgement c = search needs
+
+sub-fixed-part : tie.Need-sub-fixed-part
+sub-fixed-part c = search needs
+
+part-fixed-part-start : tie.Need-part-fixed-part-start
+part-fixed-part-start c = search needs
+
+part-fixed-part-end : tie.Need-part-fixed-part-end
+part-fixed-part-end c = search needs
+
+-- the message that is due is whole
+found-whole : (c : tie.After-known-told) →
+    let a = c .before .before .before .before .before .before .before .args in
+    let given = c .before .judgement .given .0 in
+    judge (a .c) (drop (a .c .start) (now (a .s))) ≡ whole (given .0) (given .1 .0)
+found-whole c =
+    let a = c .before .before .before .before .before .before .before .args in
+    ap (judge (a .c)) (sym (lent-is (a .c .start) (now (a .s)))) ∙ sym (c .before .before .before .judge .ensures) ∙
+    ap toldJudgement (c .before .judgement .given .1)
+
+fixed-part-requires : tie.Need-fixed-part-requires
+fixed-part-requires c κs =
+    let told = c .before in
+    let test = told .before .before .before .before .before in
+    let a = test .before .before .args in
+    rw lent-is (laws.whole-fixed (a .c) (now (a .s)) (test .if1 .left) (found-whole told))
+
+-- and its fixed part is lent on
+fixed-is : (c : tie.After-fixed-part) →
+    let a = c .before .before .before .before .before .before .before .before .before .args in
+    now (c .fixed-part .result) ≡ fixedPart (c .before .before .before .judgement .given .0 .0) (drop (a .c .start) (now (a .s)))
+fixed-is c =
+    let a = c .before .before .before .before .before .before .before .before .before .args in
+    c .fixed-part .ensures ∙ ap (fixedPart (c .before .before .before .judgement .given .0 .0)) (lent-is (a .c .start) (now (a .s)))
+
+handed-requires : tie.Need-handed-requires
+handed-requires c κs =
+    let told = c .before .before in
+    let test = told .before .before .before .before .before in
+    let a = test .before .before .args in
+    let size = laws.whole-ends (a .c) (now (a .s)) (test .if1 .left) (found-whole told) in (
+      ap length (fixed-is c) ∙ laws.whole-long (a .c) (now (a .s)) (test .if1 .left) (found-whole told),
+      laws.whole-counted (a .c) (now (a .s)) (test .if1 .left) (found-whole told),
+      search needs,
+    )
+
+enum-known-judgement-2 : tie.Need-enum-known-judgement-2
+enum-known-judgement-2 c = search needs
+
+refused-requires : tie.Need-refused-requires
+refused-requires c κs = search needs
+
+returns-2 : tie.Need-returns-2
+returns-2 c =
+    let told = c .before .before .before in
+    let test = told .before .before .before .before .before in
+    let a = test .before .before .args in
+    let given = told .before .judgement .given .0 in
+    c .handed .ensures ∙ ap (λ (h : List ℕ). handedOut (a .c) (given .0) h (given .1 .0)) (fixed-is (c .before)) ∙
+    laws.step-handed-out (a .c) (now (a .s)) (test .if1 .left) (found-whole told)
+
+returns-3 : tie.Need-returns-3
+returns-3 c =
+    let told = c .before in
+    let judged = told .before .before .before in
+    let test = judged .before .before in
+    let a = test .before .before .args in
+    let due : judge (a .c) (drop (a .c .start) (now (a .s))) ≡ faulty (told .before .judgement2 .given .0 .0) =
+    ap (judge (a .c)) (sym (lent-is (a .c .start) (now (a .s)))) ∙ sym (judged .judge .ensures) ∙ ap toldJudgement
+    (told .before .judgement2 .given .1) in
+    ap over (c .refused .ensures) ∙ sym (laws.step-faulty (a .c) (now (a .s)) (test .if1 .left) due)
+
+pub next-spec : {M : Type 1} → statement M
+next-spec =
+    tie.close
+    (tie.spec
+    ended-requires
+    returns
+    sub-judge
+    part-judge-start
+    part-judge-end
+    judge-requires
+    enum-known-judgement
+    sub-fixed-part
+    part-fixed-part-start
+    part-fixed-part-end
+    fixed-part-requires
+    handed-requires
+    enum-known-judgement-2
+    refused-requires
+    returns-2
+    returns-3)

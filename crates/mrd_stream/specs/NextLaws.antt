@@ -1,0 +1,72 @@
+-- What one step finds, as its code does: by the bytes from the cursor on, what judging them finds, and the fixed part.
+-- Assumes nothing.
+use Prim.Native.Nat.{ℕ, _+_, _≤_, _<_}
+use native.Mathlib.Nat.{not-suc-le-zero}
+use native.Mathlib.Omega.{arith}
+use mathlib.Core.Path.{_≡_, refl, sym, ap, _∙_}
+use mathlib.Core.List.{List, [], _∷_}
+use lib.ListN.{length, take, drop, length-drop, drop-of-length-le}
+use lib.Seq.{length-take-le}
+use Rattle.mrd_format.specs.declared.kind.Kind.{Kind}
+use Rattle.mrd_format.specs.Kinds.{fixedSize}
+use Rattle.mrd_format.specs.Message.{fixedPart}
+use Rattle.mrd_format.specs.MessageLaws.{size-least, fixed-take}
+use Rattle.mrd_logic.specs.Answer.{refused}
+use Rattle.mrd_cursor.specs.declared.cursor.Cursor.{Cursor}
+use Rattle.mrd_cursor.specs.Cursors.{maxMessages, after}
+use Rattle.mrd_judge.specs.Judge.{Judged, faulty, whole, judge}
+use Rattle.mrd_judge.specs.JudgeLaws.{fixed-long}
+use Rattle.mrd_judge.specs.WholeLaws.{WholeAt, judge-whole}
+use Rattle.mrd_stream.specs.Walk.{ended}
+use Rattle.mrd_stream.specs.Places.{located, Stepped, handed, over, stepBy, stepAt, step, handedOut}
+
+-- the step where bytes are left
+step-front : (c : Cursor) (t : List ℕ) → 0 < length t → stepAt c t ≡ stepBy (judge c t) c t
+unfolding stepAt
+step-front c [] h = absurd (not-suc-le-zero h)
+step-front c (b ∷ t) h = refl
+
+-- what is handed out by the fixed part is what the bytes of the message give
+handed-out : (k : Kind) (c : Cursor) (t : List ℕ) (z : ℕ) → 2 + fixedSize k ≤ z → z ≤ length t →
+    handedOut c k (fixedPart k t) z ≡ handed (located c k (take z t)) (after c k z)
+handed-out k c t z least fits = rw (fixed-take k z t least fits, length-take-le z t fits)
+
+-- the step from c over s, where no bytes are left
+pub step-ended : (c : Cursor) (s : List ℕ) → length s ≤ c .start → step c s ≡ over (ended c)
+unfolding step stepAt
+step-ended c s h = rw (drop-of-length-le s h)
+
+-- and where bytes are left: by what judging them finds
+module _ (c : Cursor) (s : List ℕ) (h : c .start < length s) where
+  front : step c s ≡ stepBy (judge c (drop (c .start) s)) c (drop (c .start) s)
+  unfolding step
+  front = step-front c (drop (c .start) s) (simp length-drop (omega arith))
+
+  pub step-faulty : {f : ℕ} → judge c (drop (c .start) s) ≡ faulty f → step c s ≡ over (refused f (c .number) (c .start))
+  step-faulty e = front ∙ ap (λ (j : Judged). stepBy j c (drop (c .start) s)) e
+
+  module _ {k : Kind} {z : ℕ} (e : judge c (drop (c .start) s) ≡ whole k z) where
+    pub step-whole : step c s ≡ handed (located c k (take z (drop (c .start) s))) (after c k z)
+    step-whole = front ∙ ap (λ (j : Judged). stepBy j c (drop (c .start) s)) e
+
+    judged : WholeAt c (drop (c .start) s) k z
+    judged = judge-whole c (drop (c .start) s) e
+
+    least : 2 + fixedSize k ≤ z
+    least = omega (arith, size-least k (fixedPart k (drop (c .start) s)), judged .size)
+
+    -- the fixed part is there, the count is not yet reached, and the message ends in the stream
+    pub whole-fixed : 2 + fixedSize k ≤ length (drop (c .start) s)
+    whole-fixed = omega (arith, least, judged .fits)
+
+    pub whole-long : length (fixedPart k (drop (c .start) s)) ≡ fixedSize k
+    whole-long = fixed-long k (drop (c .start) s) whole-fixed
+
+    pub whole-counted : c .number < maxMessages
+    whole-counted = judged .counted
+
+    pub whole-ends : c .start + z ≤ length s
+    whole-ends = omega (arith, judged .fits, length-drop (c .start) s)
+
+    pub step-handed-out : handedOut c k (fixedPart k (drop (c .start) s)) z ≡ step c s
+    step-handed-out = handed-out k c (drop (c .start) s) z least (judged .fits) ∙ sym step-whole

@@ -66,7 +66,7 @@ pub struct mrd_field_answer {
     pub refusal: u32,
     pub record: usize,
     pub byte: usize,
-    pub r#type: u32,
+    pub value_type: u32,
     pub whole: u64,
     pub integer: i32,
     pub float_bits: u32,

@@ -177,7 +177,7 @@ impl Field {
 
     pub(crate) fn told(answer: &raw::mrd_field_answer) -> Result<Field, Refusal> {
         Refusal::in_answer(answer.refusal, answer.record, answer.byte)?;
-        Ok(match answer.r#type {
+        Ok(match answer.value_type {
             raw::MRD_WHOLE => Field::Whole(answer.whole),
             raw::MRD_SIGNED => Field::Signed(answer.integer),
             raw::MRD_FLOAT => Field::Float {

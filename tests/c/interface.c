@@ -7,48 +7,13 @@
     _Static_assert(offsetof(of, member) == (offset), #of "." #member ": another offset"); \
     _Static_assert(sizeof((of){0}.member) == (size), #of "." #member ": another size")
 
-_Static_assert(sizeof(mrd_checked) == 32, "mrd_checked: another size");
-MEMBER(mrd_checked, refusal, 0, 4);
-MEMBER(mrd_checked, record, 8, 8);
-MEMBER(mrd_checked, byte, 16, 8);
-MEMBER(mrd_checked, count, 24, 8);
-
-_Static_assert(sizeof(mrd_view_place) == 40, "mrd_view_place: another size");
-MEMBER(mrd_view_place, refusal, 0, 4);
-MEMBER(mrd_view_place, record, 8, 8);
-MEMBER(mrd_view_place, byte, 16, 8);
-MEMBER(mrd_view_place, start, 24, 8);
-MEMBER(mrd_view_place, length, 32, 8);
-
-_Static_assert(sizeof(mrd_field_answer) == 48, "mrd_field_answer: another size");
-MEMBER(mrd_field_answer, refusal, 0, 4);
-MEMBER(mrd_field_answer, record, 8, 8);
-MEMBER(mrd_field_answer, byte, 16, 8);
-MEMBER(mrd_field_answer, value_type, 24, 4);
-MEMBER(mrd_field_answer, whole, 32, 8);
-MEMBER(mrd_field_answer, integer, 40, 4);
-MEMBER(mrd_field_answer, float_bits, 44, 4);
-
-_Static_assert(sizeof(mrd_found) == 32, "mrd_found: another size");
-MEMBER(mrd_found, refusal, 0, 4);
-MEMBER(mrd_found, record, 8, 8);
-MEMBER(mrd_found, byte, 16, 8);
-MEMBER(mrd_found, number, 24, 8);
-
-_Static_assert(sizeof(mrd_written) == 32, "mrd_written: another size");
-MEMBER(mrd_written, refusal, 0, 4);
-MEMBER(mrd_written, record, 8, 8);
-MEMBER(mrd_written, byte, 16, 8);
-MEMBER(mrd_written, length, 24, 8);
-
-_Static_assert(sizeof(mrd_matched) == 24, "mrd_matched: another size");
-MEMBER(mrd_matched, refusal, 0, 4);
-MEMBER(mrd_matched, record, 8, 8);
-MEMBER(mrd_matched, byte, 16, 8);
-
-_Static_assert(sizeof(mrd_put) == 16, "mrd_put: another size");
-MEMBER(mrd_put, refusal, 0, 4);
-MEMBER(mrd_put, position, 8, 8);
+_Static_assert(sizeof(mrd_question) == 72, "mrd_question: another size");
+MEMBER(mrd_question, what, 0, 4);
+MEMBER(mrd_question, part, 4, 4);
+MEMBER(mrd_question, number, 8, 8);
+MEMBER(mrd_question, channel, 16, 8);
+MEMBER(mrd_question, offset, 24, 8);
+MEMBER(mrd_question, counters, 32, 34);
 
 _Static_assert(sizeof(mrd_placed) == 80, "mrd_placed: another size");
 MEMBER(mrd_placed, refusal, 0, 4);
@@ -68,6 +33,43 @@ MEMBER(mrd_placed, matrix_y, 74, 2);
 MEMBER(mrd_placed, matrix_z, 76, 2);
 MEMBER(mrd_placed, data_type, 78, 2);
 
+_Static_assert(sizeof(mrd_field_answer) == 48, "mrd_field_answer: another size");
+MEMBER(mrd_field_answer, refusal, 0, 4);
+MEMBER(mrd_field_answer, record, 8, 8);
+MEMBER(mrd_field_answer, byte, 16, 8);
+MEMBER(mrd_field_answer, value_type, 24, 4);
+MEMBER(mrd_field_answer, whole, 32, 8);
+MEMBER(mrd_field_answer, integer, 40, 4);
+MEMBER(mrd_field_answer, float_bits, 44, 4);
+
+_Static_assert(sizeof(mrd_found) == 32, "mrd_found: another size");
+MEMBER(mrd_found, refusal, 0, 4);
+MEMBER(mrd_found, record, 8, 8);
+MEMBER(mrd_found, byte, 16, 8);
+MEMBER(mrd_found, number, 24, 8);
+
+_Static_assert(sizeof(mrd_view_place) == 40, "mrd_view_place: another size");
+MEMBER(mrd_view_place, refusal, 0, 4);
+MEMBER(mrd_view_place, record, 8, 8);
+MEMBER(mrd_view_place, byte, 16, 8);
+MEMBER(mrd_view_place, start, 24, 8);
+MEMBER(mrd_view_place, length, 32, 8);
+
+_Static_assert(sizeof(mrd_reply) == 224, "mrd_reply: another size");
+MEMBER(mrd_reply, refusal, 0, 4);
+MEMBER(mrd_reply, record, 8, 8);
+MEMBER(mrd_reply, byte, 16, 8);
+MEMBER(mrd_reply, place, 24, 80);
+MEMBER(mrd_reply, view, 104, 40);
+MEMBER(mrd_reply, field, 144, 48);
+MEMBER(mrd_reply, found, 192, 32);
+
+_Static_assert(sizeof(mrd_checked) == 32, "mrd_checked: another size");
+MEMBER(mrd_checked, refusal, 0, 4);
+MEMBER(mrd_checked, record, 8, 8);
+MEMBER(mrd_checked, byte, 16, 8);
+MEMBER(mrd_checked, count, 24, 8);
+
 _Static_assert(sizeof(mrd_cursor) == 24, "mrd_cursor: another size");
 MEMBER(mrd_cursor, number, 0, 8);
 MEMBER(mrd_cursor, start, 8, 8);
@@ -79,6 +81,23 @@ MEMBER(mrd_step, here, 8, 80);
 MEMBER(mrd_step, next, 88, 24);
 MEMBER(mrd_step, answer, 112, 32);
 
+_Static_assert(sizeof(mrd_matched) == 24, "mrd_matched: another size");
+MEMBER(mrd_matched, refusal, 0, 4);
+MEMBER(mrd_matched, record, 8, 8);
+MEMBER(mrd_matched, byte, 16, 8);
+
+_Static_assert(sizeof(mrd_put) == 16, "mrd_put: another size");
+MEMBER(mrd_put, refusal, 0, 4);
+MEMBER(mrd_put, position, 8, 8);
+
+_Static_assert(sizeof(mrd_written) == 32, "mrd_written: another size");
+MEMBER(mrd_written, refusal, 0, 4);
+MEMBER(mrd_written, record, 8, 8);
+MEMBER(mrd_written, byte, 16, 8);
+MEMBER(mrd_written, length, 24, 8);
+
+mrd_reply mrd_ask_with_columns(const uint8_t *, size_t, mrd_question, const uint64_t *, size_t, const uint16_t *, size_t, const uint32_t *, size_t);
+mrd_reply mrd_ask_with_file(const uint8_t *, size_t, mrd_question, const uint8_t *, size_t);
 mrd_cursor mrd_beginning(void);
 mrd_checked mrd_check(const uint8_t *, size_t);
 mrd_checked mrd_check_from(const uint8_t *, size_t, mrd_cursor);
@@ -86,12 +105,8 @@ mrd_matched mrd_columns_match(const uint8_t *, size_t, const uint64_t *, size_t,
 int32_t mrd_counter_step(uint32_t, uint32_t);
 mrd_field_answer mrd_field(const uint8_t *, size_t, size_t, size_t);
 mrd_field_answer mrd_field_at(const uint8_t *, size_t, mrd_cursor, size_t);
-mrd_field_answer mrd_field_with_columns(const uint8_t *, size_t, size_t, size_t, const uint64_t *, size_t, const uint16_t *, size_t, const uint32_t *, size_t);
-mrd_field_answer mrd_field_with_file(const uint8_t *, size_t, size_t, size_t, const uint8_t *, size_t);
 mrd_written mrd_fill_columns(const uint8_t *, size_t, uint64_t *, size_t, uint16_t *, size_t, uint32_t *, size_t);
-mrd_found mrd_find(const uint8_t *, size_t, size_t, const uint16_t *);
-mrd_found mrd_find_with_columns(const uint8_t *, size_t, size_t, const uint16_t *, const uint64_t *, size_t, const uint16_t *, size_t, const uint32_t *, size_t);
-mrd_found mrd_find_with_file(const uint8_t *, size_t, size_t, const uint16_t *, const uint8_t *, size_t);
+mrd_found mrd_find(const uint8_t *, size_t, size_t, const uint16_t[17]);
 uint64_t mrd_flag_clear(uint64_t, uint32_t);
 uint64_t mrd_flag_set(uint64_t, uint32_t);
 bool mrd_flag_test(uint64_t, uint32_t);
@@ -99,12 +114,8 @@ mrd_matched mrd_index_matches(const uint8_t *, size_t, const uint8_t *, size_t);
 mrd_step mrd_next(const uint8_t *, size_t, mrd_cursor);
 mrd_written mrd_normal_form(const uint8_t *, size_t, uint8_t *, size_t);
 mrd_placed mrd_place(const uint8_t *, size_t, size_t);
-mrd_placed mrd_place_with_columns(const uint8_t *, size_t, size_t, const uint64_t *, size_t, const uint16_t *, size_t, const uint32_t *, size_t);
-mrd_placed mrd_place_with_file(const uint8_t *, size_t, size_t, const uint8_t *, size_t);
 mrd_view_place mrd_view(const uint8_t *, size_t, size_t, uint32_t, size_t);
 mrd_view_place mrd_view_at(const uint8_t *, size_t, mrd_cursor, uint32_t, size_t);
-mrd_view_place mrd_view_with_columns(const uint8_t *, size_t, size_t, uint32_t, size_t, const uint64_t *, size_t, const uint16_t *, size_t, const uint32_t *, size_t);
-mrd_view_place mrd_view_with_file(const uint8_t *, size_t, size_t, uint32_t, size_t, const uint8_t *, size_t);
 mrd_put mrd_write(uint16_t, const uint8_t *, size_t, const uint8_t *, size_t, const uint8_t *, size_t, const uint8_t *, size_t, const uint8_t *, size_t, const uint8_t *, size_t, const uint8_t *, size_t, const uint8_t *, size_t, uint8_t *, size_t, size_t);
 mrd_written mrd_write_index(const uint8_t *, size_t, uint8_t *, size_t);
 

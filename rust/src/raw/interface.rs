@@ -5,48 +5,13 @@
 use super::*;
 use std::mem::{offset_of, size_of};
 
-const _: () = assert!(size_of::<mrd_checked>() == 32);
-const _: () = assert!(offset_of!(mrd_checked, refusal) == 0);
-const _: () = assert!(offset_of!(mrd_checked, record) == 8);
-const _: () = assert!(offset_of!(mrd_checked, byte) == 16);
-const _: () = assert!(offset_of!(mrd_checked, count) == 24);
-
-const _: () = assert!(size_of::<mrd_view_place>() == 40);
-const _: () = assert!(offset_of!(mrd_view_place, refusal) == 0);
-const _: () = assert!(offset_of!(mrd_view_place, record) == 8);
-const _: () = assert!(offset_of!(mrd_view_place, byte) == 16);
-const _: () = assert!(offset_of!(mrd_view_place, start) == 24);
-const _: () = assert!(offset_of!(mrd_view_place, length) == 32);
-
-const _: () = assert!(size_of::<mrd_field_answer>() == 48);
-const _: () = assert!(offset_of!(mrd_field_answer, refusal) == 0);
-const _: () = assert!(offset_of!(mrd_field_answer, record) == 8);
-const _: () = assert!(offset_of!(mrd_field_answer, byte) == 16);
-const _: () = assert!(offset_of!(mrd_field_answer, value_type) == 24);
-const _: () = assert!(offset_of!(mrd_field_answer, whole) == 32);
-const _: () = assert!(offset_of!(mrd_field_answer, integer) == 40);
-const _: () = assert!(offset_of!(mrd_field_answer, float_bits) == 44);
-
-const _: () = assert!(size_of::<mrd_found>() == 32);
-const _: () = assert!(offset_of!(mrd_found, refusal) == 0);
-const _: () = assert!(offset_of!(mrd_found, record) == 8);
-const _: () = assert!(offset_of!(mrd_found, byte) == 16);
-const _: () = assert!(offset_of!(mrd_found, number) == 24);
-
-const _: () = assert!(size_of::<mrd_written>() == 32);
-const _: () = assert!(offset_of!(mrd_written, refusal) == 0);
-const _: () = assert!(offset_of!(mrd_written, record) == 8);
-const _: () = assert!(offset_of!(mrd_written, byte) == 16);
-const _: () = assert!(offset_of!(mrd_written, length) == 24);
-
-const _: () = assert!(size_of::<mrd_matched>() == 24);
-const _: () = assert!(offset_of!(mrd_matched, refusal) == 0);
-const _: () = assert!(offset_of!(mrd_matched, record) == 8);
-const _: () = assert!(offset_of!(mrd_matched, byte) == 16);
-
-const _: () = assert!(size_of::<mrd_put>() == 16);
-const _: () = assert!(offset_of!(mrd_put, refusal) == 0);
-const _: () = assert!(offset_of!(mrd_put, position) == 8);
+const _: () = assert!(size_of::<mrd_question>() == 72);
+const _: () = assert!(offset_of!(mrd_question, what) == 0);
+const _: () = assert!(offset_of!(mrd_question, part) == 4);
+const _: () = assert!(offset_of!(mrd_question, number) == 8);
+const _: () = assert!(offset_of!(mrd_question, channel) == 16);
+const _: () = assert!(offset_of!(mrd_question, offset) == 24);
+const _: () = assert!(offset_of!(mrd_question, counters) == 32);
 
 const _: () = assert!(size_of::<mrd_placed>() == 80);
 const _: () = assert!(offset_of!(mrd_placed, refusal) == 0);
@@ -66,6 +31,43 @@ const _: () = assert!(offset_of!(mrd_placed, matrix_y) == 74);
 const _: () = assert!(offset_of!(mrd_placed, matrix_z) == 76);
 const _: () = assert!(offset_of!(mrd_placed, data_type) == 78);
 
+const _: () = assert!(size_of::<mrd_field_answer>() == 48);
+const _: () = assert!(offset_of!(mrd_field_answer, refusal) == 0);
+const _: () = assert!(offset_of!(mrd_field_answer, record) == 8);
+const _: () = assert!(offset_of!(mrd_field_answer, byte) == 16);
+const _: () = assert!(offset_of!(mrd_field_answer, value_type) == 24);
+const _: () = assert!(offset_of!(mrd_field_answer, whole) == 32);
+const _: () = assert!(offset_of!(mrd_field_answer, integer) == 40);
+const _: () = assert!(offset_of!(mrd_field_answer, float_bits) == 44);
+
+const _: () = assert!(size_of::<mrd_found>() == 32);
+const _: () = assert!(offset_of!(mrd_found, refusal) == 0);
+const _: () = assert!(offset_of!(mrd_found, record) == 8);
+const _: () = assert!(offset_of!(mrd_found, byte) == 16);
+const _: () = assert!(offset_of!(mrd_found, number) == 24);
+
+const _: () = assert!(size_of::<mrd_view_place>() == 40);
+const _: () = assert!(offset_of!(mrd_view_place, refusal) == 0);
+const _: () = assert!(offset_of!(mrd_view_place, record) == 8);
+const _: () = assert!(offset_of!(mrd_view_place, byte) == 16);
+const _: () = assert!(offset_of!(mrd_view_place, start) == 24);
+const _: () = assert!(offset_of!(mrd_view_place, length) == 32);
+
+const _: () = assert!(size_of::<mrd_reply>() == 224);
+const _: () = assert!(offset_of!(mrd_reply, refusal) == 0);
+const _: () = assert!(offset_of!(mrd_reply, record) == 8);
+const _: () = assert!(offset_of!(mrd_reply, byte) == 16);
+const _: () = assert!(offset_of!(mrd_reply, place) == 24);
+const _: () = assert!(offset_of!(mrd_reply, view) == 104);
+const _: () = assert!(offset_of!(mrd_reply, field) == 144);
+const _: () = assert!(offset_of!(mrd_reply, found) == 192);
+
+const _: () = assert!(size_of::<mrd_checked>() == 32);
+const _: () = assert!(offset_of!(mrd_checked, refusal) == 0);
+const _: () = assert!(offset_of!(mrd_checked, record) == 8);
+const _: () = assert!(offset_of!(mrd_checked, byte) == 16);
+const _: () = assert!(offset_of!(mrd_checked, count) == 24);
+
 const _: () = assert!(size_of::<mrd_cursor>() == 24);
 const _: () = assert!(offset_of!(mrd_cursor, number) == 0);
 const _: () = assert!(offset_of!(mrd_cursor, start) == 8);
@@ -77,6 +79,23 @@ const _: () = assert!(offset_of!(mrd_step, here) == 8);
 const _: () = assert!(offset_of!(mrd_step, next) == 88);
 const _: () = assert!(offset_of!(mrd_step, answer) == 112);
 
+const _: () = assert!(size_of::<mrd_matched>() == 24);
+const _: () = assert!(offset_of!(mrd_matched, refusal) == 0);
+const _: () = assert!(offset_of!(mrd_matched, record) == 8);
+const _: () = assert!(offset_of!(mrd_matched, byte) == 16);
+
+const _: () = assert!(size_of::<mrd_put>() == 16);
+const _: () = assert!(offset_of!(mrd_put, refusal) == 0);
+const _: () = assert!(offset_of!(mrd_put, position) == 8);
+
+const _: () = assert!(size_of::<mrd_written>() == 32);
+const _: () = assert!(offset_of!(mrd_written, refusal) == 0);
+const _: () = assert!(offset_of!(mrd_written, record) == 8);
+const _: () = assert!(offset_of!(mrd_written, byte) == 16);
+const _: () = assert!(offset_of!(mrd_written, length) == 24);
+
+const _: unsafe extern "C" fn(*const u8, usize, mrd_question, *const u64, usize, *const u16, usize, *const u32, usize) -> mrd_reply = mrd_ask_with_columns;
+const _: unsafe extern "C" fn(*const u8, usize, mrd_question, *const u8, usize) -> mrd_reply = mrd_ask_with_file;
 const _: unsafe extern "C" fn() -> mrd_cursor = mrd_beginning;
 const _: unsafe extern "C" fn(*const u8, usize) -> mrd_checked = mrd_check;
 const _: unsafe extern "C" fn(*const u8, usize, mrd_cursor) -> mrd_checked = mrd_check_from;
@@ -84,12 +103,8 @@ const _: unsafe extern "C" fn(*const u8, usize, *const u64, usize, *const u16, u
 const _: unsafe extern "C" fn(u32, u32) -> i32 = mrd_counter_step;
 const _: unsafe extern "C" fn(*const u8, usize, usize, usize) -> mrd_field_answer = mrd_field;
 const _: unsafe extern "C" fn(*const u8, usize, mrd_cursor, usize) -> mrd_field_answer = mrd_field_at;
-const _: unsafe extern "C" fn(*const u8, usize, usize, usize, *const u64, usize, *const u16, usize, *const u32, usize) -> mrd_field_answer = mrd_field_with_columns;
-const _: unsafe extern "C" fn(*const u8, usize, usize, usize, *const u8, usize) -> mrd_field_answer = mrd_field_with_file;
 const _: unsafe extern "C" fn(*const u8, usize, *mut u64, usize, *mut u16, usize, *mut u32, usize) -> mrd_written = mrd_fill_columns;
 const _: unsafe extern "C" fn(*const u8, usize, usize, *const u16) -> mrd_found = mrd_find;
-const _: unsafe extern "C" fn(*const u8, usize, usize, *const u16, *const u64, usize, *const u16, usize, *const u32, usize) -> mrd_found = mrd_find_with_columns;
-const _: unsafe extern "C" fn(*const u8, usize, usize, *const u16, *const u8, usize) -> mrd_found = mrd_find_with_file;
 const _: unsafe extern "C" fn(u64, u32) -> u64 = mrd_flag_clear;
 const _: unsafe extern "C" fn(u64, u32) -> u64 = mrd_flag_set;
 const _: unsafe extern "C" fn(u64, u32) -> bool = mrd_flag_test;
@@ -97,11 +112,7 @@ const _: unsafe extern "C" fn(*const u8, usize, *const u8, usize) -> mrd_matched
 const _: unsafe extern "C" fn(*const u8, usize, mrd_cursor) -> mrd_step = mrd_next;
 const _: unsafe extern "C" fn(*const u8, usize, *mut u8, usize) -> mrd_written = mrd_normal_form;
 const _: unsafe extern "C" fn(*const u8, usize, usize) -> mrd_placed = mrd_place;
-const _: unsafe extern "C" fn(*const u8, usize, usize, *const u64, usize, *const u16, usize, *const u32, usize) -> mrd_placed = mrd_place_with_columns;
-const _: unsafe extern "C" fn(*const u8, usize, usize, *const u8, usize) -> mrd_placed = mrd_place_with_file;
 const _: unsafe extern "C" fn(*const u8, usize, usize, u32, usize) -> mrd_view_place = mrd_view;
 const _: unsafe extern "C" fn(*const u8, usize, mrd_cursor, u32, usize) -> mrd_view_place = mrd_view_at;
-const _: unsafe extern "C" fn(*const u8, usize, usize, u32, usize, *const u64, usize, *const u16, usize, *const u32, usize) -> mrd_view_place = mrd_view_with_columns;
-const _: unsafe extern "C" fn(*const u8, usize, usize, u32, usize, *const u8, usize) -> mrd_view_place = mrd_view_with_file;
 const _: unsafe extern "C" fn(u16, *const u8, usize, *const u8, usize, *const u8, usize, *const u8, usize, *const u8, usize, *const u8, usize, *const u8, usize, *const u8, usize, *mut u8, usize, usize) -> mrd_put = mrd_write;
 const _: unsafe extern "C" fn(*const u8, usize, *mut u8, usize) -> mrd_written = mrd_write_index;

@@ -123,9 +123,10 @@ impl Interface {
         for s in &self.structs {
             let (mut at, mut most, mut members) = (0usize, 1, Vec::new());
             for (name, of) in &s.members {
-                let (size, align) = *known
-                    .get(of.as_str())
-                    .unwrap_or_else(|| panic!("{name}: {of}"));
+                let (element, count) = repeated(of);
+                let known = known.get(element);
+                let (size, align) = *known.unwrap_or_else(|| panic!("{name}: {of}"));
+                let size = count * size;
                 at = at.next_multiple_of(align);
                 members.push((at, size));
                 at += size;
@@ -208,11 +209,22 @@ impl Interface {
     }
 }
 
+/// The element type and length of an array; any other type is one of itself.
+fn repeated(of: &str) -> (&str, usize) {
+    let array = of
+        .strip_prefix('[')
+        .and_then(|array| array.strip_suffix(']'));
+    match array.and_then(|array| array.split_once("; ")) {
+        Some((element, count)) => (element, count.parse().expect("an array's length")),
+        None => (of, 1),
+    }
+}
+
 /// The element of a slice or array type and whether it is written to: a slice crosses as pointer and length, an
 /// array as a pointer.
 enum Crossing<'a> {
     Slice(&'a str, bool),
-    Array(&'a str),
+    Array(&'a str, &'a str),
     Plain(&'a str),
 }
 
@@ -224,7 +236,7 @@ fn crossing(of: &str) -> Crossing<'_> {
         .and_then(|list| list.strip_suffix(']'))
     {
         Some(list) => match list.split_once(';') {
-            Some((element, _)) => Crossing::Array(element),
+            Some((element, count)) => Crossing::Array(element, count.trim()),
             None => Crossing::Slice(list, written),
         },
         None => Crossing::Plain(of),
@@ -245,7 +257,7 @@ fn c_type(of: &str) -> String {
     match crossing(of) {
         Crossing::Slice(element, true) => format!("{} *, size_t", c_plain(element)),
         Crossing::Slice(element, false) => format!("const {} *, size_t", c_plain(element)),
-        Crossing::Array(element) => format!("const {} *", c_plain(element)),
+        Crossing::Array(element, count) => format!("const {}[{count}]", c_plain(element)),
         Crossing::Plain(of) => c_plain(of),
     }
 }
@@ -254,7 +266,7 @@ fn rust_type(of: &str) -> String {
     match crossing(of) {
         Crossing::Slice(element, true) => format!("*mut {element}, usize"),
         Crossing::Slice(element, false) => format!("*const {element}, usize"),
-        Crossing::Array(element) => format!("*const {element}"),
+        Crossing::Array(element, _) => format!("*const {element}"),
         Crossing::Plain(of) if of.starts_with(char::is_uppercase) => in_c(of),
         Crossing::Plain(of) => of.to_string(),
     }

@@ -71,7 +71,7 @@ impl Format {
             counters: field::counters(&description),
             element_sizes: definitions::element_sizes(sources),
             message_size: definitions::number(sources, "limit"),
-            messages: definitions::number(sources, "messageLimit"),
+            messages: definitions::number(sources, "maxMessages"),
             listing: definitions::constant(sources, "mrd_list/src/main.rt", "LIMIT"),
         }
     }

@@ -214,8 +214,8 @@ fn limits(format: &Format, sources: &Sources) -> String {
     ];
     table(&["limit", "value", "beyond it"], rows)
         + &format!(
-            "\nDefinitions: `limit` in `mrd_format/specs/Message.antt`, `messageLimit` in `{}`; `LIMIT` in `mrd_list/src/main.rt`.\n",
-            sources.home("messageLimit")
+            "\nDefinitions: `limit` in `mrd_format/specs/Message.antt`, `maxMessages` in `{}`; `LIMIT` in `mrd_list/src/main.rt`.\n",
+            sources.home("maxMessages")
         )
 }
 

@@ -94,25 +94,78 @@ const _: () = assert!(offset_of!(mrd_written, record) == 8);
 const _: () = assert!(offset_of!(mrd_written, byte) == 16);
 const _: () = assert!(offset_of!(mrd_written, length) == 24);
 
-const _: unsafe extern "C" fn(*const u8, usize, mrd_question, *const u64, usize, *const u16, usize, *const u32, usize) -> mrd_reply = mrd_ask_with_columns;
-const _: unsafe extern "C" fn(*const u8, usize, mrd_question, *const u8, usize) -> mrd_reply = mrd_ask_with_file;
+const _: unsafe extern "C" fn(
+    *const u8,
+    usize,
+    mrd_question,
+    *const u64,
+    usize,
+    *const u16,
+    usize,
+    *const u32,
+    usize,
+) -> mrd_reply = mrd_ask_with_columns;
+const _: unsafe extern "C" fn(*const u8, usize, mrd_question, *const u8, usize) -> mrd_reply =
+    mrd_ask_with_file;
 const _: unsafe extern "C" fn() -> mrd_cursor = mrd_beginning;
 const _: unsafe extern "C" fn(*const u8, usize) -> mrd_checked = mrd_check;
 const _: unsafe extern "C" fn(*const u8, usize, mrd_cursor) -> mrd_checked = mrd_check_from;
-const _: unsafe extern "C" fn(*const u8, usize, *const u64, usize, *const u16, usize, *const u32, usize) -> mrd_matched = mrd_columns_match;
+const _: unsafe extern "C" fn(
+    *const u8,
+    usize,
+    *const u64,
+    usize,
+    *const u16,
+    usize,
+    *const u32,
+    usize,
+) -> mrd_matched = mrd_columns_match;
 const _: unsafe extern "C" fn(u32, u32) -> i32 = mrd_counter_step;
 const _: unsafe extern "C" fn(*const u8, usize, usize, usize) -> mrd_field_answer = mrd_field;
-const _: unsafe extern "C" fn(*const u8, usize, mrd_cursor, usize) -> mrd_field_answer = mrd_field_at;
-const _: unsafe extern "C" fn(*const u8, usize, *mut u64, usize, *mut u16, usize, *mut u32, usize) -> mrd_written = mrd_fill_columns;
+const _: unsafe extern "C" fn(*const u8, usize, mrd_cursor, usize) -> mrd_field_answer =
+    mrd_field_at;
+const _: unsafe extern "C" fn(
+    *const u8,
+    usize,
+    *mut u64,
+    usize,
+    *mut u16,
+    usize,
+    *mut u32,
+    usize,
+) -> mrd_written = mrd_fill_columns;
 const _: unsafe extern "C" fn(*const u8, usize, usize, *const u16) -> mrd_found = mrd_find;
 const _: unsafe extern "C" fn(u64, u32) -> u64 = mrd_flag_clear;
 const _: unsafe extern "C" fn(u64, u32) -> u64 = mrd_flag_set;
 const _: unsafe extern "C" fn(u64, u32) -> bool = mrd_flag_test;
-const _: unsafe extern "C" fn(*const u8, usize, *const u8, usize) -> mrd_matched = mrd_index_matches;
+const _: unsafe extern "C" fn(*const u8, usize, *const u8, usize) -> mrd_matched =
+    mrd_index_matches;
 const _: unsafe extern "C" fn(*const u8, usize, mrd_cursor) -> mrd_step = mrd_next;
 const _: unsafe extern "C" fn(*const u8, usize, *mut u8, usize) -> mrd_written = mrd_normal_form;
 const _: unsafe extern "C" fn(*const u8, usize, usize) -> mrd_placed = mrd_place;
 const _: unsafe extern "C" fn(*const u8, usize, usize, u32, usize) -> mrd_view_place = mrd_view;
-const _: unsafe extern "C" fn(*const u8, usize, mrd_cursor, u32, usize) -> mrd_view_place = mrd_view_at;
-const _: unsafe extern "C" fn(u16, *const u8, usize, *const u8, usize, *const u8, usize, *const u8, usize, *const u8, usize, *const u8, usize, *const u8, usize, *const u8, usize, *mut u8, usize, usize) -> mrd_put = mrd_write;
+const _: unsafe extern "C" fn(*const u8, usize, mrd_cursor, u32, usize) -> mrd_view_place =
+    mrd_view_at;
+const _: unsafe extern "C" fn(
+    u16,
+    *const u8,
+    usize,
+    *const u8,
+    usize,
+    *const u8,
+    usize,
+    *const u8,
+    usize,
+    *const u8,
+    usize,
+    *const u8,
+    usize,
+    *const u8,
+    usize,
+    *const u8,
+    usize,
+    *mut u8,
+    usize,
+    usize,
+) -> mrd_put = mrd_write;
 const _: unsafe extern "C" fn(*const u8, usize, *mut u8, usize) -> mrd_written = mrd_write_index;

@@ -189,13 +189,8 @@ impl Interface {
         for f in &self.functions {
             let parameters: Vec<String> =
                 f.parameters.iter().map(|(_, of)| rust_type(of)).collect();
-            let result = rust_type(&f.result);
-            let line = format!(
-                "const _: unsafe extern \"C\" fn({}) -> {result} = {};",
-                parameters.join(", "),
-                f.name
-            );
-            out += &format!("{line}\n");
+            let parameters = parameters.join(", ");
+            out += &typed(&parameters, &rust_type(&f.result), &f.name);
         }
         out
     }
@@ -206,6 +201,20 @@ impl Interface {
         names
             .filter(|name| !header.contains(&format!(" {name}(")))
             .collect()
+    }
+}
+
+/// A line that compiles where a function has this type, in rustfmt's layout.
+fn typed(parameters: &str, result: &str, name: &str) -> String {
+    let left = format!("const _: unsafe extern \"C\" fn({parameters}) -> {result} =");
+    match left.len() {
+        ..=100 if left.len() + name.len() + 2 <= 100 => format!("{left} {name};\n"),
+        ..=100 => format!("{left}\n    {name};\n"),
+        _ => {
+            let lines = parameters.split(", ").map(|of| format!("    {of},\n"));
+            let lines: String = lines.collect();
+            format!("const _: unsafe extern \"C\" fn(\n{lines}) -> {result} = {name};\n")
+        }
     }
 }
 

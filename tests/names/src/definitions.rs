@@ -173,13 +173,13 @@ fn folder(path: &Path) -> Vec<String> {
 
 /// The name that a line declares, if it declares one: of a definition, a type, a function or a constant.
 fn declared(line: &str) -> Option<&str> {
-    let mut words = line.split_whitespace().peekable();
+    let words = line.split_whitespace();
     let mut public = false;
-    while let Some(word) = words.next() {
+    for word in words {
         match word {
-            "pub" => public = true,
-            "abbrev" | "unfoldable" | "record" | "data" | "struct" | "enum" | "const" | "fn"
-            | "extern" | "\"C\"" => {}
+            "pub" | "const" => public = true,
+            "abbrev" | "unfoldable" | "record" | "data" | "struct" | "enum" | "fn" | "extern"
+            | "\"C\"" => {}
             _ if !public => return None,
             name => {
                 let end = name.find(['(', ':', '<']).unwrap_or(name.len());
@@ -366,6 +366,39 @@ fn lines_of<'a>(text: &'a str, name: &'a str) -> impl Iterator<Item = (&'a str, 
     text.lines()
         .filter_map(move |line| line.strip_prefix(name)?.strip_prefix(' '))
         .filter_map(|line| line.split_once(" = "))
+}
+
+/// The numbers of the checks in a definition or a form's `checks`, in order: each stands before a `when`.
+fn checks_in(text: &str, start: &str, end: &str) -> Vec<usize> {
+    let from = text.find(start).unwrap_or_else(|| panic!("no {start}"));
+    let rest = &text[from..];
+    let until = rest.find(end).unwrap_or(rest.len());
+    let parts: Vec<&str> = rest[..until].split(" when ").collect();
+    let before = parts[..parts.len() - 1].iter();
+    let number = |part: &&str| *numbers(part).last().expect("a check's number");
+    before.map(number).collect()
+}
+
+/// The checks of a stage, by its definition's name: it stands beside the list of all stages.
+pub fn stage_checks(sources: &Sources, name: &str) -> Vec<usize> {
+    let text = sources.text(sources.home("stages"));
+    checks_in(text, &format!("\n{name} "), "\n\n")
+}
+
+/// The checks of a kind's own fixed part.
+pub fn own_checks(sources: &Sources, kind: &str) -> Vec<usize> {
+    let form = value_of(
+        sources.text("mrd_format/specs/Kinds.antt"),
+        &format!("formOf {kind}"),
+    );
+    match form.ends_with(".form") {
+        true => checks_in(sources.text(&header_file(kind)), "\nchecks h =", "\n\n"),
+        false => checks_in(
+            sources.text("mrd_format/specs/Texts.antt"),
+            &format!("\n{form} ="),
+            "\n\n",
+        ),
+    }
 }
 
 /// What is wrong and what to do, for each refusal, from refusals.txt.

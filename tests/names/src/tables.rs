@@ -1,6 +1,6 @@
 //! The tables of the pages: each stands between `<!-- names: NAME -->` and `<!-- end -->`.
 
-use crate::definitions::{header_file, Field, Header, Sources};
+use crate::definitions::{self, header_file, Field, Header, Sources};
 use crate::rust::words;
 use crate::{Format, DATA_TYPES};
 
@@ -98,6 +98,61 @@ fn order(format: &Format, sources: &Sources) -> String {
         row
     });
     table(&head, rows.collect()) + &carried(&["allowed", "nextPhase"], sources.home("allowed"))
+}
+
+/// The stages of judging a message, each with its checks in order.
+fn stages(sources: &Sources) -> String {
+    let rows = [
+        ("front", "frontChecks", "before the id is looked at"),
+        (
+            "id",
+            "idChecks",
+            "2 where the id names no kind, else 12 where the kind may not come now",
+        ),
+        (
+            "fixed part",
+            "fixedChecks",
+            "3, and then the kind's own checks, below",
+        ),
+        (
+            "size",
+            "sizeChecks",
+            "the whole message, by the sizes in its fixed part",
+        ),
+    ];
+    let row = |(stage, name, of): (&str, &str, &str)| {
+        vec![
+            stage.to_string(),
+            listed(&definitions::stage_checks(sources, name)),
+            of.to_string(),
+            format!("`{name}`"),
+        ]
+    };
+    let names = ["stages", "checksAs"];
+    table(
+        &["stage", "checks, in order", "", "definition"],
+        rows.into_iter().map(row).collect(),
+    ) + &carried(&names, sources.home("stages"))
+}
+
+/// The checks of each kind's own fixed part.
+fn own_checks(format: &Format, sources: &Sources) -> String {
+    let checks = |name: &str| match definitions::own_checks(sources, name) {
+        none if none.is_empty() => "none".to_string(),
+        some => listed(&some),
+    };
+    let rows = format
+        .kinds
+        .iter()
+        .map(|kind| vec![words(&kind.name), checks(&kind.name)]);
+    table(&["kind", "own checks, in order"], rows.collect())
+        + &carried(&["ownChecks"], "mrd_format/specs/Message.antt")
+}
+
+/// Numbers with commas between.
+fn listed(numbers: &[usize]) -> String {
+    let words: Vec<String> = numbers.iter().map(usize::to_string).collect();
+    words.join(", ")
 }
 
 fn element_name(field: &Field) -> String {
@@ -224,6 +279,8 @@ fn named(name: &str, format: &Format, sources: &Sources) -> String {
     match name {
         "kinds" => kinds(format),
         "order" => order(format, sources),
+        "stages" => stages(sources),
+        "own checks" => own_checks(format, sources),
         "acquisition" => header(&format.headers[0]),
         "image" => header(&format.headers[1]),
         "waveform" => header(&format.headers[2]),

@@ -67,8 +67,8 @@ typedef struct {
 
 mrd_placed mrd_place(const uint8_t *stream, size_t stream_length, size_t n);
 
-/* A walk: from mrd_beginning() on, each mrd_next hands out one record and the cursor of what follows,
- * at a cost that does not grow with the stream; at the end it hands out the stream's answer. Any cursor
+/* A walk: from mrd_beginning() on, each mrd_next yields one record and the cursor of what follows,
+ * at a cost that does not grow with the stream; at the end it yields the stream's answer. Any cursor
  * gets an answer; a phase over 3 is taken as 3. */
 typedef struct {
     size_t number, start;
@@ -134,8 +134,8 @@ typedef struct {
 
 mrd_found mrd_find(const uint8_t *stream, size_t stream_length, size_t n, const uint16_t counters[17]);
 
-/* The same for the record that is due where a walk stands, at a cost that does not grow with the stream: take
- * the cursor with which mrd_next hands the record out. The stream's refusal where its message is refused, 16
+/* The same for the record that is due at a cursor of a walk, at a cost that does not grow with the stream: take
+ * the cursor with which mrd_next yields the record. The stream's refusal where its message is refused, 16
  * where none is left. */
 mrd_view_place mrd_view_at(const uint8_t *stream, size_t stream_length, mrd_cursor cursor, uint32_t part,
                            size_t channel);
@@ -227,7 +227,7 @@ int32_t mrd_counter_step(uint32_t earlier, uint32_t later);
 
 /* ---- Writing ---- */
 
-/* What stands at the front of the output: so many bytes, or, of columns, so many places. */
+/* How much the front of the output now has: so many bytes, or, of columns, so many places. */
 typedef struct {
     mrd_refusal refusal;
     size_t record, byte;
@@ -245,7 +245,7 @@ mrd_written mrd_fill_columns(const uint8_t *stream, size_t stream_length, uint64
                              size_t starts_length, uint16_t *ids, size_t ids_length, uint32_t *counters,
                              size_t counters_length);
 
-/* Whether a lent index is the stream's own: refusal 0, else 15, or the stream's refusal first. */
+/* Whether an index is the stream's own: refusal 0, else 15, or the stream's refusal first. */
 typedef struct {
     mrd_refusal refusal;
     size_t record, byte;
@@ -258,7 +258,7 @@ mrd_matched mrd_columns_match(const uint8_t *stream, size_t stream_length, const
                               const uint32_t *counters, size_t counters_length);
 
 /* Writes one message into `out` from `position` on, and answers the position after it. The header is that
- * of the kind, 340, 198 or 32 bytes, or empty; parts that the kind lacks are lent empty. Order and count
+ * of the kind, 340, 198 or 32 bytes, or empty; parts that the kind lacks are empty. Order and count
  * are not judged: mrd_check judges the whole stream. */
 typedef struct {
     mrd_refusal refusal;

@@ -1,100 +1,107 @@
-/* Holds include/cotterleaf.h to the Rattle sources when it is compiled: size and offset of every member
- * of every struct, and the type of every function, which are declared here once more.
+/* Holds include/cotterleaf.h to the Rattle sources when it is compiled: offset and type of every member of every
+ * struct, and the type of every function, which are declared here once more.
  * Written by tests/names from the functions marked #[no_mangle]: change those, not this file. */
 #include "cotterleaf.h"
 
-#define MEMBER(of, member, offset, size)                                                  \
-    _Static_assert(offsetof(of, member) == (offset), #of "." #member ": another offset"); \
+#define AT(of, member, offset) \
+    _Static_assert(offsetof(of, member) == (offset), #of "." #member ": another offset")
+#define TYPE(value, type) _Static_assert(_Generic(value, type: 1, default: 0), #value ": not of type " #type)
+#define MEMBER(of, member, offset, type) \
+    AT(of, member, offset);              \
+    TYPE(((of){0}).member, type)
+#define ARRAY(of, member, offset, type, size) \
+    AT(of, member, offset);                   \
+    TYPE(((of){0}).member[0], type);          \
     _Static_assert(sizeof((of){0}.member) == (size), #of "." #member ": another size")
 
 _Static_assert(sizeof(mrd_question) == 72, "mrd_question: another size");
-MEMBER(mrd_question, what, 0, 4);
-MEMBER(mrd_question, part, 4, 4);
-MEMBER(mrd_question, number, 8, 8);
-MEMBER(mrd_question, channel, 16, 8);
-MEMBER(mrd_question, offset, 24, 8);
-MEMBER(mrd_question, counters, 32, 34);
+MEMBER(mrd_question, what, 0, uint32_t);
+MEMBER(mrd_question, part, 4, uint32_t);
+MEMBER(mrd_question, number, 8, size_t);
+MEMBER(mrd_question, channel, 16, size_t);
+MEMBER(mrd_question, offset, 24, size_t);
+ARRAY(mrd_question, counters, 32, uint16_t, 34);
 
 _Static_assert(sizeof(mrd_placed) == 80, "mrd_placed: another size");
-MEMBER(mrd_placed, refusal, 0, 4);
-MEMBER(mrd_placed, record, 8, 8);
-MEMBER(mrd_placed, byte, 16, 8);
-MEMBER(mrd_placed, number, 24, 8);
-MEMBER(mrd_placed, start, 32, 8);
-MEMBER(mrd_placed, size, 40, 8);
-MEMBER(mrd_placed, length, 48, 8);
-MEMBER(mrd_placed, attribute_length, 56, 8);
-MEMBER(mrd_placed, id, 64, 2);
-MEMBER(mrd_placed, samples, 66, 2);
-MEMBER(mrd_placed, channels, 68, 2);
-MEMBER(mrd_placed, dimensions, 70, 2);
-MEMBER(mrd_placed, matrix_x, 72, 2);
-MEMBER(mrd_placed, matrix_y, 74, 2);
-MEMBER(mrd_placed, matrix_z, 76, 2);
-MEMBER(mrd_placed, data_type, 78, 2);
+MEMBER(mrd_placed, refusal, 0, uint32_t);
+MEMBER(mrd_placed, record, 8, size_t);
+MEMBER(mrd_placed, byte, 16, size_t);
+MEMBER(mrd_placed, number, 24, size_t);
+MEMBER(mrd_placed, start, 32, size_t);
+MEMBER(mrd_placed, size, 40, size_t);
+MEMBER(mrd_placed, length, 48, size_t);
+MEMBER(mrd_placed, attribute_length, 56, uint64_t);
+MEMBER(mrd_placed, id, 64, uint16_t);
+MEMBER(mrd_placed, samples, 66, uint16_t);
+MEMBER(mrd_placed, channels, 68, uint16_t);
+MEMBER(mrd_placed, dimensions, 70, uint16_t);
+MEMBER(mrd_placed, matrix_x, 72, uint16_t);
+MEMBER(mrd_placed, matrix_y, 74, uint16_t);
+MEMBER(mrd_placed, matrix_z, 76, uint16_t);
+MEMBER(mrd_placed, data_type, 78, uint16_t);
 
 _Static_assert(sizeof(mrd_field_answer) == 48, "mrd_field_answer: another size");
-MEMBER(mrd_field_answer, refusal, 0, 4);
-MEMBER(mrd_field_answer, record, 8, 8);
-MEMBER(mrd_field_answer, byte, 16, 8);
-MEMBER(mrd_field_answer, value_type, 24, 4);
-MEMBER(mrd_field_answer, whole, 32, 8);
-MEMBER(mrd_field_answer, integer, 40, 4);
-MEMBER(mrd_field_answer, float_bits, 44, 4);
+MEMBER(mrd_field_answer, refusal, 0, uint32_t);
+MEMBER(mrd_field_answer, record, 8, size_t);
+MEMBER(mrd_field_answer, byte, 16, size_t);
+MEMBER(mrd_field_answer, value_type, 24, uint32_t);
+MEMBER(mrd_field_answer, whole, 32, uint64_t);
+MEMBER(mrd_field_answer, integer, 40, int32_t);
+MEMBER(mrd_field_answer, float_bits, 44, uint32_t);
 
 _Static_assert(sizeof(mrd_found) == 32, "mrd_found: another size");
-MEMBER(mrd_found, refusal, 0, 4);
-MEMBER(mrd_found, record, 8, 8);
-MEMBER(mrd_found, byte, 16, 8);
-MEMBER(mrd_found, number, 24, 8);
+MEMBER(mrd_found, refusal, 0, uint32_t);
+MEMBER(mrd_found, record, 8, size_t);
+MEMBER(mrd_found, byte, 16, size_t);
+MEMBER(mrd_found, number, 24, size_t);
 
 _Static_assert(sizeof(mrd_view_place) == 40, "mrd_view_place: another size");
-MEMBER(mrd_view_place, refusal, 0, 4);
-MEMBER(mrd_view_place, record, 8, 8);
-MEMBER(mrd_view_place, byte, 16, 8);
-MEMBER(mrd_view_place, start, 24, 8);
-MEMBER(mrd_view_place, length, 32, 8);
+MEMBER(mrd_view_place, refusal, 0, uint32_t);
+MEMBER(mrd_view_place, record, 8, size_t);
+MEMBER(mrd_view_place, byte, 16, size_t);
+MEMBER(mrd_view_place, start, 24, size_t);
+MEMBER(mrd_view_place, length, 32, size_t);
 
 _Static_assert(sizeof(mrd_reply) == 224, "mrd_reply: another size");
-MEMBER(mrd_reply, refusal, 0, 4);
-MEMBER(mrd_reply, record, 8, 8);
-MEMBER(mrd_reply, byte, 16, 8);
-MEMBER(mrd_reply, place, 24, 80);
-MEMBER(mrd_reply, view, 104, 40);
-MEMBER(mrd_reply, field, 144, 48);
-MEMBER(mrd_reply, found, 192, 32);
+MEMBER(mrd_reply, refusal, 0, uint32_t);
+MEMBER(mrd_reply, record, 8, size_t);
+MEMBER(mrd_reply, byte, 16, size_t);
+MEMBER(mrd_reply, place, 24, mrd_placed);
+MEMBER(mrd_reply, view, 104, mrd_view_place);
+MEMBER(mrd_reply, field, 144, mrd_field_answer);
+MEMBER(mrd_reply, found, 192, mrd_found);
 
 _Static_assert(sizeof(mrd_checked) == 32, "mrd_checked: another size");
-MEMBER(mrd_checked, refusal, 0, 4);
-MEMBER(mrd_checked, record, 8, 8);
-MEMBER(mrd_checked, byte, 16, 8);
-MEMBER(mrd_checked, count, 24, 8);
+MEMBER(mrd_checked, refusal, 0, uint32_t);
+MEMBER(mrd_checked, record, 8, size_t);
+MEMBER(mrd_checked, byte, 16, size_t);
+MEMBER(mrd_checked, count, 24, size_t);
 
 _Static_assert(sizeof(mrd_cursor) == 24, "mrd_cursor: another size");
-MEMBER(mrd_cursor, number, 0, 8);
-MEMBER(mrd_cursor, start, 8, 8);
-MEMBER(mrd_cursor, phase, 16, 4);
+MEMBER(mrd_cursor, number, 0, size_t);
+MEMBER(mrd_cursor, start, 8, size_t);
+MEMBER(mrd_cursor, phase, 16, uint32_t);
 
 _Static_assert(sizeof(mrd_step) == 144, "mrd_step: another size");
-MEMBER(mrd_step, ended, 0, 1);
-MEMBER(mrd_step, here, 8, 80);
-MEMBER(mrd_step, next, 88, 24);
-MEMBER(mrd_step, answer, 112, 32);
+MEMBER(mrd_step, ended, 0, bool);
+MEMBER(mrd_step, here, 8, mrd_placed);
+MEMBER(mrd_step, next, 88, mrd_cursor);
+MEMBER(mrd_step, answer, 112, mrd_checked);
 
 _Static_assert(sizeof(mrd_matched) == 24, "mrd_matched: another size");
-MEMBER(mrd_matched, refusal, 0, 4);
-MEMBER(mrd_matched, record, 8, 8);
-MEMBER(mrd_matched, byte, 16, 8);
+MEMBER(mrd_matched, refusal, 0, uint32_t);
+MEMBER(mrd_matched, record, 8, size_t);
+MEMBER(mrd_matched, byte, 16, size_t);
 
 _Static_assert(sizeof(mrd_put) == 16, "mrd_put: another size");
-MEMBER(mrd_put, refusal, 0, 4);
-MEMBER(mrd_put, position, 8, 8);
+MEMBER(mrd_put, refusal, 0, uint32_t);
+MEMBER(mrd_put, position, 8, size_t);
 
 _Static_assert(sizeof(mrd_written) == 32, "mrd_written: another size");
-MEMBER(mrd_written, refusal, 0, 4);
-MEMBER(mrd_written, record, 8, 8);
-MEMBER(mrd_written, byte, 16, 8);
-MEMBER(mrd_written, length, 24, 8);
+MEMBER(mrd_written, refusal, 0, uint32_t);
+MEMBER(mrd_written, record, 8, size_t);
+MEMBER(mrd_written, byte, 16, size_t);
+MEMBER(mrd_written, length, 24, size_t);
 
 mrd_reply mrd_ask_with_columns(const uint8_t *, size_t, mrd_question, const uint64_t *, size_t, const uint16_t *, size_t, const uint32_t *, size_t);
 mrd_reply mrd_ask_with_file(const uint8_t *, size_t, mrd_question, const uint8_t *, size_t);

@@ -68,8 +68,16 @@ pub fn differences(description: &str, header: &Header) -> Vec<String> {
             == (theirs.name, theirs.element, theirs.count);
         if !alike || (header.kind != "Waveform" && ours.offset != theirs.offset) {
             found.push(format!(
-                "{}: {} is {} there",
-                header.kind, ours.name, theirs.name
+                "{}: {} {} x {} at {}, there {} {} x {} at {}",
+                header.kind,
+                ours.name,
+                ours.element.in_rust(),
+                ours.count,
+                ours.offset,
+                theirs.name,
+                theirs.element,
+                theirs.count,
+                theirs.offset
             ));
         }
     }

@@ -5,6 +5,32 @@ use crate::c::upper;
 use crate::definitions::Sources;
 use std::collections::BTreeMap;
 
+/// How tests/c/interface.c begins. A member is held to its type by `_Generic`, to which an array would be a pointer.
+const C_BEGINNING: &str = r##"/* Holds include/cotterleaf.h to the Rattle sources when it is compiled: offset and type of every member of every
+ * struct, and the type of every function, which are declared here once more.
+ * Written by tests/names from the functions marked #[no_mangle]: change those, not this file. */
+#include "cotterleaf.h"
+
+#define AT(of, member, offset) \
+    _Static_assert(offsetof(of, member) == (offset), #of "." #member ": another offset")
+#define TYPE(value, type) _Static_assert(_Generic(value, type: 1, default: 0), #value ": not of type " #type)
+#define MEMBER(of, member, offset, type) \
+    AT(of, member, offset);              \
+    TYPE(((of){0}).member, type)
+#define ARRAY(of, member, offset, type, size) \
+    AT(of, member, offset);                   \
+    TYPE(((of){0}).member[0], type);          \
+    _Static_assert(sizeof((of){0}.member) == (size), #of "." #member ": another size")
+"##;
+
+const RUST_BEGINNING: &str = r##"//! Holds the declarations of raw.rs to the Rattle sources when it is compiled: offset and type of every member of
+//! every struct, and the type of every function.
+//! Written by tests/names from the functions marked #[no_mangle]: change those, not this file.
+
+use super::*;
+use std::mem::{offset_of, size_of};
+"##;
+
 /// A struct that crosses the boundary: its members in order, each with its Rattle type.
 struct Struct {
     name: String,
@@ -140,30 +166,30 @@ impl Interface {
     }
 
     pub fn c_file(&self) -> String {
-        let mut out = String::from(
-            "/* Holds include/cotterleaf.h to the Rattle sources when it is compiled: size and offset of every member\n \
-             * of every struct, and the type of every function, which are declared here once more.\n \
-             * Written by tests/names from the functions marked #[no_mangle]: change those, not this file. */\n\
-             #include \"cotterleaf.h\"\n\n\
-             #define MEMBER(of, member, offset, size)                                                  \\\n    \
-             _Static_assert(offsetof(of, member) == (offset), #of \".\" #member \": another offset\"); \\\n    \
-             _Static_assert(sizeof((of){0}.member) == (size), #of \".\" #member \": another size\")\n",
-        );
+        let mut out = String::from(C_BEGINNING);
         for (s, (size, members)) in self.structs.iter().zip(self.layouts()) {
             let name = in_c(&s.name);
             out +=
                 &format!("\n_Static_assert(sizeof({name}) == {size}, \"{name}: another size\");\n");
-            for ((member, _), (offset, size)) in s.members.iter().zip(members) {
-                out += &format!("MEMBER({name}, {member}, {offset}, {size});\n");
+            for ((member, of), (offset, size)) in s.members.iter().zip(members) {
+                out += &match repeated(of) {
+                    (element, 1) => format!(
+                        "MEMBER({name}, {member}, {offset}, {});\n",
+                        c_plain(element)
+                    ),
+                    (element, _) => format!(
+                        "ARRAY({name}, {member}, {offset}, {}, {size});\n",
+                        c_plain(element)
+                    ),
+                };
             }
         }
         out.push('\n');
         for f in &self.functions {
             let parameters: Vec<String> = f.parameters.iter().map(|(_, of)| c_type(of)).collect();
-            let parameters = if parameters.is_empty() {
-                "void".to_string()
-            } else {
-                parameters.join(", ")
+            let parameters = match parameters.is_empty() {
+                true => "void".to_string(),
+                false => parameters.join(", "),
             };
             out += &format!("{} {}({parameters});\n", c_type(&f.result), f.name);
         }
@@ -171,18 +197,15 @@ impl Interface {
     }
 
     pub fn rust_file(&self) -> String {
-        let mut out = String::from(
-            "//! Holds the declarations of raw.rs to the Rattle sources when it is compiled: size and offset of every\n\
-             //! member of every struct, and the type of every function.\n\
-             //! Written by tests/names from the functions marked #[no_mangle]: change those, not this file.\n\n\
-             use super::*;\nuse std::mem::{offset_of, size_of};\n",
-        );
+        let mut out = String::from(RUST_BEGINNING);
         for (s, (size, members)) in self.structs.iter().zip(self.layouts()) {
             let name = in_c(&s.name);
             out += &format!("\nconst _: () = assert!(size_of::<{name}>() == {size});\n");
-            for ((member, _), (offset, _)) in s.members.iter().zip(members) {
+            for ((member, of), (offset, _)) in s.members.iter().zip(members) {
+                let of = rust_member(of);
                 out +=
                     &format!("const _: () = assert!(offset_of!({name}, {member}) == {offset});\n");
+                out += &format!("const _: fn({name}) -> {of} = |of| of.{member};\n");
             }
         }
         out.push('\n');
@@ -252,6 +275,14 @@ fn crossing(of: &str) -> Crossing<'_> {
     }
 }
 
+/// The type of a member in Rust.
+fn rust_member(of: &str) -> String {
+    match of.starts_with(char::is_uppercase) {
+        true => in_c(of),
+        false => of.to_string(),
+    }
+}
+
 fn c_plain(of: &str) -> String {
     match of {
         "bool" => "bool".to_string(),
@@ -276,7 +307,6 @@ fn rust_type(of: &str) -> String {
         Crossing::Slice(element, true) => format!("*mut {element}, usize"),
         Crossing::Slice(element, false) => format!("*const {element}, usize"),
         Crossing::Array(element, _) => format!("*const {element}"),
-        Crossing::Plain(of) if of.starts_with(char::is_uppercase) => in_c(of),
-        Crossing::Plain(of) => of.to_string(),
+        Crossing::Plain(of) => rust_member(of),
     }
 }

@@ -37,7 +37,7 @@ refusedReply f r b = replyAs f r b (refusedPlace f r b) (viewAs f r b 0 0) (refu
 
 abbrev pub cReply : Answer Replied → Reply
 cReply (answered (place l)) = replyAs 0 0 0 (cRecord l) (viewAs 0 0 0 0 0) (refusedField 0 0 0) (foundAs 0 0 0 0)
-cReply (answered (view i z)) = replyAs 0 0 0 (refusedPlace 0 0 0) (viewAs 0 0 0 i z) (refusedField 0 0 0) (foundAs 0 0 0 0)
+cReply (answered (view x)) = replyAs 0 0 0 (refusedPlace 0 0 0) (viewAs 0 0 0 (x .start) (x .length)) (refusedField 0 0 0) (foundAs 0 0 0 0)
 cReply (answered (field v)) = replyAs 0 0 0 (refusedPlace 0 0 0) (viewAs 0 0 0 0 0) (cValue v) (foundAs 0 0 0 0)
 cReply (answered (found i)) = replyAs 0 0 0 (refusedPlace 0 0 0) (viewAs 0 0 0 0 0) (refusedField 0 0 0) (foundAs 0 0 0 i)
 cReply (stream f r b) = refusedReply f r b

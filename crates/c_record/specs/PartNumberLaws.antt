@@ -3,7 +3,7 @@
 use Prim.Native.Nat.{ℕ, zero, suc, _-_, _^_, _≤_, _<_}
 use native.Mathlib.Omega.{arith}
 use mathlib.Core.Path.{_≡_, refl}
-use mathlib.Core.Bool.{false, and-false}
+use mathlib.Core.Bool.{false}
 use mathlib.Core.List.{List, [], _∷_}
 use borrow.Author.Tests.{le-ltb, ne-eqb}
 use lib.Dec.{eqb}
@@ -11,14 +11,17 @@ use lib.ListN.{take, drop}
 use Rattle.mrd_numbers.specs.Little.{fromBytes, num, Bytes}
 use Rattle.mrd_numbers.specs.ByteLaws.{bytes-take, bytes-drop}
 use Rattle.mrd_format.specs.declared.kind.Kind.{Kind}
+use Rattle.mrd_format.specs.declared.kind.Kind.the-variants.{ConfigurationName, ConfigurationText, HeaderText, Close, Text, Acquisition, Image, Waveform}
 use Rattle.mrd_format.specs.Kinds.{fixedSize}
 use Rattle.mrd_format.specs.Message.{fixedPart}
 use Rattle.mrd_format.specs.Acquisition.{get, active-channels}
 use Rattle.mrd_stream.specs.Places.{Located, place}
-use Rattle.mrd_logic.specs.Answer.{answered}
+use Rattle.mrd_logic.specs.Answer.{answered, number}
 use Rattle.mrd_cut.specs.Places.{partAt}
-use Rattle.mrd_record.specs.Parts.{lacks, extentOf}
-use Rattle.mrd_record.specs.Views.{refusal, viewOf}
+use Rattle.mrd_format.specs.Parts.{lacks}
+use Rattle.mrd_format.specs.Content.{extentOf}
+use Rattle.mrd_parts.specs.Sought.{partMeaning}
+use Rattle.mrd_views.specs.Views.{viewOf}
 use Rattle.c_record.specs.PartNumbers.{noPart, partOf}
 
 -- the number of another part is that of none
@@ -41,15 +44,21 @@ few-channels : (h : List ℕ) → Bytes h → get active-channels h < 65536
 unfolding num
 few-channels h bytes = two-bytes (drop 38 h) (bytes-drop 38 h bytes)
 
-none-lies : (k : Kind) (h : List ℕ) → Bytes h → extentOf noPart k h ≡ lacks
+none-lies : (k : Kind) (h : List ℕ) → Bytes h → extentOf (partMeaning noPart) k h ≡ lacks
 unfolding extentOf
-none-lies k h bytes =
-    let few = few-channels h bytes in
-    rw (le-ltb (2 ^ 64 - 1) (get active-channels h) (omega arith), and-false)
+none-lies ConfigurationName h bytes = refl
+none-lies ConfigurationText h bytes = refl
+none-lies HeaderText h bytes = refl
+none-lies Close h bytes = refl
+none-lies Text h bytes = refl
+none-lies Acquisition h bytes =
+    let few = few-channels h bytes in simp (le-ltb (2 ^ 64 - 1) (get active-channels h) (omega arith))
+none-lies Image h bytes = refl
+none-lies Waveform h bytes = refl
 
 -- the view of it, of a record of a stream of bytes, is 17
 pub no-such-part : (s : List ℕ) (i n c : ℕ) {l : Located} → Bytes s → place s i ≡ answered l → (1 ≤ n → 7 < n) →
-    viewOf s i (partOf n c) ≡ refusal 17
+    viewOf s i (partOf n c) ≡ number 17
 unfolding viewOf fixedPart
 no-such-part s i n c {l} bytes e other =
     let k = l .kind in

@@ -3,8 +3,8 @@
 use Prim.Native.Nat.{ℕ, _-_, _^_}
 use lib.Dec.{eqb}
 use Rattle.mrd_logic.specs.Choice.{pick}
-use Rattle.mrd_record.specs.declared.parts.Part.{Part}
-use Rattle.mrd_record.specs.declared.parts.Part.the-variants.{Name, Text, Attributes, Trajectory, Channel, Pixels, Waveform}
+use Rattle.mrd_parts.specs.declared.parts.Part.{Part}
+use Rattle.mrd_parts.specs.declared.parts.Part.the-variants.{Name, Text, Attributes, Trajectory, Channel, Pixels, Waveform}
 
 -- a channel whose number is above any count of channels
 abbrev pub noPart : Part

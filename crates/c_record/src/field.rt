@@ -2,7 +2,7 @@
 ghost use mathlib.Core.Path.{_≡_};
 ghost use lib.Dec.{T};
 ghost use Rattle.mrd_element.specs.Told.{told, nanApart};
-ghost use Rattle.mrd_record.specs.Told.{toldField, fieldApart};
+ghost use Rattle.mrd_fields.specs.Fields.{toldField, fieldApart};
 ghost use Rattle.c_record.specs.RecordStructs.{refusedField, cValue, cField};
 use mrd_element::Value;
 use mrd_format::refusal;
@@ -72,14 +72,14 @@ impl FieldAnswer {
         }
     }
 
-    pub fn of(answer: mrd_record::FieldAnswer) -> FieldAnswer
+    pub fn of(answer: mrd_fields::FieldAnswer) -> FieldAnswer
         requires { ⌜ T (fieldApart answer) ⌝ }
         ensures { λ r. ⌜ r ≡ cField (toldField answer) ⌝ }
     {
         match answer {
-            mrd_record::FieldAnswer::Value(value) => FieldAnswer::value(value),
-            mrd_record::FieldAnswer::Stream(r) => FieldAnswer::refused(r.number, r.record, r.byte),
-            mrd_record::FieldAnswer::Refused(number) => FieldAnswer::refused(number, 0, 0),
+            mrd_fields::FieldAnswer::Value(value) => FieldAnswer::value(value),
+            mrd_fields::FieldAnswer::Stream(r) => FieldAnswer::refused(r.number, r.record, r.byte),
+            mrd_fields::FieldAnswer::Refused(number) => FieldAnswer::refused(number, 0, 0),
         }
     }
 }

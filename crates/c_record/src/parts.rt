@@ -1,7 +1,7 @@
 // The parts of a record by number.
 ghost use mathlib.Core.Path.{_≡_};
 ghost use Rattle.c_record.specs.PartNumbers.{partOf};
-use mrd_record::Part;
+use mrd_parts::Part;
 
 // A channel that no acquisition has.
 const NO_CHANNEL: usize = 18446744073709551615;

@@ -1,6 +1,6 @@
 // Where a part of a record lies, as a C struct.
 ghost use mathlib.Core.Path.{_≡_};
-ghost use Rattle.mrd_record.specs.Told.{toldView};
+ghost use Rattle.mrd_views.specs.Views.{toldView};
 ghost use Rattle.c_record.specs.RecordStructs.{viewAs, cView};
 
 // Where a part of a record lies in the stream.
@@ -26,13 +26,13 @@ impl ViewPlace {
         }
     }
 
-    pub fn of(answer: mrd_record::ViewPlace) -> ViewPlace
+    pub fn of(answer: mrd_views::ViewPlace) -> ViewPlace
         ensures { λ r. ⌜ r ≡ cView (toldView answer) ⌝ }
     {
         match answer {
-            mrd_record::ViewPlace::At(span) => ViewPlace::new(0, 0, 0, span.start, span.length),
-            mrd_record::ViewPlace::Stream(r) => ViewPlace::new(r.number, r.record, r.byte, 0, 0),
-            mrd_record::ViewPlace::Refused(number) => ViewPlace::new(number, 0, 0, 0, 0),
+            mrd_views::ViewPlace::At(span) => ViewPlace::new(0, 0, 0, span.start, span.length),
+            mrd_views::ViewPlace::Stream(r) => ViewPlace::new(r.number, r.record, r.byte, 0, 0),
+            mrd_views::ViewPlace::Refused(number) => ViewPlace::new(number, 0, 0, 0, 0),
         }
     }
 }

@@ -1,6 +1,6 @@
 // A given index compared, as a C struct.
 ghost use mathlib.Core.Path.{_≡_};
-ghost use Rattle.mrd_index.specs.Compare.{toldMatched};
+ghost use Rattle.mrd_index_match.specs.Compare.{toldMatched};
 ghost use Rattle.c_written.specs.WrittenStructs.{matchedAs, cMatched};
 use mrd_format::refusal;
 
@@ -23,13 +23,13 @@ impl Matched {
         }
     }
 
-    pub fn of(answer: mrd_index::Matched) -> Matched
+    pub fn of(answer: mrd_index_match::Matched) -> Matched
         ensures { λ r. ⌜ r ≡ cMatched (toldMatched answer) ⌝ }
     {
         match answer {
-            mrd_index::Matched::Same => Matched::new(0, 0, 0),
-            mrd_index::Matched::Differs => Matched::new(refusal::INDEX_DIFFERS, 0, 0),
-            mrd_index::Matched::Stream(r) => Matched::new(r.number, r.record, r.byte),
+            mrd_index_match::Matched::Same => Matched::new(0, 0, 0),
+            mrd_index_match::Matched::Differs => Matched::new(refusal::INDEX_DIFFERS, 0, 0),
+            mrd_index_match::Matched::Stream(r) => Matched::new(r.number, r.record, r.byte),
         }
     }
 }

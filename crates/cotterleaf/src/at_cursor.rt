@@ -1,8 +1,8 @@
 // What does the record hold where a walk stands?
 ghost use mathlib.Core.Path.{_≡_};
-ghost use Rattle.mrd_record.specs.Fields.{fieldBy};
-ghost use Rattle.mrd_record.specs.Standing.{placeAt};
-ghost use Rattle.mrd_record.specs.Views.{viewBy};
+ghost use Rattle.mrd_fields.specs.Fields.{fieldBy};
+ghost use Rattle.mrd_record.specs.AtCursor.{placeAt};
+ghost use Rattle.mrd_views.specs.Views.{viewBy};
 ghost use Rattle.c_record.specs.RecordStructs.{cView, cField};
 ghost use Rattle.c_record.specs.PartNumbers.{partOf};
 ghost use Rattle.c_walk.specs.WalkStructs.{cursorOf};
@@ -19,7 +19,7 @@ pub extern "C" fn mrd_view_at(stream: &[u8], cursor: Cursor, part: u32, channel:
 {
     let c = cursor_of(cursor);
     let asked = part_of(part, channel);
-    ViewPlace::of(mrd_record::view_place_at(c, stream, asked))
+    ViewPlace::of(mrd_views::view_place_at(c, stream, asked))
 }
 
 // The element that starts at this offset in its header.
@@ -28,5 +28,5 @@ pub extern "C" fn mrd_field_at(stream: &[u8], cursor: Cursor, offset: usize) -> 
     ensures { λ r. ⌜ r ≡ cField (fieldBy (placeAt (cursorOf cursor) (now (stream .entry))) offset (now (stream .entry))) ⌝ }
 {
     let c = cursor_of(cursor);
-    FieldAnswer::of(mrd_record::field_at(c, stream, offset))
+    FieldAnswer::of(mrd_fields::field_at(c, stream, offset))
 }

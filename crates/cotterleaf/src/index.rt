@@ -4,7 +4,7 @@ ghost use lib.ListN.{length};
 ghost use Rattle.mrd_stream.specs.Index.{startColumn, idColumn, counterColumn};
 ghost use Rattle.mrd_stream.specs.Output.{outputBy};
 ghost use Rattle.mrd_index.specs.Columns.{columnsAnswer};
-ghost use Rattle.mrd_index.specs.Compare.{fileMatch, columnsMatch};
+ghost use Rattle.mrd_index_match.specs.Compare.{fileMatch, columnsMatch};
 ghost use Rattle.c_written.specs.WrittenStructs.{cMatched, cWritten};
 use c_written::Matched;
 use c_written::Written;
@@ -14,7 +14,7 @@ use c_written::Written;
 pub extern "C" fn mrd_index_matches(stream: &[u8], file: &[u8]) -> Matched
     ensures { λ r. ⌜ r ≡ cMatched (fileMatch (now (stream .entry)) (now (file .entry))) ⌝ }
 {
-    Matched::of(mrd_index::index_matches(stream, file))
+    Matched::of(mrd_index_match::index_matches(stream, file))
 }
 
 // As three columns, each record's place.
@@ -27,7 +27,7 @@ pub extern "C" fn mrd_columns_match(
 ) -> Matched
     ensures { λ r. ⌜ r ≡ cMatched (columnsMatch (now (stream .entry)) (now (starts .entry)) (now (ids .entry)) (now (counters .entry))) ⌝ }
 {
-    Matched::of(mrd_index::columns_match(stream, starts, ids, counters))
+    Matched::of(mrd_index_match::columns_match(stream, starts, ids, counters))
 }
 
 // Fills the columns with the index of a stream, place n for record n.

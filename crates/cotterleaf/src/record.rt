@@ -1,8 +1,8 @@
 // What does a record hold, and which record holds it?
 ghost use mathlib.Core.Path.{_≡_};
 ghost use Rattle.mrd_find.specs.Find.{findOf};
-ghost use Rattle.mrd_record.specs.Fields.{fieldOf};
-ghost use Rattle.mrd_record.specs.Views.{viewOf};
+ghost use Rattle.mrd_fields.specs.Fields.{fieldOf};
+ghost use Rattle.mrd_views.specs.Views.{viewOf};
 ghost use Rattle.c_record.specs.RecordStructs.{cView, cField, cFound};
 ghost use Rattle.c_record.specs.PartNumbers.{partOf};
 use c_record::FieldAnswer;
@@ -15,7 +15,7 @@ use c_record::part_of;
 pub extern "C" fn mrd_view(stream: &[u8], n: usize, part: u32, channel: usize) -> ViewPlace
     ensures { λ r. ⌜ r ≡ cView (viewOf (now (stream .entry)) n (partOf part channel)) ⌝ }
 {
-    ViewPlace::of(mrd_record::view_place(stream, n, part_of(part, channel)))
+    ViewPlace::of(mrd_views::view_place(stream, n, part_of(part, channel)))
 }
 
 // The element of record n's header that starts at this offset.
@@ -23,7 +23,7 @@ pub extern "C" fn mrd_view(stream: &[u8], n: usize, part: u32, channel: usize) -
 pub extern "C" fn mrd_field(stream: &[u8], n: usize, offset: usize) -> FieldAnswer
     ensures { λ r. ⌜ r ≡ cField (fieldOf (now (stream .entry)) n offset) ⌝ }
 {
-    FieldAnswer::of(mrd_record::field(stream, n, offset))
+    FieldAnswer::of(mrd_fields::field(stream, n, offset))
 }
 
 // The first acquisition from record n on with these counters.

@@ -1,9 +1,9 @@
 // What is written: the normal form and the index of a stream, and one message.
 ghost use mathlib.Core.Path.{_≡_};
 ghost use lib.ListN.{length};
+ghost use Rattle.mrd_format.specs.Parts.{contents};
 ghost use Rattle.mrd_index.specs.File.{indexAnswer, indexOutput};
 ghost use Rattle.mrd_normal.specs.Written.{normalAnswer, normalOutput};
-ghost use Rattle.mrd_writer.specs.Lent.{lent};
 ghost use Rattle.mrd_writer.specs.Write.{writeAnswer, writeOutput};
 ghost use Rattle.c_written.specs.WrittenStructs.{cWritten, cPut};
 use c_written::Put;
@@ -43,11 +43,11 @@ pub extern "C" fn mrd_write(
     position: usize,
 ) -> Put
     ensures { λ r. ⌜ r ≡ cPut (writeAnswer id
-        (lent (now (header .entry)) (now (name .entry)) (now (text .entry)) (now (trajectory .entry)) (now (samples .entry))
+        (contents (now (header .entry)) (now (name .entry)) (now (text .entry)) (now (trajectory .entry)) (now (samples .entry))
         (now (attributes .entry)) (now (pixels .entry)) (now (waveform .entry)))
         position (now (out .entry))) ⌝ }
     ensures { λ _. ⌜ now (out .exit) ≡ writeOutput id
-        (lent (now (header .entry)) (now (name .entry)) (now (text .entry)) (now (trajectory .entry)) (now (samples .entry))
+        (contents (now (header .entry)) (now (name .entry)) (now (text .entry)) (now (trajectory .entry)) (now (samples .entry))
         (now (attributes .entry)) (now (pixels .entry)) (now (waveform .entry)))
         position (now (out .entry)) ⌝ }
 {

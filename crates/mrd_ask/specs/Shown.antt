@@ -7,7 +7,7 @@ use lib.Dec.{leb}
 use lib.ListN.{take, drop}
 use Rattle.mrd_logic.specs.Answer.{Answer, answered, stream, number}
 use Rattle.mrd_logic.specs.Choice.{pick}
-use Rattle.mrd_record.specs.declared.views.Span.{Span}
+use Rattle.mrd_views.specs.declared.views.Span.{Span}
 use Rattle.mrd_ask.specs.Replies.{Replied, place, view, field, found}
 
 abbrev pub emptySpan : Span
@@ -15,7 +15,7 @@ emptySpan = record { start = 0; length = 0 }
 
 -- the place that a reply says: a view's, else nothing at the front
 abbrev pub spanOf : Answer Replied → Span
-spanOf (answered (view i z)) = record { start = i; length = z }
+spanOf (answered (view x)) = x
 spanOf (answered (place l)) = emptySpan
 spanOf (answered (field v)) = emptySpan
 spanOf (answered (found i)) = emptySpan

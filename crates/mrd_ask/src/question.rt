@@ -1,9 +1,9 @@
 // A question about a record of a stream, and what is replied to it.
-use mrd_field::Value;
-use mrd_record::Part;
-use mrd_record::Span;
+use mrd_element::Value;
+use mrd_parts::Part;
 use mrd_stream::Record;
 use mrd_stream::Refusal;
+use mrd_views::Span;
 
 // The record by its number from 0.
 pub enum Question {

@@ -5,7 +5,7 @@ ghost use lib.ListN.{length as List·length};
 ghost use Rattle.mrd_ask.specs.Replies.{meaning};
 ghost use Rattle.mrd_ask.specs.Shown.{emptySpan, spanOf, fitted, spanned};
 use crate::question::Reply;
-use mrd_record::Span;
+use mrd_views::Span;
 
 // That part of s where the reply is a view's place; of any other reply, and of a place outside s, the empty
 // part at the front of s.

@@ -2,5 +2,5 @@ pub mod Field
 pub mod Told
 pub mod Letters
 pub mod LetterLaws
-pub mod Floats
+pub mod FloatLaws
 pub mod FieldLaws

@@ -60,13 +60,9 @@ pub fn letter(kind: Kind, offset: usize) -> u8
     ensures { λ r. ⌜ r ≡ letterOf (startOf kind offset) ⌝ }
 {
     match kind {
-        Kind::ConfigurationName => b'.',
-        Kind::ConfigurationText => b'.',
-        Kind::HeaderText => b'.',
-        Kind::Close => b'.',
-        Kind::Text => b'.',
         Kind::Acquisition => letter_in(&ACQUISITION, offset),
         Kind::Image => letter_in(&IMAGE, offset),
         Kind::Waveform => letter_in(&WAVEFORM, offset),
+        _ => b'.',
     }
 }

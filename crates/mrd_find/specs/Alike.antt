@@ -1,4 +1,4 @@
--- The test of two lists of numbers: it tells equality; and the lists compared one by one, what is known after i of them, and what the first
+-- Two lists compared one by one, what is known after i of them, and what the first
 -- that differs, or the end, tells.
 -- Assumes nothing.
 use Prim.Native.Nat.{ℕ, suc, _+_, _≤_, _<_}
@@ -11,39 +11,21 @@ use borrow.Author.Tests.{eq-eqb, ne-eqb, eqb-true}
 use lib.Dec.{eqb}
 use lib.ListN.{length, getD, drop, drop-of-length-le}
 use lib.Seq.{drop-cons}
-use Rattle.mrd_find.specs.Find.{same}
-
--- the test tells equality
-pub same-refl : (xs : List ℕ) → same xs xs ≡ true
-same-refl [] = refl
-same-refl (x ∷ xs) = rw (eq-eqb x x refl) (same-refl xs)
-
-pub same-equal : (xs ys : List ℕ) → same xs ys ≡ true → xs ≡ ys
-same-equal [] [] e = refl
-same-equal [] (y ∷ ys) e = absurd (let z : _≡_ {A = ℕ} 0 1 = cc in omega arith)
-same-equal (x ∷ xs) [] e = absurd (let z : _≡_ {A = ℕ} 0 1 = cc in omega arith)
-same-equal (x ∷ xs) (y ∷ ys) e = first (eqb x y) refl (λ e. same-equal xs ys e) e
-  where
-    first : (b : Bool) → eqb x y ≡ b → (same xs ys ≡ true → xs ≡ ys) → (b && same xs ys) ≡ true → x ∷ xs ≡ y ∷ ys
-    first true q rest e =
-        let head : x ≡ y = eqb-true x y q in
-        let tail : xs ≡ ys = rest e in
-        cc
-    first false q rest e = absurd (let z : _≡_ {A = ℕ} 0 1 = cc in omega arith)
+use Rattle.mrd_logic.specs.Lists.{equal}
 
 -- the first i numbers of two lists of n were found the same: whether the lists are is left to the rest
 pub record Alike (n : ℕ) (xs ys : List ℕ) (i : ℕ) : Type 0 where
   pub within : i ≤ n
   pub long-left : length xs ≡ n
   pub long-right : length ys ≡ n
-  pub rest : same xs ys ≡ same (drop i xs) (drop i ys)
+  pub rest : equal xs ys ≡ equal (drop i xs) (drop i ys)
 
 pub start : {n : ℕ} {xs ys : List ℕ} → length xs ≡ n → length ys ≡ n → Alike n xs ys 0
 start a b = record { within = omega arith; long-left = a; long-right = b; rest = refl }
 
 module _ {n : ℕ} {xs ys : List ℕ} {i : ℕ} (a : Alike n xs ys i) where
   -- the numbers at i, and then the rest
-  ahead : i < n → same xs ys ≡ (eqb (getD xs i 0) (getD ys i 0) && same (drop (suc i) xs) (drop (suc i) ys))
+  ahead : i < n → equal xs ys ≡ (eqb (getD xs i 0) (getD ys i 0) && equal (drop (suc i) xs) (drop (suc i) ys))
   ahead h =
       let left : i < length xs = omega (arith, a .long-left) in
       let right : i < length ys = omega (arith, a .long-right) in
@@ -60,11 +42,11 @@ module _ {n : ℕ} {xs ys : List ℕ} {i : ℕ} (a : Alike n xs ys i) where
       }
 
   -- one that differs
-  pub differs : i < n → (getD xs i 0 ≡ getD ys i 0 → ⊥) → same xs ys ≡ false
+  pub differs : i < n → (getD xs i 0 ≡ getD ys i 0 → ⊥) → equal xs ys ≡ false
   differs h e = ahead h ∙ rw (ne-eqb _ _ e)
 
   -- none differs
-  pub all-same : n ≤ i → same xs ys ≡ true
+  pub all-same : n ≤ i → equal xs ys ≡ true
   all-same h =
       let left : length xs ≤ i = omega (arith, a .long-left) in
       let right : length ys ≤ i = omega (arith, a .long-right) in

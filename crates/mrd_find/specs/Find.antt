@@ -6,24 +6,13 @@ use mathlib.Core.List.{List, [], _∷_}
 use lib.Dec.{leb, eqb}
 use Rattle.mrd_format.specs.declared.kind.Kind.{Kind}
 use Rattle.mrd_format.specs.Kinds.{idOf}
-use Rattle.mrd_format.specs.Elements.{elements}
-use Rattle.mrd_format.specs.Acquisition.{layout, counters}
+use Rattle.mrd_format.specs.Acquisition.{countersOf}
 use Rattle.mrd_format.specs.Message.{fixedPart}
 use Rattle.mrd_cursor.specs.declared.cursor.Cursor.{Cursor}
 use Rattle.mrd_logic.specs.Answer.{Answer, answered, number, unlessRefused}
 use Rattle.mrd_logic.specs.Choice.{pick}
 use Rattle.mrd_stream.specs.Walk.{Trace, message, done, trace, answer}
-
--- whether two lists are equal
-abbrev pub same : List ℕ → List ℕ → Bool
-same [] [] = true
-same [] (y ∷ ys) = false
-same (x ∷ xs) [] = false
-same (x ∷ xs) (y ∷ ys) = eqb x y && same xs ys
-
--- the 'seventeen counters' of an acquisition's header h
-unfoldable pub countersOf : List ℕ → List ℕ
-countersOf h = elements (layout counters) h
+use Rattle.mrd_logic.specs.Lists.{equal}
 
 -- an 'acquisition from record n on': record i, of kind k
 abbrev pub candidate : ℕ → ℕ → Kind → Bool
@@ -31,7 +20,7 @@ candidate n i k = leb n i && eqb (idOf k) 1008
 
 -- a candidate, the message m of kind k at c, 'whose seventeen counters equal the seventeen asked for'
 abbrev pub matches : ℕ → List ℕ → Cursor → Kind → List ℕ → Bool
-matches n cs c k m = candidate n (c .number) k && same (countersOf (fixedPart k m)) cs
+matches n cs c k m = candidate n (c .number) k && equal (countersOf (fixedPart k m)) cs
 
 -- the first match of a trace, else 16
 abbrev pub firstMatch : ℕ → List ℕ → Trace → Answer ℕ

@@ -3,7 +3,7 @@
 use Prim.Native.Nat.{ℕ, _+_, _-_, _≤_, _<_}
 use native.Mathlib.Omega.{arith}
 use mathlib.Core.Path.{_≡_, sym, ap, _∙_}
-use mathlib.Core.Bool.{Bool, true, false, _&&_}
+use mathlib.Core.Bool.{true, false}
 use mathlib.Core.List.{List}
 use borrow.Author.Tests.{eqb-true}
 use lib.Dec.{leb, eqb}
@@ -12,6 +12,7 @@ use Rattle.mrd_format.specs.declared.kind.Kind.{Kind}
 use Rattle.mrd_format.specs.declared.kind.Kind
 use Rattle.mrd_format.specs.Kinds.{idOf, fixedSize}
 use Rattle.mrd_format.specs.KindLaws.{kind-of-id}
+use Rattle.mrd_format.specs.Acquisition.{countersOf}
 use Rattle.mrd_format.specs.Message.{fixedPart}
 use Rattle.mrd_format.specs.Shapes.{kindOf}
 use Rattle.mrd_format.specs.MessageLaws.{well-least, well-fixed}
@@ -24,25 +25,24 @@ use Rattle.mrd_stream.specs.Told.{toldRecord, toldStep}
 use Rattle.mrd_stream.specs.declared.answer.Record.{Record}
 use Rattle.mrd_stream.specs.declared.answer.Step.{Step}
 use Rattle.mrd_stream.specs.declared.answer.Step
-use Rattle.mrd_find.specs.Find.{same, candidate, countersOf, firstMatch, findOf}
+use Rattle.mrd_find.specs.Find.{candidate, firstMatch, findOf}
 use Rattle.mrd_logic.specs.Answer.{Answer, answered, unlessRefused}
+use Rattle.mrd_logic.specs.Choice.{both}
+use Rattle.mrd_numbers.specs.Stored.{lentFrom, lent-is}
+use Rattle.mrd_judge.specs.JudgeLaws.{fixed-long}
+use Rattle.mrd_logic.specs.Lists.{equal}
 
 -- the answer that a trace gives
 abbrev pub findIn : ℕ → List ℕ → Trace → Answer ℕ
 findIn n cs t = unlessRefused (verdict t) (firstMatch n cs t)
 
--- a walk that stands at c: the answer from there on is the answer wanted
+-- a walk that is at c: the answer from there on is the answer wanted
 abbrev pub Finding : ℕ → List ℕ → Cursor → List ℕ → Type 0
 Finding n cs c s = On (findIn n cs) (findOf s n cs) c s
 
 pub finding-start : (n : ℕ) (cs s : List ℕ) → Finding n cs beginning s
 unfolding findOf answer
 finding-start n cs s = on-start (findIn n cs) s
-
--- a candidate's kind
-is-acquisition : (b d : Bool) → (b && d) ≡ true → d ≡ true
-is-acquisition true d e = e
-is-acquisition false d e = absurd (let z : _≡_ {A = ℕ} 0 1 = cc in omega arith)
 
 -- a turn of the walk, which hands out a record and goes on from c to next
 pub record Turn (n : ℕ) (cs : List ℕ) (c : Cursor) (s : List ℕ) (here : Record) (next : Cursor) : Type 0 where
@@ -72,7 +72,7 @@ module _ {n : ℕ} {cs : List ℕ} {c : Cursor} {s : List ℕ} {here : Record} {
     acquisition : t .passes .kind ≡ Kind.Acquisition
     acquisition =
         let k = kindOf (here .shape) in
-        let id = eqb-true (idOf k) 1008 (is-acquisition (leb n (here .place .number)) (eqb (idOf k) 1008) e) in
+        let id = eqb-true (idOf k) 1008 (both (leb n (here .place .number)) (eqb (idOf k) 1008) e .1) in
         kind-of-id (t .passes .kind) Kind.Acquisition (ap (λ (l : Located). idOf (l .kind)) (sym (t .passes .place)) ∙ id)
 
     starts : here .place .start ≡ c .start
@@ -85,27 +85,39 @@ module _ {n : ℕ} {cs : List ℕ} {c : Cursor} {s : List ℕ} {here : Record} {
         let size : fixedSize (p .kind) ≡ 340 = ap fixedSize acquisition in
         omega (arith, starts, least, size, simp (length-append, length-drop) at (ap length (p .split)))
 
-    -- with the header h
-    module _ {h : List ℕ} (read : h ≡ fixedPart Kind.Acquisition (drop (here .place .start) s)) where
-      header-own : h ≡ fixedPart (t .passes .kind) (t .passes .bytes)
-      header-own =
-          let p = t .passes in
-          let own = well-fixed (p .bytes) (drop (next .start) s) (p .well) in
-          read ∙ rw (starts, p .split, ← acquisition, ← p .known) own
+    -- as its fixed part does in the part of the stream from its start on
+    pub fixed-there : 2 + fixedSize Kind.Acquisition ≤ length (lentFrom (here .place .start) s)
+    fixed-there = rw lent-is (simp length-drop (omega (arith, header-fits)))
 
-      -- counters that differ: the answer is that of what follows
-      pub no-match : same (countersOf h) cs ≡ false → Finding n cs next s
-      no-match f =
-          let one = handed-out ∙ e in
-          let other = rw header-own at f in
-          on-next (findIn n cs) s (findIn n cs) (t .finding) (t .passes) (λ r. rw (one, other))
+-- a turn at a candidate, whose header h was read
+pub record Read (n : ℕ) (cs : List ℕ) (c : Cursor) (s : List ℕ) (here : Record) (next : Cursor) (h : List ℕ) : Type 0 where
+  pub turn : Turn n cs c s here next
+  pub one : candidate n (here .place .number) (kindOf (here .shape)) ≡ true
+  pub header : h ≡ fixedPart Kind.Acquisition (lentFrom (here .place .start) s)
 
-      -- counters that are the same: what follows only tells whether the stream is refused
-      pub match-found : same (countersOf h) cs ≡ true → unlessRefused (verdict (from next s)) (answered (here .place .number)) ≡ findOf s n cs
-      match-found f =
-          let one = handed-out ∙ e in
-          let all = rw header-own at f in
-          let number : here .place .number ≡ c .number = ap (λ (l : Located). l .number) (t .passes .place) in
-          rw number
-          (kept-next (findIn n cs) s (λ (r : Trace). unlessRefused (verdict r) (answered (c .number))) (t .finding .kept) (t .passes)
-          (λ r. rw (one, all)))
+module _ {n : ℕ} {cs : List ℕ} {c : Cursor} {s : List ℕ} {here : Record} {next : Cursor} {h : List ℕ} (x : Read n cs c s here next h) where
+  pub header-long : length h ≡ 340
+  header-long = ap length (x .header) ∙ fixed-long Kind.Acquisition (lentFrom (here .place .start) s) (fixed-there (x .turn) (x .one))
+
+  header-own : h ≡ fixedPart (x .turn .passes .kind) (x .turn .passes .bytes)
+  header-own =
+      let p = x .turn .passes in
+      let own = well-fixed (p .bytes) (drop (next .start) s) (p .well) in
+      x .header ∙ rw (lent-is, starts (x .turn) (x .one), p .split, ← acquisition (x .turn) (x .one), ← p .known) own
+
+  -- counters that differ: the answer is that of what follows
+  pub no-match : equal (countersOf h) cs ≡ false → Finding n cs next s
+  no-match f =
+      let one = handed-out (x .turn) ∙ x .one in
+      let other = rw header-own at f in
+      on-next (findIn n cs) s (findIn n cs) (x .turn .finding) (x .turn .passes) (λ r. rw (one, other))
+
+  -- counters that are the same: what follows only tells whether the stream is refused
+  pub match-found : equal (countersOf h) cs ≡ true → unlessRefused (verdict (from next s)) (answered (here .place .number)) ≡ findOf s n cs
+  match-found f =
+      let one = handed-out (x .turn) ∙ x .one in
+      let all = rw header-own at f in
+      let number : here .place .number ≡ c .number = ap (λ (l : Located). l .number) (x .turn .passes .place) in
+      rw number
+      (kept-next (findIn n cs) s (λ (r : Trace). unlessRefused (verdict r) (answered (c .number))) (x .turn .finding .kept) (x .turn .passes)
+      (λ r. rw (one, all)))

@@ -1,9 +1,5 @@
 // The first acquisition whose seventeen counters are those asked for.
 ghost use mathlib.Core.Path.{_≡_};
-ghost use Prim.Native.Nat.{_+_, _≤_};
-ghost use lib.ListN.{length, drop};
-ghost use Rattle.mrd_format.specs.declared.kind.Kind.«the-variants».{Acquisition};
-ghost use Rattle.mrd_format.specs.Message.{fixedPart};
 ghost use Rattle.mrd_format.specs.Shapes.{kindOf};
 ghost use Rattle.mrd_stream.specs.Told.{toldChecked};
 ghost use Rattle.mrd_find.specs.Find.{candidate, findOf};
@@ -12,16 +8,15 @@ ghost use Rattle.mrd_find.specs.Told.{told};
 use mrd_cursor::Cursor;
 use mrd_format::Kind;
 use mrd_format::refusal;
-use mrd_numbers::read_u16;
+use mrd_judge::fixed_part;
+use mrd_message::counter;
 use mrd_stream::Checked;
 use mrd_stream::Record;
 use mrd_stream::Refusal;
 use mrd_stream::Step;
 use mrd_stream::check_from;
 
-// Where the counters start in an acquisition header, and how many there are.
-const COUNTERS: usize = 242;
-
+// How many counters an acquisition has.
 const COUNTER_COUNT: usize = 17;
 
 // The answer of find.
@@ -51,10 +46,11 @@ pub fn find(s: &[u8], n: usize, counters: &[u16; 17]) -> Found
                     continue 'records;
                 }
                 let place = here.place;
-                let h = header(s, place.start);
+                let start = place.start;
+                let h = fixed_part(Kind::Acquisition, &s[start..]);
                 let mut i: usize = 0;
                 while i < COUNTER_COUNT {
-                    if read_u16(h, COUNTERS + i * 2) != asked[i] {
+                    if counter(h, i) != asked[i] {
                         c = next;
                         continue 'records;
                     }
@@ -79,16 +75,6 @@ fn candidate(here: Record, n: usize) -> bool
     }
     let shape = here.shape;
     shape.kind().id() == Kind::ACQUISITION
-}
-
-// The header of the acquisition that starts at this byte.
-fn header(s: &[u8], start: usize) -> &[u8]
-    requires { ⌜ start + 342 ≤ length (now s) ⌝ }
-    ensures { λ r. ⌜ (now r ≡ fixedPart Acquisition (drop start (now (s .entry)))) × (length (now r) ≡ 340) ⌝ }
-{
-    let from = start + 2;
-    let to = from + Kind::ACQUISITION_FIXED;
-    &s[from..to]
 }
 
 // What was found, unless the stream is refused.

@@ -11,11 +11,10 @@ use Rattle.mrd_cursor.specs.declared.cursor.Cursor.{Cursor}
 use Rattle.mrd_stream.specs.Walk.{Trace, message, from}
 use Rattle.mrd_cursor.specs.Cursors.{beginning}
 use Rattle.mrd_logic.specs.Answer.{Verdict}
-use Rattle.mrd_stream.specs.Index.{Entry, entriesOf, entries, entryFields}
+use Rattle.mrd_stream.specs.Index.{Entry, entriesOf, entries, entryField, entryFields}
 use Rattle.mrd_stream.specs.Places.{Located, over, step}
 use Rattle.mrd_stream.specs.StepLaws.{Passes, On, on-start, on-next, on-end}
 use Rattle.mrd_index.specs.Entries.{entryAt, passes-number, passes-entry}
-use Rattle.mrd_index.specs.File.{entryField}
 
 -- how entries are laid out, one after the other: where that of record n stands, what one and what all of them are written as
 pub record Layout : Type 0 where

@@ -4,9 +4,4 @@ pub mod File
 pub mod FileLaws
 pub mod Filling
 pub mod Columns
-pub mod Same
-pub mod Compare
-pub mod FieldLaws
-pub mod Comparing
-pub mod CompareLaws
-pub mod Exactly
+pub mod ColumnLaws

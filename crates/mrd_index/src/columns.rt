@@ -1,15 +1,18 @@
-// The index in memory: three lent columns, start, id and counter, with one place for each record.
+// The index in memory: three given columns, start, id and counter, with one place for each record.
 ghost use mathlib.Core.Path.{_≡_};
+ghost use Prim.Native.Nat.{_+_};
+ghost use mathlib.Core.List.{[], _∷_};
 ghost use lib.ListN.{length};
-ghost use Rattle.mrd_numbers.specs.Stored.{front};
+ghost use Rattle.mrd_numbers.specs.Stored.{stored, front};
 ghost use Rattle.mrd_logic.specs.Answer.{accepted};
 ghost use Rattle.mrd_stream.specs.Walk.{answer};
-ghost use Rattle.mrd_stream.specs.Index.{startColumn, idColumn, counterColumn};
+ghost use Rattle.mrd_stream.specs.Index.{entries, startColumn, idColumn, counterColumn};
 ghost use Rattle.mrd_stream.specs.Output.{toldWritten, outputBy};
 ghost use Rattle.mrd_index.specs.Columns.{columnsAnswer, Rooms};
 use crate::entry::entry_of;
 use mrd_cursor::Cursor;
 use mrd_format::refusal;
+use mrd_index_fields::Entry;
 use mrd_stream::Checked;
 use mrd_stream::Step;
 use mrd_stream::Written;
@@ -45,13 +48,7 @@ fn fill(
     ensures { λ r. ⌜ now (ids .exit) ≡ outputBy (toldWritten r) (idColumn (now (s .entry))) (now (ids .entry)) ⌝ }
     ensures { λ r. ⌜ now (counters .exit) ≡ outputBy (toldWritten r) (counterColumn (now (s .entry))) (now (counters .entry)) ⌝ }
 {
-    if starts.len() < count {
-        return Written::Refused(refusal::OUTPUT_SHORT);
-    }
-    if ids.len() < count {
-        return Written::Refused(refusal::OUTPUT_SHORT);
-    }
-    if counters.len() < count {
+    if (starts.len() < count) | ((ids.len() < count) | (counters.len() < count)) {
         return Written::Refused(refusal::OUTPUT_SHORT);
     }
     put_places(s, starts, ids, counters);
@@ -60,7 +57,7 @@ fn fill(
 
 // Writes the entry of each record of s to its place in the columns: one step for each record.
 fn put_places(s: &[u8], starts: &mut [u64], ids: &mut [u16], counters: &mut [u32])
-    requires { ⌜ Rooms (now s) (length (now starts)) (length (now ids)) (length (now counters)) ⌝ }
+    requires { ⌜ Rooms (length (entries (now s))) (length (now starts)) (length (now ids)) (length (now counters)) ⌝ }
     ensures { λ _. ⌜ now (starts .exit) ≡ front (startColumn (now (s .entry))) (now (starts .entry)) ⌝ }
     ensures { λ _. ⌜ now (ids .exit) ≡ front (idColumn (now (s .entry))) (now (ids .entry)) ⌝ }
     ensures { λ _. ⌜ now (counters .exit) ≡ front (counterColumn (now (s .entry))) (now (counters .entry)) ⌝ }
@@ -72,10 +69,7 @@ fn put_places(s: &[u8], starts: &mut [u64], ids: &mut [u16], counters: &mut [u32
             Step::Message(record, next) => {
                 let place = record.place;
                 let entry = entry_of(s, record);
-                let n = place.number;
-                starts[n] = entry.start;
-                ids[n] = entry.id;
-                counters[n] = entry.counter;
+                put_place(place.number, entry, starts, ids, counters);
                 c = next;
             }
             Step::End(_) => {
@@ -83,4 +77,20 @@ fn put_places(s: &[u8], starts: &mut [u64], ids: &mut [u16], counters: &mut [u32
             }
         }
     }
+}
+
+// Writes an entry to place n of the columns. The tests are for a stream that changes between the check and the
+// walk: nothing is written past a column then.
+fn put_place(n: usize, entry: Entry, starts: &mut [u64], ids: &mut [u16], counters: &mut [u32])
+    requires { ⌜ Rooms (n + 1) (length (now starts)) (length (now ids)) (length (now counters)) ⌝ }
+    ensures { λ _. ⌜ now (starts .exit) ≡ stored n (entry .start ∷ []) (now (starts .entry)) ⌝ }
+    ensures { λ _. ⌜ now (ids .exit) ≡ stored n (entry .id ∷ []) (now (ids .entry)) ⌝ }
+    ensures { λ _. ⌜ now (counters .exit) ≡ stored n (entry .counter ∷ []) (now (counters .entry)) ⌝ }
+{
+    if (starts.len() <= n) | ((ids.len() <= n) | (counters.len() <= n)) {
+        return;
+    }
+    starts[n] = entry.start;
+    ids[n] = entry.id;
+    counters[n] = entry.counter;
 }

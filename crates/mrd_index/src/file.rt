@@ -1,35 +1,26 @@
 // The index as a file: a run of tagged fields, written to the front of an output.
 ghost use mathlib.Core.Path.{_≡_};
-ghost use mathlib.Core.List.{_++_};
 ghost use Prim.Native.Nat.{_+_, _≤_};
-ghost use lib.ListN.{length, drop};
+ghost use lib.ListN.{length};
 ghost use Rattle.mrd_numbers.specs.Stored.{stored};
 ghost use Rattle.mrd_logic.specs.Answer.{accepted};
 ghost use Rattle.mrd_stream.specs.Walk.{answer};
 ghost use Rattle.mrd_stream.specs.Index.{entries, entryFields};
 ghost use Rattle.mrd_stream.specs.Output.{toldWritten};
-ghost use Rattle.mrd_index.specs.Entries.{toldEntry};
-ghost use Rattle.mrd_index.specs.File.{tagField, frontField, entryField, endField, indexAnswer, indexOutput};
-use crate::entry::Entry;
+ghost use Rattle.mrd_index.specs.File.{indexAnswer, indexOutput};
 use crate::entry::entry_of;
 use mrd_cursor::Cursor;
 use mrd_format::refusal;
-use mrd_numbers::put_u16;
-use mrd_numbers::put_u32;
-use mrd_numbers::put_u64;
+use mrd_index_fields::END;
+use mrd_index_fields::ENTRY;
+use mrd_index_fields::FRONT;
+use mrd_index_fields::put_end;
+use mrd_index_fields::put_entry;
+use mrd_index_fields::put_front;
 use mrd_stream::Checked;
 use mrd_stream::Step;
 use mrd_stream::Written;
 use mrd_stream::check;
-
-// The bytes before the first entry: edition and stream length.
-pub(crate) const FRONT: usize = 16;
-
-// The bytes of one entry.
-pub(crate) const ENTRY: usize = 17;
-
-// The bytes after the last entry: the record count.
-pub(crate) const END: usize = 7;
 
 // Writes the index of the stream s to the front of out and answers its length, which is 23 bytes and 17 for
 // each record; else answers the stream's refusal, or 14 where out is shorter than that. The rest of out keeps
@@ -58,7 +49,7 @@ fn write(s: &[u8], count: usize, out: &mut [u8]) -> Written
     }
     put_front(out, s.len() as u64);
     put_entries(s, out);
-    put_end(&mut out[end..], count as u32);
+    put_end(out, end, count as u32);
     Written::Length(size)
 }
 
@@ -74,8 +65,7 @@ fn put_entries(s: &[u8], out: &mut [u8])
             Step::Message(record, next) => {
                 let place = record.place;
                 let entry = entry_of(s, record);
-                let at = FRONT + ENTRY * place.number;
-                put_entry(&mut out[at..], entry);
+                put_entry(out, FRONT + ENTRY * place.number, entry);
                 c = next;
             }
             Step::End(_) => {
@@ -83,45 +73,4 @@ fn put_entries(s: &[u8], out: &mut [u8])
             }
         }
     }
-}
-
-// Edition 1, and the stream's length.
-fn put_front(out: &mut [u8], total: u64)
-    requires { ⌜ 16 ≤ length (now out) ⌝ }
-    ensures { λ _. ⌜ now (out .exit) ≡ frontField total ++ drop 16 (now (out .entry)) ⌝ }
-{
-    put_tag(&mut out[0..], 1, 2);
-    put_u16(&mut out[3..], 1);
-    put_tag(&mut out[5..], 2, 8);
-    put_u64(&mut out[8..], total);
-}
-
-// One record's entry.
-fn put_entry(out: &mut [u8], entry: Entry)
-    requires { ⌜ 17 ≤ length (now out) ⌝ }
-    ensures { λ _. ⌜ now (out .exit) ≡ entryField (toldEntry entry) ++ drop 17 (now (out .entry)) ⌝ }
-{
-    put_tag(&mut out[0..], 3, 14);
-    put_u64(&mut out[3..], entry.start);
-    put_u16(&mut out[11..], entry.id);
-    put_u32(&mut out[13..], entry.counter);
-}
-
-// The record count.
-fn put_end(out: &mut [u8], count: u32)
-    requires { ⌜ 7 ≤ length (now out) ⌝ }
-    ensures { λ _. ⌜ now (out .exit) ≡ endField count ++ drop 7 (now (out .entry)) ⌝ }
-{
-    put_tag(&mut out[0..], 4, 4);
-    put_u32(&mut out[3..], count);
-}
-
-// A field's tag and the length of its body.
-fn put_tag(out: &mut [u8], tag: u8, size: u16)
-    requires { ⌜ 3 ≤ length (now out) ⌝ }
-    ensures { λ _. ⌜ now (out .exit) ≡ tagField tag size ++ drop 3 (now (out .entry)) ⌝ }
-{
-    out[0] = tag;
-    out[1] = (size % 256) as u8;
-    out[2] = (size / 256 % 256) as u8;
 }

@@ -1,14 +1,11 @@
-// The index of an accepted stream: written as a file, and compared with a lent one, a file or columns.
+// The index of an accepted stream: written as a file, or filled into columns.
 //
-// No public function here has a `requires`: any bytes and any output get an answer. The stream is checked
-// first, and a refusal writes no byte. A comparison is one walk and keeps nothing. Assumes nothing.
+// No public function here has a `requires` but `entry_of`: any bytes and any output get an answer. The stream is
+// checked first, and a refusal writes no byte. Assumes nothing.
 mod columns;
-mod compare;
 mod entry;
 mod file;
 
 pub use columns::fill_columns;
-pub use compare::Matched;
-pub use compare::columns_match;
-pub use compare::index_matches;
+pub use entry::entry_of;
 pub use file::write_index;

@@ -4,3 +4,5 @@ pub mod Joined
 pub mod Checks
 pub mod CheckLaws
 pub mod Answer
+pub mod Lists
+pub mod ListLaws

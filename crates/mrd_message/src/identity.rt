@@ -27,14 +27,8 @@ pub fn scan_counter(kind: Kind, h: &[u8]) -> u32
     ensures { λ r. ⌜ r ≡ counterOf kind (now (h .entry)) ⌝ }
 {
     match kind {
-        Kind::ConfigurationName => 0,
-        Kind::ConfigurationText => 0,
-        Kind::HeaderText => 0,
-        Kind::Close => 0,
-        Kind::Text => 0,
-        Kind::Acquisition => read_u32(h, SCAN_COUNTER),
-        Kind::Image => 0,
-        Kind::Waveform => read_u32(h, SCAN_COUNTER),
+        Kind::Acquisition | Kind::Waveform => read_u32(h, SCAN_COUNTER),
+        _ => 0,
     }
 }
 
@@ -44,14 +38,9 @@ pub fn measurement_uid(kind: Kind, h: &[u8]) -> u32
     ensures { λ r. ⌜ r ≡ uidOf kind (now (h .entry)) ⌝ }
 {
     match kind {
-        Kind::ConfigurationName => 0,
-        Kind::ConfigurationText => 0,
-        Kind::HeaderText => 0,
-        Kind::Close => 0,
-        Kind::Text => 0,
-        Kind::Acquisition => read_u32(h, MEASUREMENT_UID),
+        Kind::Acquisition | Kind::Waveform => read_u32(h, MEASUREMENT_UID),
         Kind::Image => read_u32(h, IMAGE_MEASUREMENT_UID),
-        Kind::Waveform => read_u32(h, MEASUREMENT_UID),
+        _ => 0,
     }
 }
 

@@ -23,13 +23,10 @@ pub fn fault(kind: Kind, h: &[u8]) -> u8
 {
     match kind {
         Kind::ConfigurationName => name_fault(h),
-        Kind::ConfigurationText => 0,
-        Kind::HeaderText => 0,
-        Kind::Close => 0,
-        Kind::Text => 0,
         Kind::Acquisition => mrd_acquisition::fault(h),
         Kind::Image => mrd_image::fault(h),
         Kind::Waveform => waveform::fault(h),
+        _ => 0,
     }
 }
 
@@ -76,11 +73,8 @@ fn body_size(kind: Kind, h: &[u8]) -> usize
     ensures { λ r. ⌜ (capped r ≡ capped (bodySize kind (now (h .entry)))) × (r < 2 ^ 40) ⌝ }
 {
     match kind {
-        Kind::ConfigurationName => 0,
-        Kind::ConfigurationText => text_length(h),
-        Kind::HeaderText => text_length(h),
-        Kind::Close => 0,
-        Kind::Text => text_length(h),
+        Kind::ConfigurationName | Kind::Close => 0,
+        Kind::ConfigurationText | Kind::HeaderText | Kind::Text => text_length(h),
         Kind::Acquisition => mrd_acquisition::body_size(h),
         Kind::Image => mrd_image::body_size(h),
         Kind::Waveform => waveform::body_size(h),

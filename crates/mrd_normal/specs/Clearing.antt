@@ -4,10 +4,9 @@ use Prim.Native.Nat.{ℕ, _+_, _-_, _≤_, _<_}
 use native.Mathlib.Omega.{arith}
 use mathlib.Core.Path.{_≡_, refl, sym, ap, _∙_}
 use mathlib.Core.List.{List, [], _∷_, _++_, append-nil, append-assoc}
-use lib.ListN.{length, take, drop, set, replicate, length-append, length-drop, length-set, take-append-drop, drop-of-length-le}
+use lib.ListN.{length, take, drop, replicate, length-append, length-drop, length-replicate, take-append-drop}
 use lib.Seq.{take-append-add, take-append-le, drop-at}
-use borrow.Author.Fill.{fill-none, fill-more}
-use borrow.Rule.Slice.PartMut.{midOf, postOf, putMid, mid-len, post-is}
+use Rattle.mrd_numbers.specs.Stored.{stored, lentFrom, returned, stored-lent}
 use Rattle.mrd_stream.specs.declared.answer.Record.{Record}
 use Rattle.mrd_cursor.specs.declared.cursor.Cursor.{Cursor}
 use Rattle.mrd_judge.specs.Judge.{Judged, faulty, whole, judge}
@@ -21,30 +20,6 @@ use Rattle.mrd_stream.specs.Told.{toldRecord}
 use Rattle.mrd_format.specs.Content.{normalOf}
 use Rattle.mrd_normal.specs.Filler.{fillerOf, Filled, filled-long, told-filler}
 
--- the first i bytes of o were made zero
-pub record Zeroed (o : List ℕ) (i : ℕ) (out : List ℕ) : Type 0 where
-  pub within : i ≤ length o
-  pub long : length out ≡ length o
-  pub holds : out ≡ replicate i 0 ++ drop i o
-
-pub zeroed-none : (o : List ℕ) → Zeroed o 0 o
-zeroed-none o = record { within = omega arith; long = refl; holds = fill-none o 0 }
-
-pub zeroed-more : {o out : List ℕ} {i : ℕ} → Zeroed o i out → i < length out → Zeroed o (i + 1) (set out i 0)
-zeroed-more {o} {out} {i} z h =
-    let room : i < length o = omega (arith, z .long) in
-    record {
-      within = omega arith;
-      long = length-set out i 0 ∙ z .long;
-      holds = ap
-          (λ (l : List ℕ). set l i 0) (z .holds) ∙ fill-more i 0 o room;
-    }
-
-pub zeroed-all : {o out : List ℕ} {i : ℕ} → Zeroed o i out → length out ≤ i → out ≡ replicate (length o) 0
-zeroed-all {o} {out} {i} z h =
-    let all : i ≡ length o = omega (arith, z .long, z .within) in
-    z .holds ∙ rw (all, drop-of-length-le o {i = length o} (omega arith), append-nil)
-
 -- the front of out is a copy of s, which is accepted
 pub record Copied (s out : List ℕ) : Type 0 where
   pub count : ℕ
@@ -52,7 +27,7 @@ pub record Copied (s out : List ℕ) : Type 0 where
   pub room : length s ≤ length out
   pub front : take (length s) out ≡ s
 
--- the walk over s stands at c; out, which was o, holds the normal form of what was passed, then the rest of s, and then what o holds after s
+-- the walk over s is at c; out, which was o, holds the normal form of what was passed, then the rest of s, and then what o holds after s
 pub record Clearing (s o : List ℕ) (c : Cursor) (out : List ℕ) : Type 0 where
   pub copied : Copied s o
   pub ready : List ℕ
@@ -83,12 +58,15 @@ same-size {s} {o} {out} {c} h =
 reach : {c d : Cursor} {s : List ℕ} {l : Located} (p : Passes c s l d) → d .start ≡ c .start + length (p .bytes)
 reach p = omega (arith, simp (length-append, length-drop) at (ap length (p .split)), p .ahead, p .within)
 
+-- no message reaches past the output
+pub never-past : {s o out : List ℕ} {c d : Cursor} {l : Located} → Clearing s o c out → step c s ≡ handed l d → d .start ≤ length out
+never-past {s} {c = c} h e = omega (arith, same-size h, h .copied .room, step-handed c s e .within)
+
 -- a turn of the walk, from c to d: it passes a message that ends in f bytes of filler
 pub record Turn (s : List ℕ) (c : Cursor) (out : List ℕ) (r : Record) (d : Cursor) (f : ℕ) : Type 0 where
   pub passes : Passes c s (toldRecord r) d
   pub filled : Filled (passes .kind) (passes .bytes) f
   pub fits : f ≤ d .start
-  pub room : d .start ≤ length out
 
 pub turn : {s o out : List ℕ} {c d : Cursor}
     (r : Record) {f : ℕ} → Clearing s o c out → step c s ≡ handed (toldRecord r) d → f ≡ fillerOf (r .shape) →
@@ -100,7 +78,6 @@ turn {s} {o} {out} {c} {d} r {f} h e q =
       passes = p;
       filled = filled;
       fits = omega (arith, reach p, filled .within);
-      room = omega (arith, same-size h, h .copied .room, p .within);
     }
 
 -- the message m, after a and before b, with its last f bytes made zero up to where it ends
@@ -114,24 +91,15 @@ module _ (a m b : List ℕ) (f : ℕ) (within : f ≤ length m) where
   after-filler : drop (length a + length m) (a ++ (m ++ b)) ≡ b
   after-filler = rw (← append-assoc a m b) (drop-at (a ++ m) b (length a + length m) (length-append a m))
 
-  made-zero : (e : ℕ) → e ≡ length a + length m →
-      take (e - f) (a ++ (m ++ b)) ++ (replicate f 0 ++ drop e (a ++ (m ++ b))) ≡ a ++ (take (length m - f) m ++ replicate f 0) ++ b
-  made-zero e q = rw (q, before-filler, after-filler) (simp append-assoc)
+  made-zero : (e : ℕ) → e ≡ length a + length m → stored (e - f) (replicate f 0) (a ++ (m ++ b)) ≡ a ++ (take (length m - f) m ++ replicate f 0) ++ b
+  unfolding stored
+  made-zero e q =
+      let end : length a + length m - f + f ≡ length a + length m = omega arith in
+      rw (q, length-replicate {A = ℕ} f 0, end, before-filler, after-filler) (simp append-assoc)
 
--- the f bytes before e lent on, made zero, and back in their place
-module _
-    (e f : ℕ) (xs ys : List ℕ) (fits : f ≤ e) (room : e ≤ length xs)
-    (zeros : ys ≡ replicate (length (midOf (e - f) (e - (e - f)) xs)) 0) where
-  back : putMid (e - f) (e - (e - f)) xs ys ≡ take (e - f) xs ++ (replicate f 0 ++ drop e xs)
-  back =
-      let some : length (midOf (e - f) (e - (e - f)) xs) ≡ f = mid-len (e - f) e xs room ∙ omega arith in
-      let rest : postOf (e - f) (e - (e - f)) xs ≡ drop e xs = post-is (e - f) e xs (omega arith) in
-      rw (zeros, some, rest)
-
--- past a message whose filler, lent on, was made zero
+-- past a message whose filler was made zero, in the part that starts with it
 pub next : {s o out : List ℕ} {c d : Cursor} {r : Record} {f : ℕ} {ys : List ℕ} → Clearing s o c out → Turn s c out r d f →
-    ys ≡ replicate (length (midOf (d .start - f) (d .start - (d .start - f)) out)) 0 →
-    Clearing s o d (putMid (d .start - f) (d .start - (d .start - f)) out ys)
+    ys ≡ replicate f 0 ++ drop f (lentFrom (d .start - f) out) → Clearing s o d (returned (d .start - f) out ys)
 next {s} {o} {out} {c} {d} {r} {f} {ys} h t zeros =
     let p = t .passes in
     let m = p .bytes in
@@ -145,8 +113,8 @@ next {s} {o} {out} {c} {d} {r} {f} {ys} h t zeros =
       ready = a ++ n;
       long = length-append a n ∙ rw (filled-long (t .filled)) (sym end);
       holds =
-          back (d .start) f out ys (t .fits) (t .room) zeros ∙
-          ap (λ (x : List ℕ). take (d .start - f) x ++ (replicate f 0 ++ drop (d .start) x)) here ∙
+          stored-lent (d .start - f) out (replicate f 0) ys (zeros ∙ rw (length-replicate {A = ℕ} f 0)) ∙
+          ap (stored (d .start - f) (replicate f 0)) here ∙
           made-zero a m b f (t .filled .within) (d .start) end ∙
           ap (λ (x : List ℕ). a ++ x ++ b) (sym (t .filled .normal));
       walk = on-next verdict s verdict (h .walk) p (λ r. refl);

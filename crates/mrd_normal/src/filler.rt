@@ -2,13 +2,14 @@
 ghost use mathlib.Core.Path.{_≡_};
 ghost use mathlib.Core.List.{_++_};
 ghost use Prim.Native.Nat.{_-_};
-ghost use lib.ListN.{length, drop, replicate};
+ghost use lib.ListN.{length, drop};
 ghost use Rattle.mrd_stream.specs.Normal.{normal};
 ghost use Rattle.mrd_normal.specs.Filler.{fillerOf};
 ghost use Rattle.mrd_normal.specs.Clearing.{Copied};
 use mrd_cursor::Cursor;
 use mrd_format::Kind;
 use mrd_format::Shape;
+use mrd_numbers::put_zeros;
 use mrd_stream::Step;
 
 // Makes the filler of each configuration name zero, where the front of out is a copy of the accepted
@@ -22,10 +23,16 @@ pub(crate) fn clear_fillers(s: &[u8], out: &mut [u8])
         let step = mrd_stream::next(c, s);
         match step {
             Step::Message(record, next) => {
-                let shape = record.shape;
                 let end = next.start;
-                let start = end - filler(shape);
-                clear(&mut out[start..end]);
+                // So it never is for bytes that stay as they were checked; with others, nothing is
+                // written outside.
+                if out.len() < end {
+                    return;
+                }
+                let shape = record.shape;
+                let n = filler(shape);
+                let start = end - n;
+                put_zeros(&mut out[start..], n);
                 c = next;
             }
             Step::End(_) => {
@@ -59,16 +66,5 @@ fn name_filler(length: usize) -> usize
         Kind::NAME_FIXED - length
     } else {
         0
-    }
-}
-
-// Makes every byte zero.
-fn clear(part: &mut [u8])
-    ensures { λ _. ⌜ now (part .exit) ≡ replicate (length (now (part .entry))) 0 ⌝ }
-{
-    let mut i = 0;
-    while i < part.len() {
-        part[i] = 0;
-        i += 1;
     }
 }

@@ -4,10 +4,17 @@ use Prim.Native.Nat.{ℕ, zero, suc, _+_, _≤_}
 use native.Mathlib.Omega.{arith}
 use mathlib.Core.Path.{_≡_, ap, sym, _∙_}
 use mathlib.Core.List.{List, [], _∷_, _++_}
-use lib.ListN.{length, take, drop, length-drop}
+use lib.ListN.{length, getD, take, drop, length-drop}
 use lib.Seq.{length-take-le}
+use mir.Val.{Fits}
+use mir.Syntax.{w8}
 use Rattle.mrd_numbers.specs.Little.{fromBytes, toBytes, num, Bytes}
 use Rattle.mrd_numbers.specs.WriteLaws.{to-from}
+
+-- the elements of every slice of bytes are bytes
+pub all-bytes : (f : List ℕ) → ((i : ℕ) → Fits w8 (getD f i 0)) → Bytes f
+all-bytes [] h = tt
+all-bytes (b ∷ f) h = (h 0 .fits, all-bytes f (λ i. h (suc i)))
 
 pub bytes-take : (n : ℕ) (s : List ℕ) → Bytes s → Bytes (take n s)
 bytes-take zero s b = tt

@@ -1,20 +1,8 @@
-// Questions about one record of a stream, by its number or where a walk stands: a view of one of its parts,
-// and a field of its header.
+// One record of a stream: the place of the one at a cursor, and a record's fixed part.
 //
-// No public function here has a `requires`: any bytes, any record number, any part and any offset get an
-// answer. Nothing is copied: a view is a part of the lent stream. Assumes nothing.
-mod fields;
-mod parts;
-mod standing;
-mod views;
+// `place_at` has no `requires`: any cursor gets an answer. `fixed_part` asks that the record lies in the
+// stream, as every answered place does. Nothing is copied. Assumes nothing.
+mod record;
 
-pub use fields::FieldAnswer;
-pub use fields::field;
-pub use parts::Part;
-pub use standing::field_at;
-pub use standing::view_at;
-pub use standing::view_place_at;
-pub use views::Span;
-pub use views::ViewPlace;
-pub use views::view;
-pub use views::view_place;
+pub use record::fixed_part;
+pub use record::place_at;

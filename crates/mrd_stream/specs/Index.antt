@@ -4,6 +4,8 @@ use Prim.Native.Nat.{ℕ, suc}
 use mathlib.Core.List.{List, [], _∷_, _++_, map}
 use lib.ListN.{length}
 use Rattle.mrd_numbers.specs.Little.{toBytes}
+use Rattle.mrd_tagged.specs.Tagged.{tagged}
+use Rattle.mrd_format.specs.declared.kind.Kind.{Kind}
 use Rattle.mrd_format.specs.Kinds.{idOf}
 use Rattle.mrd_format.specs.Message.{fixedPart}
 use Rattle.mrd_format.specs.Content.{counterOf}
@@ -15,29 +17,36 @@ pub record Entry : Type 0 where
   pub id : ℕ
   pub counter : ℕ
 
+-- of the message m of kind k that starts there
+abbrev pub entryOf : ℕ → Kind → List ℕ → Entry
+entryOf at k m = record { start = at; id = idOf k; counter = counterOf k (fixedPart k m) }
+
 abbrev pub entriesOf : Trace → List Entry
-entriesOf (message c k m r) =
-    record { start = c .start; id = idOf k; counter = counterOf k (fixedPart k m) } ∷ entriesOf r
+entriesOf (message c k m r) = entryOf (c .start) k m ∷ entriesOf r
 entriesOf (done v) = []
 
 -- an entry for each record, in order
 unfoldable pub entries : List ℕ → List Entry
 entries s = entriesOf (trace s)
 
--- 'tagged fields: one-byte tag, two-byte length, body'
-abbrev pub tagged : ℕ → List ℕ → List ℕ
-tagged tag body = tag ∷ (toBytes 2 (length body) ++ body)
+-- 'Tag 1: edition 1 (u16). Tag 2: stream length (u64)'
+abbrev pub frontField : ℕ → List ℕ
+frontField size = tagged 1 (toBytes 2 1) ++ tagged 2 (toBytes 8 size)
 
--- 'tag 3 for each record'
+-- 'Then tag 3 for each record'
+abbrev pub entryField : Entry → List ℕ
+entryField e = tagged 3 (toBytes 8 (e .start) ++ (toBytes 2 (e .id) ++ toBytes 4 (e .counter)))
+
 abbrev pub entryFields : List Entry → List ℕ
 entryFields [] = []
-entryFields (e ∷ es) = tagged 3 (toBytes 8 (e .start) ++ (toBytes 2 (e .id) ++ toBytes 4 (e .counter))) ++ entryFields es
+entryFields (e ∷ es) = entryField e ++ entryFields es
 
--- 'Tag 1: edition 1 (u16). Tag 2: stream length (u64). Then tag 3 for each record .. Last, tag 4: record count (u32)'
+-- 'Last, tag 4: record count (u32)'
+abbrev pub endField : ℕ → List ℕ
+endField n = tagged 4 (toBytes 4 n)
+
 unfoldable pub index : List ℕ → List ℕ
-index s =
-    tagged 1 (toBytes 2 1) ++
-    (tagged 2 (toBytes 8 (length s)) ++ (entryFields (entries s) ++ tagged 4 (toBytes 4 (length (entries s)))))
+index s = frontField (length s) ++ (entryFields (entries s) ++ endField (length (entries s)))
 
 -- 'in memory the same index is three lent columns, start, id and counter'
 unfoldable pub startColumn : List ℕ → List ℕ

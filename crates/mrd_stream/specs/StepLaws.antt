@@ -11,7 +11,7 @@ use Rattle.mrd_format.specs.Message.{fixedPart, WellFormed}
 use Rattle.mrd_format.specs.MessageLaws.{size-least}
 use Rattle.mrd_cursor.specs.declared.cursor.Cursor.{Cursor}
 use Rattle.mrd_judge.specs.Judge.{Judged, faulty, whole, judge}
-use Rattle.mrd_cursor.specs.Cursors.{after, beginning}
+use Rattle.mrd_cursor.specs.Cursors.{maxMessages, after, beginning}
 use Rattle.mrd_logic.specs.Answer.{Verdict}
 use Rattle.mrd_stream.specs.Walk.{Trace, message, done, walk, trace, from}
 use Rattle.mrd_stream.specs.WalkLaws.{walk-end, walk-fault, walk-next}
@@ -27,6 +27,7 @@ pub record Passes (c : Cursor) (s : List ℕ) (l : Located) (d : Cursor) : Type 
   pub ahead : c .start < d .start
   pub within : d .start ≤ length s
   pub counted : d .number ≡ c .number + 1
+  pub few : c .number < maxMessages
   pub well : WellFormed bytes
   pub known : well .kind ≡ kind
   pub split : drop (c .start) s ≡ bytes ++ drop (d .start) s
@@ -69,6 +70,7 @@ step-handed c s {l} {d} e = at (drop (c .start) s) refl e
           ahead = rw next (omega arith);
           within = rw next (omega (arith, w .fits));
           counted = rw next;
+          few = w .counted;
           well = wellFormed c (b ∷ t) w;
           known = refl;
           split = rw (next, ← rest) (here ∙ sym (take-append-drop z (b ∷ t)));

@@ -3,7 +3,7 @@
 use libc::STDOUT_FILENO;
 use mrd_format::Kind;
 use mrd_stream::Checked;
-use mrd_writer::Written;
+use mrd_writer::WriteAnswer;
 
 fn main() {
     let mut out = [0u8; 2048];
@@ -16,15 +16,15 @@ fn main() {
 
 // The position after a message, which is printed; where the message was refused, its number is printed
 // and the position stays.
-fn after(written: Written, position: usize) -> usize {
+fn after(written: WriteAnswer, position: usize) -> usize {
     match written {
-        Written::To(next) => {
+        WriteAnswer::To(next) => {
             io::write_all(STDOUT_FILENO, b"written to ");
             io::print_decimal(STDOUT_FILENO, next as u64);
             io::write_all(STDOUT_FILENO, b"\n");
             next
         }
-        Written::Refused(number) => {
+        WriteAnswer::Refused(number) => {
             io::write_all(STDOUT_FILENO, b"refused ");
             io::print_decimal(STDOUT_FILENO, number as u64);
             io::write_all(STDOUT_FILENO, b"\n");

@@ -1,13 +1,7 @@
-pub mod Lent
-pub mod Refusals
-pub mod JudgeLaws
-pub mod ImageLaws
-pub mod HeadedLaws
 pub mod Write
-pub mod PutLaws
 pub mod Sound
 pub mod WriteLaws
 pub mod Written
-pub mod LentRecord
+pub mod WrittenRecord
 pub mod ReadBack
-pub mod Rewritten
+pub mod OwnContents

@@ -1,69 +1,97 @@
--- 'The message reads back where the order allows it': the theorems about the writer and the reader, each from the laws of both.
+-- 'The message reads back where the order allows it': the theorem about the writer and the reader, from the laws of both.
 -- Assumes nothing.
-use Prim.Native.Nat.{ℕ, _+_, _<_}
+use Prim.Native.Nat.{ℕ, _+_, _≤_, _<_}
+use native.Mathlib.Omega.{arith}
 use mathlib.Core.Path.{_≡_, refl, sym, ap, _∙_}
 use mathlib.Core.Bool.{true}
 use mathlib.Core.List.{List, [], _∷_, _++_}
+use borrow.Author.Tests.{ltb-false}
 use lib.Dec.{ltb}
-use lib.ListN.{length}
+use lib.ListN.{length, take, drop}
+use lib.Seq.{length-take-le, take-at, drop-at}
 use Rattle.mrd_numbers.specs.Stored.{stored}
+use Rattle.mrd_logic.specs.Answer.{answered}
+use Rattle.mrd_logic.specs.Checks.{_when_, first}
+use Rattle.mrd_logic.specs.CheckLaws.{first-passed, passed-first, numbered-append, every-split}
 use Rattle.mrd_format.specs.declared.kind.Kind.{Kind}
 use Rattle.mrd_format.specs.declared.kind.Identified.{Identified}
 use Rattle.mrd_format.specs.declared.kind.Identified.the-variants.{Known, Unknown}
 use Rattle.mrd_format.specs.Kinds.{identified}
-use Rattle.mrd_logic.specs.Checks.{_when_, first}
-use Rattle.mrd_logic.specs.CheckLaws.{first-passed, passed-first, numbered-append, every-split}
+use Rattle.mrd_format.specs.Message.{WellFormed}
+use Rattle.mrd_format.specs.Parts.{Contents}
+use Rattle.mrd_format.specs.Content.{recordOf, messageOf, contentsRecord}
 use Rattle.mrd_cursor.specs.declared.cursor.Cursor.{Cursor}
 use Rattle.mrd_cursor.specs.Order.{allowed}
 use Rattle.mrd_cursor.specs.Cursors.{maxMessages, after}
-use Rattle.mrd_stream.specs.Walk.{message, walk}
+use Rattle.mrd_stream.specs.Walk.{message, walk, from}
 use Rattle.mrd_cut.specs.Walked.{walk-well}
-use Rattle.mrd_writer.specs.Lent.{Lent, lengthsOf, messageOf}
-use Rattle.mrd_writer.specs.Sound.{Sound, lent-numbered, passed-sound}
-use Rattle.mrd_writer.specs.Refusals.{sizeOf, lentChecks, done}
-use Rattle.mrd_writer.specs.Write.{writeChecks, answerAs, outputAs, writeAnswer, writeOutput}
-use Rattle.mrd_writer.specs.JudgeLaws.{done-not-refused, unless-done}
+use Rattle.mrd_write_checks.specs.WriteChecks.{lengthsOf}
+use Rattle.mrd_write_checks.specs.JudgeLaws.{answered-not-number, unless-answered, contents-numbered}
+use Rattle.mrd_writer.specs.Write.{sizeGiven, givenChecks, writeChecks, answerAs, outputAs, writeAnswer, writeOutput}
+use Rattle.mrd_writer.specs.Sound.{Sound, passed-sound}
 use Rattle.mrd_writer.specs.Written.{message-length, written-well}
+use Rattle.mrd_writer.specs.WrittenRecord.{written-record}
 
--- the walk meets the message that was written, and goes on after it, whatever follows
-pub written-reads-back : (c : Cursor) (k : Kind) (l : Lent) (rest : List ℕ) → Sound k l → allowed k (c .phase) ≡ true → c .number < maxMessages →
-    walk (messageOf k l ++ rest) 0 c ≡ message c k (messageOf k l) (walk rest 0 (after c k (length (messageOf k l))))
-written-reads-back c k l rest s a n = walk-well c (messageOf k l) rest (written-well k l s) a n
-
--- the writer did not refuse and gave the position p: what was lent passes every check, p is the first position after the message, and the output
--- holds it
-pub record Wrote (id : ℕ) (l : Lent) (at : ℕ) (o : List ℕ) (p : ℕ) : Type 0 where
+-- what the writer left in the output o, given the id, c and the position `at`, where it answers the position p
+pub record ReadsBack (id : ℕ) (c : Contents) (at : ℕ) (o : List ℕ) (p : ℕ) : Type 0 where
+  -- the id is in the table, and m is the message of its kind that c makes
   pub kind : Kind
   pub known : identified id ≡ Known kind
-  pub sound : Sound kind l
-  pub end : p ≡ at + length (messageOf kind l)
-  pub output : writeOutput id l at o ≡ stored at (messageOf kind l) o
+  pub m : List ℕ
+  pub made : m ≡ messageOf kind c
+  -- it lies in the output from the position on, up to p, and all else there is as it was
+  pub end : p ≡ at + length m
+  pub there : take (length m) (drop at (writeOutput id c at o)) ≡ m
+  pub output : writeOutput id c at o ≡ stored at m o
+  -- it is well formed, of that kind, and its record is that of what was given
+  pub well : WellFormed m
+  pub its-kind : well .kind ≡ kind
+  pub same-record : recordOf kind m ≡ contentsRecord kind c
+  -- and where order and count allow it, a walk over any stream that has it there meets it, and goes on after it
+  pub met : (d : Cursor) (s rest : List ℕ) → drop (d .start) s ≡ m ++ rest → allowed kind (d .phase) ≡ true → d .number < maxMessages →
+      from d s ≡ message d kind m (walk rest 0 (after d kind (length m)))
 
 -- an answer that is no refusal: every check passed
-answered-sound : (k : Kind) (l : Lent) (at : ℕ) (o : List ℕ) {p : ℕ} → answerAs (Known k) l at o ≡ done p →
-    Sound k l × (at + sizeOf k (l .header) (lengthsOf l) ≡ p)
+answered-sound : (k : Kind) (c : Contents) (at : ℕ) (o : List ℕ) {p : ℕ} → answerAs (Known k) c at o ≡ answered p →
+    Sound k c × (at + sizeGiven k c ≡ p) × (at + sizeGiven k c ≤ length o)
 unfolding answerAs writeChecks
-answered-sound k l at o e =
-    let n = lengthsOf l in
-    let own = lentChecks k (l .header) (l .name) n in
-    let room = (14 when ltb (length o) (at + sizeOf k (l .header) n)) ∷ [] in
-    let d = unless-done (first (own ++ room)) (at + sizeOf k (l .header) n) e in
-    let all = first-passed (own ++ room) (numbered-append own room (lent-numbered k (l .header) (l .name) n) refl) (d .0) in
-    (passed-sound k l (passed-first own (every-split own room all .0)), d .1)
+answered-sound k c at o e =
+    let own = givenChecks k c in
+    let room = (14 when ltb (length o) (at + sizeGiven k c)) ∷ [] in
+    let d = unless-answered (first (own ++ room)) (at + sizeGiven k c) e in
+    let numbers = numbered-append own room (contents-numbered k (c .header) (c .parts .name) (lengthsOf c)) refl in
+    let all = every-split own room (first-passed (own ++ room) numbers (d .0)) in
+    (passed-sound k c (passed-first own (all .0)), d .1, ltb-false _ _ (all .1 .0))
 
--- so it is with every message that is written
-pub written-sound : (id : ℕ) (l : Lent) (at : ℕ) (o : List ℕ) {p : ℕ} → writeAnswer id l at o ≡ done p → Wrote id l at o p
+-- bytes that were stored are there
+stored-there : (at : ℕ) (m o : List ℕ) → at + length m ≤ length o → take (length m) (drop at (stored at m o)) ≡ m
+unfolding stored
+stored-there at m o h =
+    rw (drop-at (take at o) (m ++ drop (at + length m) o) at (length-take-le at o (omega arith)))
+    (take-at m (drop (at + length m) o) (length m) refl)
+
+-- what we write reads back as the same record
+pub written-reads-back : (id : ℕ) (c : Contents) (at : ℕ) (o : List ℕ) (p : ℕ) → writeAnswer id c at o ≡ answered p → ReadsBack id c at o p
 unfolding writeAnswer writeOutput answerAs outputAs
-written-sound id l at o {p} e = by-id (identified id) refl e
+written-reads-back id c at o p e = by-id (identified id) refl e
   where
-    by-id : (i : Identified) → identified id ≡ i → answerAs i l at o ≡ done p → Wrote id l at o p
-    by-id Unknown n e = absurd (done-not-refused (sym e))
+    by-id : (i : Identified) → identified id ≡ i → answerAs i c at o ≡ answered p → ReadsBack id c at o p
+    by-id Unknown n e = absurd (answered-not-number (sym e))
     by-id (Known k) n e =
-        let s = answered-sound k l at o e in
+        let s = answered-sound k c at o e in
+        let long : length (messageOf k c) ≡ sizeGiven k c = message-length k c (s .0) in
+        let left : writeOutput id c at o ≡ stored at (messageOf k c) o = rw (n, e) in
+        let well : WellFormed (messageOf k c) = written-well k c (s .0) in
         record {
           kind = k;
           known = n;
-          sound = s .0;
-          end = sym (s .1) ∙ ap (λ (z : ℕ). at + z) (sym (message-length k l (s .0)));
-          output = rw (n, e);
+          m = messageOf k c;
+          made = refl;
+          end = sym (s .1) ∙ ap (λ (z : ℕ). at + z) (sym long);
+          there = rw left (stored-there at (messageOf k c) o (rw long (s .2)));
+          output = left;
+          well = well;
+          its-kind = refl;
+          same-record = written-record k c (s .0);
+          met = λ d t rest q a b. ap (λ (u : List ℕ). walk u 0 d) q ∙ walk-well d (messageOf k c) rest well a b;
         }

@@ -6,56 +6,65 @@ use mathlib.Core.List.{List, [], _∷_, _++_}
 use lib.Dec.{ltb}
 use lib.ListN.{length}
 use Rattle.mrd_numbers.specs.Stored.{stored}
+use Rattle.mrd_logic.specs.Answer.{Answer, answered, stream, number}
+use Rattle.mrd_logic.specs.Checks.{Check, _when_, first}
 use Rattle.mrd_format.specs.declared.kind.Kind.{Kind}
 use Rattle.mrd_format.specs.declared.kind.Identified.{Identified}
 use Rattle.mrd_format.specs.declared.kind.Identified.the-variants.{Known, Unknown}
 use Rattle.mrd_format.specs.Kinds.{identified}
-use Rattle.mrd_logic.specs.Checks.{Check, _when_, first}
-use Rattle.mrd_writer.specs.declared.answer.Written.{Written}
-use Rattle.mrd_writer.specs.declared.answer.Written
-use Rattle.mrd_writer.specs.Lent.{Lent, lengthsOf, messageOf}
-use Rattle.mrd_writer.specs.Refusals.{sizeOf, lentChecks, Answer, done, refused, unless, judged}
+use Rattle.mrd_format.specs.Parts.{Contents}
+use Rattle.mrd_format.specs.Content.{messageOf}
+use Rattle.mrd_write_checks.specs.WriteChecks.{lengthsOf, sizeOf, contentsChecks, unless, judged}
+use Rattle.mrd_writer.specs.declared.answer.WriteAnswer.{WriteAnswer}
+use Rattle.mrd_writer.specs.declared.answer.WriteAnswer
 
 -- what each case of the enum says: the position after the message, or 'the number alone'
-abbrev pub told : Written → Answer
-told (Written.To p) = done p
-told (Written.Refused n) = refused n
+abbrev pub writeMeaning : WriteAnswer → Answer ℕ
+writeMeaning (WriteAnswer.To p) = answered p
+writeMeaning (WriteAnswer.Refused n) = number n
 
--- what is lent, judged
-abbrev pub judgedLent : Kind → Lent → Answer
-judgedLent k l = judged k (l .header) (l .name) (lengthsOf l)
+-- what is given, judged
+abbrev pub judgedContents : Kind → Contents → Answer ℕ
+judgedContents k c = judged k (c .header) (c .parts .name) (lengthsOf c)
 
--- every check of a message of kind k: the last is 14, 'output too short, or start position past its end'. As no message is empty, the one test
--- says both
-unfoldable pub writeChecks : Kind → Lent → ℕ → List ℕ → List Check
-writeChecks k l at o =
-    lentChecks k (l .header) (l .name) (lengthsOf l) ++ ((14 when ltb (length o) (at + sizeOf k (l .header) (lengthsOf l))) ∷ [])
+-- the size of its message
+abbrev pub sizeGiven : Kind → Contents → ℕ
+sizeGiven k c = sizeOf k (c .header) (lengthsOf c)
 
-unfoldable pub answerAs : Identified → Lent → ℕ → List ℕ → Answer
-answerAs Unknown l at o = refused 2
-answerAs (Known k) l at o = unless (first (writeChecks k l at o)) (at + sizeOf k (l .header) (lengthsOf l))
+-- its checks, 3 to 10 and 18
+abbrev pub givenChecks : Kind → Contents → List Check
+givenChecks k c = contentsChecks k (c .header) (c .parts .name) (lengthsOf c)
+
+-- and the last check, 14, 'output too short, or start position past its end'. As no message is empty, the one test says both
+unfoldable pub writeChecks : Kind → Contents → ℕ → List ℕ → List Check
+writeChecks k c at o = givenChecks k c ++ ((14 when ltb (length o) (at + sizeGiven k c)) ∷ [])
+
+unfoldable pub answerAs : Identified → Contents → ℕ → List ℕ → Answer ℕ
+answerAs Unknown c at o = number 2
+answerAs (Known k) c at o = unless (first (writeChecks k c at o)) (at + sizeGiven k c)
 
 -- the answer
-unfoldable pub writeAnswer : ℕ → Lent → ℕ → List ℕ → Answer
-writeAnswer id l at o = answerAs (identified id) l at o
+unfoldable pub writeAnswer : ℕ → Contents → ℕ → List ℕ → Answer ℕ
+writeAnswer id c at o = answerAs (identified id) c at o
 
 -- 'the bytes before and after the message keep their content', and 'no refusal writes any byte'
-abbrev pub outputBy : Answer → List ℕ → ℕ → List ℕ → List ℕ
-outputBy (done p) m at o = stored at m o
-outputBy (refused n) m at o = o
+abbrev pub outputBy : Answer ℕ → List ℕ → ℕ → List ℕ → List ℕ
+outputBy (answered p) m at o = stored at m o
+outputBy (stream f r b) m at o = o
+outputBy (number n) m at o = o
 
-unfoldable pub outputAs : Identified → Lent → ℕ → List ℕ → List ℕ
-outputAs Unknown l at o = o
-outputAs (Known k) l at o = outputBy (answerAs (Known k) l at o) (messageOf k l) at o
+unfoldable pub outputAs : Identified → Contents → ℕ → List ℕ → List ℕ
+outputAs Unknown c at o = o
+outputAs (Known k) c at o = outputBy (answerAs (Known k) c at o) (messageOf k c) at o
 
 -- the output as it is left
-unfoldable pub writeOutput : ℕ → Lent → ℕ → List ℕ → List ℕ
-writeOutput id l at o = outputAs (identified id) l at o
+unfoldable pub writeOutput : ℕ → Contents → ℕ → List ℕ → List ℕ
+writeOutput id c at o = outputAs (identified id) c at o
 
--- a call that answers r and leaves out, where id, l and the position were lent with the output o
-abbrev pub Writes : Written → List ℕ → ℕ → Lent → ℕ → List ℕ → Type 0
-Writes r out id l at o = (told r ≡ writeAnswer id l at o) × (out ≡ writeOutput id l at o)
+-- a call that answers r and leaves out, where the id, c, the position and the output o were given
+abbrev pub Writes : WriteAnswer → List ℕ → ℕ → Contents → ℕ → List ℕ → Type 0
+Writes r out id c at o = (writeMeaning r ≡ writeAnswer id c at o) × (out ≡ writeOutput id c at o)
 
 -- the same for a kind that is known
-abbrev pub Stores : Written → List ℕ → Kind → Lent → ℕ → List ℕ → Type 0
-Stores r out k l at o = (told r ≡ answerAs (Known k) l at o) × (out ≡ outputAs (Known k) l at o)
+abbrev pub Stores : WriteAnswer → List ℕ → Kind → Contents → ℕ → List ℕ → Type 0
+Stores r out k c at o = (writeMeaning r ≡ answerAs (Known k) c at o) × (out ≡ outputAs (Known k) c at o)

@@ -1,92 +1,87 @@
 -- The writer's answer and output, one law for each way that it ends.
 -- Assumes nothing.
-use Prim.Native.Nat.{ℕ, zero, suc, _+_, _≤_, _<_}
+use Prim.Native.Nat.{ℕ, _+_, _≤_, _<_}
 use native.Mathlib.Omega.{arith}
-use mathlib.Core.Path.{_≡_, refl, sym, ap, _∙_}
+use mathlib.Core.Path.{_≡_, sym, ap, _∙_}
 use mathlib.Core.List.{List, [], _∷_, _++_}
 use lib.Dec.{ltb}
 use lib.ListN.{length, drop}
 use borrow.Author.Tests.{lt-ltb, le-ltb}
 use Rattle.mrd_numbers.specs.Little.{toBytes}
 use Rattle.mrd_numbers.specs.Stored.{stored, front, lentFrom, returned, stored-next, stored-lent}
+use Rattle.mrd_logic.specs.Answer.{Answer, answered, number}
+use Rattle.mrd_logic.specs.Checks.{Check, _when_, first}
 use Rattle.mrd_format.specs.declared.kind.Kind.{Kind}
 use Rattle.mrd_format.specs.declared.kind.Identified.the-variants.{Known, Unknown}
 use Rattle.mrd_format.specs.Kinds.{idOf, identified}
-use Rattle.mrd_logic.specs.Checks.{Check, _when_, first}
-use Rattle.mrd_logic.specs.CheckLaws.{first-skip, first-passed, first-stops}
-use Rattle.mrd_writer.specs.Lent.{Lent, lengthsOf, contentOf, messageOf}
-use Rattle.mrd_writer.specs.Refusals.{sizeOf, lentChecks, Answer, done, refused, unless, judged}
-use Rattle.mrd_writer.specs.JudgeLaws.{done-not-refused}
-use Rattle.mrd_writer.specs.Sound.{lent-numbered, passed-sound, judged-done, content-length, sound-ready}
-use Rattle.mrd_writer.specs.PutLaws.{Ready}
-use Rattle.mrd_writer.specs.Write.{judgedLent, writeChecks, answerAs, outputAs, writeAnswer, writeOutput}
+use Rattle.mrd_format.specs.Parts.{Contents}
+use Rattle.mrd_format.specs.Content.{contentOf, messageOf}
+use Rattle.mrd_write_checks.specs.WriteChecks.{lengthsOf, unless, judged}
+use Rattle.mrd_write_checks.specs.JudgeLaws.{unless-number, unless-passed, contents-numbered}
+use Rattle.mrd_put.specs.PutLaws.{Ready}
+use Rattle.mrd_writer.specs.Write.{judgedContents, sizeGiven, givenChecks, writeChecks, answerAs, outputAs, writeAnswer, writeOutput}
+use Rattle.mrd_writer.specs.Sound.{passed-sound, judged-answered, content-length, sound-ready}
 
 -- both halves of what a function ensures: its answer, and the output as it leaves it
-abbrev pub Ends : Kind → Lent → ℕ → List ℕ → Answer → List ℕ → Type 0
-Ends k l at o a o′ = (a ≡ answerAs (Known k) l at o) × (o′ ≡ outputAs (Known k) l at o)
+abbrev pub Ends : Kind → Contents → ℕ → List ℕ → Answer ℕ → List ℕ → Type 0
+Ends k c at o a o′ = (a ≡ answerAs (Known k) c at o) × (o′ ≡ outputAs (Known k) c at o)
 
--- check 14 of a message of size z
-abbrev roomCheck : ℕ → ℕ → List ℕ → List Check
-roomCheck z at o = (14 when ltb (length o) (at + z)) ∷ []
+module _ (k : Kind) (c : Contents) (at : ℕ) (o : List ℕ) where
+  -- check 14 of a message of size z
+  abbrev roomCheck : ℕ → List Check
+  roomCheck z = (14 when ltb (length o) (at + z)) ∷ []
 
-module _ (k : Kind) (l : Lent) (at : ℕ) (o : List ℕ) where
   -- the output by the answer
-  ends-refused : {x : ℕ} → answerAs (Known k) l at o ≡ refused x → Ends k l at o (refused x) o
+  ends-refused : {x : ℕ} → answerAs (Known k) c at o ≡ number x → Ends k c at o (number x) o
   unfolding outputAs
   ends-refused e = (sym e, rw e)
 
-  -- what is lent is refused
-  pub refused-lent : {x : ℕ} → judgedLent k l ≡ refused x → Ends k l at o (refused x) o
+  -- what is given is refused
+  pub refused-contents : {x : ℕ} → judgedContents k c ≡ number x → Ends k c at o (number x) o
   unfolding judged answerAs writeChecks
-  refused-lent {x} e = by-first (first own) refl e
-    where
-      own : List Check
-      own = lentChecks k (l .header) (l .name) (lengthsOf l)
-
-      by-first : (f : ℕ) → first own ≡ f → unless f (sizeOf k (l .header) (lengthsOf l)) ≡ refused x → Ends k l at o (refused x) o
-      by-first zero p e = absurd (done-not-refused e)
-      by-first (suc f) p e = ends-refused (rw (first-stops own (roomCheck (sizeOf k (l .header) (lengthsOf l)) at o) p) e)
+  refused-contents e =
+      ends-refused
+      (unless-number (givenChecks k c) (roomCheck (sizeGiven k c)) (contents-numbered k (c .header) (c .parts .name) (lengthsOf c))
+      (sizeGiven k c) (at + sizeGiven k c) e)
 
   -- it passes, and makes a message of size z: check 14 decides
-  module _ {z : ℕ} (e : judgedLent k l ≡ done z) where
-    last : answerAs (Known k) l at o ≡ unless (first (roomCheck z at o)) (at + z)
+  module _ {z : ℕ} (e : judgedContents k c ≡ answered z) where
+    last : answerAs (Known k) c at o ≡ unless (first (roomCheck z)) (at + z)
     unfolding answerAs writeChecks
     last =
-        let d = judged-done k l e in
-        let n = lengthsOf l in
-        let sound = first-passed (lentChecks k (l .header) (l .name) n) (lent-numbered k (l .header) (l .name) n) (d .0) in
-        rw (first-skip (lentChecks k (l .header) (l .name) n) (roomCheck (sizeOf k (l .header) n) at o) sound, d .1)
+        let d = judged-answered k c e in
+        rw (unless-passed (givenChecks k c) (roomCheck (sizeGiven k c)) (contents-numbered k (c .header) (c .parts .name) (lengthsOf c)) (d .0), d .1)
 
-    pub no-room : length o < at + z → Ends k l at o (refused 14) o
+    pub no-room : length o < at + z → Ends k c at o (number 14) o
     no-room h = ends-refused (last ∙ rw (lt-ltb _ _ h))
 
     -- the position, the id and what follows it lie in the output
-    pub within : at + z ≤ length o → Ready k l × (at + (2 + length (contentOf k l)) ≤ length o)
+    pub within : at + z ≤ length o → Ready k c × (at + (2 + length (contentOf k c)) ≤ length o)
     within h =
-        let d = judged-done k l e in
-        let s = passed-sound k l (d .0) in
-        (sound-ready k l s, rw (content-length k l s, d .1) h)
+        let d = judged-answered k c e in
+        let s = passed-sound k c (d .0) in
+        (sound-ready k c s, rw (content-length k c s, d .1) h)
 
     -- the id put into the part from the position on, and the content into the part after it
     pub room : at + z ≤ length o → (id : ℕ) (x y : List ℕ) → id ≡ idOf k → x ≡ toBytes 2 id ++ drop 2 (lentFrom at o) →
-        y ≡ front (contentOf k l) (lentFrom (at + 2) (returned at o x)) → Ends k l at o (done (at + z)) (returned (at + 2) (returned at o x) y)
+        y ≡ front (contentOf k c) (lentFrom (at + 2) (returned at o x)) → Ends k c at o (answered (at + z)) (returned (at + 2) (returned at o x) y)
     unfolding outputAs messageOf
     room h id x y i p q =
-        let a : answerAs (Known k) l at o ≡ done (at + z) = last ∙ rw (le-ltb _ _ h) in
+        let a : answerAs (Known k) c at o ≡ answered (at + z) = last ∙ rw (le-ltb _ _ h) in
         let first : returned at o x ≡ stored at (toBytes 2 id) o = stored-lent at o (toBytes 2 id) x p in
-        let second : returned (at + 2) (returned at o x) y ≡ stored (at + 2) (contentOf k l) (returned at o x) =
-        stored-lent (at + 2) (returned at o x) (contentOf k l) y q in
-        let whole : stored (at + 2) (contentOf k l) (stored at (toBytes 2 id) o) ≡ stored at (toBytes 2 id ++ contentOf k l) o =
-        stored-next at (toBytes 2 id) (contentOf k l) o (omega (arith, within h .1)) in
-        (sym a, rw (a, ← i) (second ∙ ap (stored (at + 2) (contentOf k l)) first ∙ whole))
+        let second : returned (at + 2) (returned at o x) y ≡ stored (at + 2) (contentOf k c) (returned at o x) =
+        stored-lent (at + 2) (returned at o x) (contentOf k c) y q in
+        let whole : stored (at + 2) (contentOf k c) (stored at (toBytes 2 id) o) ≡ stored at (toBytes 2 id ++ contentOf k c) o =
+        stored-next at (toBytes 2 id) (contentOf k c) o (omega (arith, within h .1)) in
+        (sym a, rw (a, ← i) (second ∙ ap (stored (at + 2) (contentOf k c)) first ∙ whole))
 
 -- a kind that is known, and an id that is not in the table
-pub write-known : (id : ℕ) (k : Kind) (l : Lent) (at : ℕ) (o o′ : List ℕ) (a : Answer) → identified id ≡ Known k → Ends k l at o a o′ →
-    (a ≡ writeAnswer id l at o) × (o′ ≡ writeOutput id l at o)
+pub write-known : (id : ℕ) (k : Kind) (c : Contents) (at : ℕ) (o o′ : List ℕ) (a : Answer ℕ) → identified id ≡ Known k → Ends k c at o a o′ →
+    (a ≡ writeAnswer id c at o) × (o′ ≡ writeOutput id c at o)
 unfolding writeAnswer writeOutput
-write-known id k l at o o′ a e p = (rw e (p .0), rw e (p .1))
+write-known id k c at o o′ a e p = (rw e (p .0), rw e (p .1))
 
-pub write-unknown : (id : ℕ) (l : Lent) (at : ℕ) (o : List ℕ) → identified id ≡ Unknown →
-    (refused 2 ≡ writeAnswer id l at o) × (o ≡ writeOutput id l at o)
+pub write-unknown : (id : ℕ) (c : Contents) (at : ℕ) (o : List ℕ) → identified id ≡ Unknown →
+    (number 2 ≡ writeAnswer id c at o) × (o ≡ writeOutput id c at o)
 unfolding writeAnswer writeOutput answerAs outputAs
-write-unknown id l at o e = (rw e, rw e)
+write-unknown id c at o e = (rw e, rw e)

@@ -1,22 +1,23 @@
-// The writer: what is lent is judged, then the output's room, and then the message is put into it.
+// The writer: what is given is judged, then the output's room, and then the message is put into it.
 ghost use mathlib.Core.Path.{_≡_};
-ghost use Rattle.mrd_writer.specs.Lent.{lent};
 ghost use lib.ListN.{length};
-ghost use Rattle.mrd_writer.specs.Refusals.{done, partLengths};
-ghost use Rattle.mrd_writer.specs.Write.{judgedLent, Writes, Stores};
-use crate::answer::Judged;
-use crate::answer::Written;
-use crate::judge::judge;
-use crate::lengths::Lengths;
-use crate::put::put_content;
+ghost use Rattle.mrd_logic.specs.Answer.{answered};
+ghost use Rattle.mrd_format.specs.Parts.{contents};
+ghost use Rattle.mrd_write_checks.specs.WriteChecks.{partLengths};
+ghost use Rattle.mrd_writer.specs.Write.{judgedContents, Writes, Stores};
+use crate::answer::WriteAnswer;
 use mrd_format::Identified;
 use mrd_format::Kind;
 use mrd_format::refusal;
 use mrd_numbers::put_u16;
+use mrd_put::put_content;
+use mrd_write_checks::ContentsJudged;
+use mrd_write_checks::Lengths;
+use mrd_write_checks::judge;
 
 // Puts one message into out from `position` on, and gives the position after it: the id, the fixed
 // header's bytes (none for a name, a text or a close), and the parts, of which those that the kind
-// lacks are lent empty. The bytes before and after the message keep their content, and a refusal
+// lacks are empty. The bytes before and after the message keep their content, and a refusal
 // changes none.
 pub fn write(
     id: u16,
@@ -30,21 +31,21 @@ pub fn write(
     waveform: &[u8],
     out: &mut [u8],
     position: usize,
-) -> Written
+) -> WriteAnswer
     ensures { λ r. ⌜ Writes r (now (out .exit)) id
-        (lent (now (header .entry)) (now (name .entry)) (now (text .entry)) (now (trajectory .entry)) (now (samples .entry))
+        (contents (now (header .entry)) (now (name .entry)) (now (text .entry)) (now (trajectory .entry)) (now (samples .entry))
         (now (attributes .entry)) (now (pixels .entry)) (now (waveform .entry)))
         position (now (out .entry)) ⌝ }
 {
     let identified = Kind::of_id(id);
     let Identified::Known(kind) = identified else {
-        return Written::Refused(refusal::UNKNOWN_ID);
+        return WriteAnswer::Refused(refusal::UNKNOWN_ID);
     };
-    let mut lent = body_lengths(text, trajectory, samples, attributes, pixels, waveform);
-    lent.name = name.len();
-    let judged = judge(kind, header, name, lent);
+    let mut given = body_lengths(text, trajectory, samples, attributes, pixels, waveform);
+    given.name = name.len();
+    let judged = judge(kind, header, name, given);
     match judged {
-        Judged::Size(size) => store(
+        ContentsJudged::Size(size) => store(
             kind,
             header,
             name,
@@ -58,11 +59,11 @@ pub fn write(
             position,
             size,
         ),
-        Judged::Refused(number) => Written::Refused(number),
+        ContentsJudged::Refused(number) => WriteAnswer::Refused(number),
     }
 }
 
-// The same for a message of this kind and size, of which all that is lent passes every check.
+// The same for a message of this kind and size, of which all that is given passes every check.
 fn store(
     kind: Kind,
     header: &[u8],
@@ -76,20 +77,20 @@ fn store(
     out: &mut [u8],
     position: usize,
     size: usize,
-) -> Written
-    requires { ⌜ judgedLent kind
-        (lent (now header) (now name) (now text) (now trajectory) (now samples) (now attributes) (now pixels) (now waveform))
-        ≡ done size ⌝ }
+) -> WriteAnswer
+    requires { ⌜ judgedContents kind
+        (contents (now header) (now name) (now text) (now trajectory) (now samples) (now attributes) (now pixels) (now waveform))
+        ≡ answered size ⌝ }
     ensures { λ r. ⌜ Stores r (now (out .exit)) kind
-        (lent (now (header .entry)) (now (name .entry)) (now (text .entry)) (now (trajectory .entry)) (now (samples .entry))
+        (contents (now (header .entry)) (now (name .entry)) (now (text .entry)) (now (trajectory .entry)) (now (samples .entry))
         (now (attributes .entry)) (now (pixels .entry)) (now (waveform .entry)))
         position (now (out .entry)) ⌝ }
 {
     if out.len() < position {
-        return Written::Refused(refusal::OUTPUT_SHORT);
+        return WriteAnswer::Refused(refusal::OUTPUT_SHORT);
     }
     if out.len() - position < size {
-        return Written::Refused(refusal::OUTPUT_SHORT);
+        return WriteAnswer::Refused(refusal::OUTPUT_SHORT);
     }
     put_u16(&mut out[position..], kind.id());
     let content = position + 2;
@@ -106,7 +107,7 @@ fn store(
         &mut out[content..],
     );
     let end = position + size;
-    Written::To(end)
+    WriteAnswer::To(end)
 }
 
 // The lengths of the six parts that may follow a fixed part.

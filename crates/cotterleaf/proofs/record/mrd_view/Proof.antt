@@ -2,7 +2,7 @@
 -- Assumes nothing.
 use mathlib.Core.Path.{ap, _∙_}
 use denote.Ref.{now}
-use Rattle.mrd_record.specs.Views.{viewOf}
+use Rattle.mrd_views.specs.Views.{viewOf}
 use Rattle.c_record.specs.RecordStructs.{cView}
 use borrow.Author.Needs.{needs}
 use Rattle.cotterleaf.proofs.record.mrd_view.Statement.{statement}

@@ -29,8 +29,8 @@ enum-known-question-3 c = search needs
 field-requires : tie.Need-field-requires
 field-requires c κs = search needs
 
-field-reply-requires : tie.Need-field-reply-requires
-field-reply-requires c κs = c .field .ensures .apart
+valued-requires : tie.Need-valued-requires
+valued-requires c κs = c .field .ensures .apart
 
 enum-known-question-4 : tie.Need-enum-known-question-4
 enum-known-question-4 c = search needs
@@ -51,7 +51,7 @@ returns-2 c = rw (c .before .before .before .question2 .given .1) (rw (c .before
 
 returns-3 : tie.Need-returns-3
 unfolding askOf
-returns-3 c = rw (c .before .before .before .question3 .given .1) (rw (c .before .field .ensures .says) at (c .field-reply .ensures))
+returns-3 c = rw (c .before .before .before .question3 .given .1) (rw (c .before .field .ensures .says) at (c .valued .ensures))
 
 returns-4 : tie.Need-returns-4
 unfolding askOf
@@ -69,7 +69,7 @@ ask-spec =
     viewed-requires
     enum-known-question-3
     field-requires
-    field-reply-requires
+    valued-requires
     enum-known-question-4
     find-requires
     found-requires

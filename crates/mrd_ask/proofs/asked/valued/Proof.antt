@@ -1,50 +1,34 @@
--- `mrd_ask::asked::valued` meets its contract: it goes by the value's case.
+-- `mrd_ask::asked::valued` meets its contract: it goes by the answer's case.
 -- Assumes nothing.
 use borrow.Author.Needs.{needs}
 use Rattle.mrd_ask.proofs.asked.valued.Statement.{statement}
 use Rattle.mrd_ask.proofs.asked.valued.Tie as tie
 
-enum-told : tie.Need-enum-told
-enum-told c = search needs
+enum-known-answer : tie.Need-enum-known-answer
+enum-known-answer c = search needs
 
-enum-told-2 : tie.Need-enum-told-2
-enum-told-2 c = search needs
+enum-known-answer-2 : tie.Need-enum-known-answer-2
+enum-known-answer-2 c = search needs
 
-enum-told-3 : tie.Need-enum-told-3
-enum-told-3 c = search needs
-
-enum-told-4 : tie.Need-enum-told-4
-enum-told-4 c = search needs
-
-enum-told-5 : tie.Need-enum-told-5
-enum-told-5 c = search needs
+enum-known-answer-3 : tie.Need-enum-known-answer-3
+enum-known-answer-3 c = search needs
 
 returns : tie.Need-returns
-returns c = search needs
+returns c = record { says = rw (c .before .answer .given .1); apart = rw (c .before .answer .given .1) at (c .before .before .before .pre) }
 
 returns-2 : tie.Need-returns-2
-returns-2 c = record { says = rw (c .enum-told2 .given .1); apart = c .before .before .pre }
+returns-2 c = record { says = rw (c .before .answer2 .given .1); apart = tt }
 
 returns-3 : tie.Need-returns-3
-returns-3 c = record { says = rw (c .enum-told3 .given .1); apart = c .before .before .pre }
-
-returns-4 : tie.Need-returns-4
-returns-4 c = record { says = rw (c .enum-told4 .given .1); apart = c .before .before .pre }
-
-returns-5 : tie.Need-returns-5
-returns-5 c = record { says = rw (c .enum-told5 .given .1); apart = c .before .before .pre }
+returns-3 c = record { says = rw (c .before .answer3 .given .1); apart = tt }
 
 pub valued-spec : {M : Type 1} → statement M
 valued-spec =
     tie.close
     (tie.spec
-    enum-told
-    enum-told-2
-    enum-told-3
-    enum-told-4
-    enum-told-5
+    enum-known-answer
+    enum-known-answer-2
+    enum-known-answer-3
     returns
     returns-2
-    returns-3
-    returns-4
-    returns-5)
+    returns-3)

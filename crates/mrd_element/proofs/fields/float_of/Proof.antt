@@ -1,6 +1,6 @@
 -- `mrd_element::fields::float_of` meets its contract: the test tells a NaN's pattern, and any other pattern is read back from its float.
 -- Assumes nothing.
-use Rattle.mrd_element.specs.Floats.{nan-told, no-nan, float-told}
+use Rattle.mrd_element.specs.FloatLaws.{nan-told, no-nan, float-told}
 use Rattle.mrd_element.proofs.fields.float_of.Statement.{statement}
 use Rattle.mrd_element.proofs.fields.float_of.Tie as tie
 

@@ -3,25 +3,28 @@
 -- Assumes nothing.
 use Prim.Native.Nat.{_-_, _<_}
 use native.Mathlib.Omega.{arith}
-use mathlib.Core.Path.{sym, ap, _∙_}
+use mathlib.Core.Path.{_≡_, sym, ap, _∙_}
+use mathlib.Core.Bool.{true}
 use borrow.Author.Needs.{needs}
 use borrow.Author.Tests.{not-true, not-false}
 use denote.Ref.{now}
 use lib.ListN.{length}
+use Rattle.mrd_format.specs.Acquisition.{countersOf}
+use Rattle.mrd_format.specs.IdentityLaws.{counters-length}
+use Rattle.mrd_format.specs.Shapes.{kindOf}
 use Rattle.mrd_stream.specs.StepLaws.{on-end}
 use Rattle.mrd_stream.specs.Told.{toldStep}
 use Rattle.mrd_find.specs.Alike.{Alike, start, step, differs, all-same}
-use Rattle.mrd_find.specs.CounterLaws.{counters-length, counters-at}
-use Rattle.mrd_find.specs.Find.{countersOf}
-use Rattle.mrd_find.specs.FindLaws.{findIn, Finding, finding-start, turned, nearer, no-candidate, header-fits, no-match, match-found}
+use Rattle.mrd_find.specs.Find.{candidate}
+use Rattle.mrd_find.specs.FindLaws.{findIn, Finding, finding-start, Turn, turned, nearer, no-candidate, header-fits, fixed-there, Read, header-long, no-match, match-found}
 use Rattle.mrd_find.proofs.search.find.Statement.{statement}
 use Rattle.mrd_find.proofs.search.find.Tie as tie
 
 abbrev Inv-loop : tie.InvT-loop
-Inv-loop s n counters asked next place h i₀ i = Alike 17 (countersOf h) asked i
+Inv-loop s n counters asked next place at h i₀ i = Alike 17 (countersOf h) asked i
 
 abbrev μ-loop : tie.MeasureT-loop
-μ-loop s n counters asked next place h i₀ i = 17 - i
+μ-loop s n counters asked next place at h i₀ i = 17 - i
 
 abbrev Inv-records : tie.InvT-records
 Inv-records s n counters asked c₀ c = Finding n counters c s
@@ -46,40 +49,60 @@ enum-known-step c = search needs
 candidate-requires : tie.Need-candidate-requires Inv-loop μ-loop Inv-records μ-records
 candidate-requires c κs = search needs
 
+-- the record that the step yields
+turn-at : (c : tie.After-known-told Inv-loop μ-loop Inv-records μ-records) →
+    let a = c .before .before .before .before .before .before .before .before .args in
+    let given = c .before .step .given .0 in
+    Turn (a .n) (now (a .counters)) (c .before .before .before .before .records .c) (now (a .s)) (given .0) (given .1 .0)
+turn-at c =
+    let a = c .before .before .before .before .before .before .before .before .args in
+    turned (a .n) (now (a .counters)) (c .before .before .before .before .records .inv) (c .before .before .before .next .ensures) (c .before .step .given .1)
+
 records-less : tie.Need-records-less Inv-loop μ-loop Inv-records μ-records
-records-less c =
-    let s = c .before .before .before in
-    let a = s .before .before .before .before .before .before .before .args in
-    let turn = turned (a .n) (now (a .counters)) (s .before .before .before .records .inv) (s .before .before .next .ensures) (s .step .given .1) in
-    nearer turn
+records-less c = nearer (turn-at (c .before .before))
 
 records-again : tie.Need-records-again Inv-loop μ-loop Inv-records μ-records
-records-again c =
-    let s = c .before .before .before in
-    let a = s .before .before .before .before .before .before .before .args in
-    let turn = turned (a .n) (now (a .counters)) (s .before .before .before .records .inv) (s .before .before .next .ensures) (s .step .given .1) in
-    no-candidate turn (sym (c .before .candidate .ensures) ∙ not-true _ (c .if1 .taken))
+records-again c = no-candidate (turn-at (c .before .before)) (sym (c .before .candidate .ensures) ∙ not-true _ (c .if1 .taken))
 
-header-requires : tie.Need-header-requires Inv-loop μ-loop Inv-records μ-records
-header-requires c κs =
-    let s = c .before .before .before .before in
-    let a = s .before .before .before .before .before .before .before .args in
-    let turn = turned (a .n) (now (a .counters)) (s .before .before .before .records .inv) (s .before .before .next .ensures) (s .step .given .1) in
-    header-fits turn (sym (c .before .before .candidate .ensures) ∙ not-false _ (c .before .if1 .left))
+-- it is a candidate
+candidate-at : (c : tie.After-place Inv-loop μ-loop Inv-records μ-records) →
+    let told = c .before .before .before in
+    let here = told .before .step .given .0 .0 in
+    candidate (told .before .before .before .before .before .before .before .before .args .n) (here .place .number) (kindOf (here .shape)) ≡ true
+candidate-at c = sym (c .before .before .candidate .ensures) ∙ not-false _ (c .before .if1 .left)
+
+sub-fixed-part : tie.Need-sub-fixed-part Inv-loop μ-loop Inv-records μ-records
+sub-fixed-part c = omega (arith, header-fits (turn-at (c .before .before .before)) (candidate-at c))
+
+part-fixed-part-start : tie.Need-part-fixed-part-start Inv-loop μ-loop Inv-records μ-records
+part-fixed-part-start c = omega (arith, header-fits (turn-at (c .before .before .before)) (candidate-at c))
+
+part-fixed-part-end : tie.Need-part-fixed-part-end Inv-loop μ-loop Inv-records μ-records
+part-fixed-part-end c = search needs
+
+fixed-part-requires : tie.Need-fixed-part-requires Inv-loop μ-loop Inv-records μ-records
+fixed-part-requires c κs = fixed-there (turn-at (c .before .before .before .before)) (candidate-at (c .before))
+
+-- and its header is read
+read-at : (c : tie.After-fixed-part Inv-loop μ-loop Inv-records μ-records) →
+    let told = c .before .before .before .before .before in
+    let a = told .before .before .before .before .before .before .before .before .args in
+    let given = told .before .step .given .0 in
+    Read (a .n) (now (a .counters)) (told .before .before .before .before .records .c) (now (a .s)) (given .0) (given .1 .0) (now (c .fixed-part .result))
+read-at c =
+    record {
+      turn = turn-at (c .before .before .before .before .before);
+      one = candidate-at (c .before .before);
+      header = c .fixed-part .ensures;
+    }
 
 loop-holds : tie.Need-loop-holds Inv-loop μ-loop Inv-records μ-records
 loop-holds c =
-    let asked = c .before .before .before .before .before .before .before .before .before .before .asked in
+    let asked = c .before .before .before .before .before .before .before .before .before .before .before .asked in
     start (counters-length _) (asked .given .0)
 
-mul-read-u16 : tie.Need-mul-read-u16 Inv-loop μ-loop Inv-records μ-records
-mul-read-u16 c = omega arith
-
-add-read-u16 : tie.Need-add-read-u16 Inv-loop μ-loop Inv-records μ-records
-add-read-u16 c = omega arith
-
-read-u16-requires : tie.Need-read-u16-requires Inv-loop μ-loop Inv-records μ-records
-read-u16-requires c κs = omega (arith, c .before .before .header .ensures .1)
+counter-requires : tie.Need-counter-requires Inv-loop μ-loop Inv-records μ-records
+counter-requires c κs = (header-long (read-at (c .before .before)), omega (arith, c .loop-test .taken))
 
 mul-if2 : tie.Need-mul-if2 Inv-loop μ-loop Inv-records μ-records
 mul-if2 c = omega arith
@@ -88,22 +111,14 @@ shared-slice-read-if2 : tie.Need-shared-slice-read-if2 Inv-loop μ-loop Inv-reco
 shared-slice-read-if2 c = omega arith
 
 records-less-2 : tie.Need-records-less-2 Inv-loop μ-loop Inv-records μ-records
-records-less-2 c =
-    let s = c .before .before .before .before .before .before .before .before .before .before in
-    let a = s .before .before .before .before .before .before .before .args in
-    let turn = turned (a .n) (now (a .counters)) (s .before .before .before .records .inv) (s .before .before .next .ensures) (s .step .given .1) in
-    nearer turn
+records-less-2 c = nearer (read-at (c .before .before .before .before .before) .turn)
 
 records-again-2 : tie.Need-records-again-2 Inv-loop μ-loop Inv-records μ-records
 records-again-2 c =
-    let h = c .before .before .before .before .before in
-    let s = h .before .before .before .before .before in
-    let a = s .before .before .before .before .before .before .before .args in
-    let turn = turned (a .n) (now (a .counters)) (s .before .before .before .records .inv) (s .before .before .next .ensures) (s .step .given .1) in
-    let candidate = sym (h .before .before .before .candidate .ensures) ∙ not-false _ (h .before .before .if1 .left) in
-    let test : c .before .before .before .before .loop .i < 17 = omega (arith, c .before .before .before .loop-test .taken) in
-    let read = counters-at _ _ test ∙ sym (c .before .before .read-u16 .ensures) in
-    no-match turn candidate (h .header .ensures .0) (differs (c .before .before .before .before .loop .inv) test (λ e. c .if2 .taken (sym read ∙ e)))
+    let loop = c .before .before .before .before .loop in
+    let test : loop .i < 17 = omega (arith, c .before .before .before .loop-test .taken) in
+    no-match (read-at (c .before .before .before .before .before))
+    (differs (loop .inv) test (λ e. c .if2 .taken (c .before .before .counter .ensures ∙ e)))
 
 add-i : tie.Need-add-i Inv-loop μ-loop Inv-records μ-records
 add-i c = omega arith
@@ -113,9 +128,9 @@ loop-less c = omega arith
 
 loop-again : tie.Need-loop-again Inv-loop μ-loop Inv-records μ-records
 loop-again c =
-    let test : c .before .before .before .before .loop .i < 17 = omega (arith, c .before .before .before .loop-test .taken) in
-    let read = counters-at _ _ test ∙ sym (c .before .before .read-u16 .ensures) in
-    step (c .before .before .before .before .loop .inv) test (read ∙ c .if2 .left)
+    let loop = c .before .before .before .before .loop in
+    let test : loop .i < 17 = omega (arith, c .before .before .before .loop-test .taken) in
+    step (loop .inv) test (sym (c .before .before .counter .ensures) ∙ c .if2 .left)
 
 check-from-requires : tie.Need-check-from-requires Inv-loop μ-loop Inv-records μ-records
 check-from-requires c κs = search needs
@@ -125,13 +140,8 @@ concluded-requires c κs = search needs
 
 returns : tie.Need-returns Inv-loop μ-loop Inv-records μ-records
 returns c =
-    let h = c .before .before .before .before in
-    let s = h .before .before .before .before .before in
-    let a = s .before .before .before .before .before .before .before .args in
-    let turn = turned (a .n) (now (a .counters)) (s .before .before .before .records .inv) (s .before .before .next .ensures) (s .step .given .1) in
-    let candidate = sym (h .before .before .before .candidate .ensures) ∙ not-false _ (h .before .before .if1 .left) in
-    let same = all-same (c .before .before .before .loop .inv) (c .before .before .loop-test .left) in
-    rw (c .before .check-from .ensures) at (c .concluded .ensures) ∙ match-found turn candidate (h .header .ensures .0) same
+    rw (c .before .check-from .ensures) at (c .concluded .ensures) ∙ match-found (read-at (c .before .before .before .before))
+    (all-same (c .before .before .before .loop .inv) (c .before .before .loop-test .left))
 
 enum-known-step-2 : tie.Need-enum-known-step-2 Inv-loop μ-loop Inv-records μ-records
 enum-known-step-2 c = search needs
@@ -161,11 +171,12 @@ find-spec =
     candidate-requires
     records-less
     records-again
-    header-requires
+    sub-fixed-part
+    part-fixed-part-start
+    part-fixed-part-end
+    fixed-part-requires
     loop-holds
-    mul-read-u16
-    add-read-u16
-    read-u16-requires
+    counter-requires
     mul-if2
     shared-slice-read-if2
     records-less-2

@@ -4,7 +4,7 @@ use mathlib.Core.Path.{refl, sym, ap, _∙_}
 use borrow.Author.Needs.{needs}
 use denote.Ref.{now}
 use Rattle.mrd_stream.specs.Told.{toldChecked}
-use Rattle.mrd_index.specs.Columns.{stream-refused}
+use Rattle.mrd_index.specs.ColumnLaws.{stream-refused}
 use Rattle.mrd_index.proofs.columns.fill_columns.Statement.{statement}
 use Rattle.mrd_index.proofs.columns.fill_columns.Tie as tie
 

@@ -6,14 +6,12 @@ use native.Mathlib.Omega.{arith}
 use mathlib.Core.Path.{sym, ap, _∙_}
 use borrow.Author.Needs.{needs}
 use denote.Ref.{now}
-use mathlib.Core.List.{_++_}
-use lib.ListN.{length, drop, length-drop}
-use Rattle.mrd_numbers.specs.Stored.{stored-lent, lent-is, lentFrom}
-use Rattle.mrd_stream.specs.Index.{Entry}
+use lib.ListN.{length}
+use Rattle.mrd_numbers.specs.Stored.{stored}
+use Rattle.mrd_stream.specs.Index.{Entry, entryField}
 use Rattle.mrd_stream.specs.StepLaws.{Passes, step-handed, on-less}
 use Rattle.mrd_stream.specs.Told.{toldRecord, toldStep}
-use Rattle.mrd_index.specs.Entries.{entryAt, passes-within}
-use Rattle.mrd_index.specs.File.{entryField}
+use Rattle.mrd_index.specs.Entries.{passes-within}
 use Rattle.mrd_index.specs.Filling.{inFile, Filling, start, same-size, room, next, finish}
 use Rattle.mrd_index.proofs.file.put_entries.Statement.{statement}
 use Rattle.mrd_index.proofs.file.put_entries.Tie as tie
@@ -40,10 +38,7 @@ passed : (c : tie.After-step Inv-loop μ-loop) →
     let step = c .step .given .0 in
     Passes (c .before .before .before .loop .c) (now (c .before .before .before .before .before .before .before .args .s))
     (toldRecord (step .0)) (step .1 .0)
-passed c =
-    let loop = c .before .before .before .loop in
-    step-handed (loop .c) (now (c .before .before .before .before .before .before .before .args .s))
-    (sym (c .before .before .next .ensures) ∙ ap toldStep (c .step .given .1))
+passed c = step-handed _ _ (sym (c .before .before .next .ensures) ∙ ap toldStep (c .step .given .1))
 
 fits : (c : tie.After-step Inv-loop μ-loop) → 16 + 17 * c .step .given .0 .0 .place .number + 17 ≤ length (c .before .before .before .loop .out)
 fits c = room (c .before .before .before .loop .inv) (passed c)
@@ -51,38 +46,25 @@ fits c = room (c .before .before .before .loop .inv) (passed c)
 entry-of-requires : tie.Need-entry-of-requires Inv-loop μ-loop
 entry-of-requires c κs = passes-within (passed (c .before .before))
 
-mul-at : tie.Need-mul-at Inv-loop μ-loop
-mul-at c = omega (arith, fits (c .before .before .before .before), same-size (c .before .before .before .before .before .before .before .loop .inv))
+mul-put-entry : tie.Need-mul-put-entry Inv-loop μ-loop
+mul-put-entry c = omega (arith, fits (c .before .before .before .before .before), same-size (c .before .before .before .before .before .before .before .before .loop .inv))
 
-add-at : tie.Need-add-at Inv-loop μ-loop
-add-at c = omega (arith, fits (c .before .before .before .before), same-size (c .before .before .before .before .before .before .before .loop .inv))
-
-sub-put-entry : tie.Need-sub-put-entry Inv-loop μ-loop
-sub-put-entry c = omega (arith, fits (c .before .before .before .before))
-
-part-put-entry-start : tie.Need-part-put-entry-start Inv-loop μ-loop
-part-put-entry-start c = omega (arith, fits (c .before .before .before .before))
-
-part-put-entry-end : tie.Need-part-put-entry-end Inv-loop μ-loop
-part-put-entry-end c = omega arith
+add-put-entry : tie.Need-add-put-entry Inv-loop μ-loop
+add-put-entry c = omega (arith, fits (c .before .before .before .before .before), same-size (c .before .before .before .before .before .before .before .before .loop .inv))
 
 put-entry-requires : tie.Need-put-entry-requires Inv-loop μ-loop
-put-entry-requires c κs = rw lent-is (simp length-drop (omega (arith, fits (c .before .before .before .before .before))))
+put-entry-requires c κs = fits (c .before .before .before .before .before)
 
 loop-less : tie.Need-loop-less Inv-loop μ-loop
-loop-less c =
-    let step = c .before .before .before .before .before .before .before .before in
-    on-less (now (step .before .before .before .before .before .before .before .args .s)) (passed step)
+loop-less c = on-less _ (passed (c .before .before .before .before .before .before .before .before))
 
 loop-again : tie.Need-loop-again Inv-loop μ-loop
 loop-again c =
     let step = c .before .before .before .before .before .before .before .before in
-    let s = now (step .before .before .before .before .before .before .before .args .s) in
     let at = 16 + 17 * step .step .given .0 .0 .place .number in
-    let out = step .before .before .before .loop .out in
     next (step .before .before .before .loop .inv) (passed step)
-    (stored-lent at out (entryField (entryAt s (toldRecord (step .step .given .0 .0)))) _ (c .before .before .put-entry .ensures ∙
-    ap (λ (e : Entry). entryField e ++ drop 17 (lentFrom at out)) (c .before .before .before .before .before .entry-of .ensures)))
+    (c .before .before .put-entry .ensures ∙ ap (λ (e : Entry). stored at (entryField e) (step .before .before .before .loop .out))
+    (c .before .before .before .before .before .entry-of .ensures))
 
 enum-told : tie.Need-enum-told Inv-loop μ-loop
 enum-told c = search needs
@@ -104,11 +86,8 @@ put-entries-spec =
     next-requires
     enum-known-step
     entry-of-requires
-    mul-at
-    add-at
-    sub-put-entry
-    part-put-entry-start
-    part-put-entry-end
+    mul-put-entry
+    add-put-entry
     put-entry-requires
     loop-less
     loop-again

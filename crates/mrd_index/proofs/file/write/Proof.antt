@@ -6,25 +6,25 @@ use denote.Ref.{now}
 use lib.ListN.{length}
 use Rattle.mrd_stream.specs.Index.{index}
 use Rattle.mrd_stream.specs.Output.{output-short}
-use Rattle.mrd_index.specs.Counted.{counted}
-use Rattle.mrd_index.specs.FileLaws.{index-long, front-room, all-written}
+use Rattle.mrd_index.specs.Counted.{few}
+use Rattle.mrd_index.specs.FileLaws.{index-long, entries-room, all-written}
 use Rattle.mrd_index.proofs.file.write.Statement.{statement}
 use Rattle.mrd_index.proofs.file.write.Tie as tie
 
 mul-end : tie.Need-mul-end
 mul-end c =
     let start = c .before .before in
-    omega (arith, counted (now (start .args .s)) (start .pre) .few)
+    omega (arith, few (now (start .args .s)) (start .pre))
 
 add-end : tie.Need-add-end
 add-end c =
     let start = c .before .before in
-    omega (arith, counted (now (start .args .s)) (start .pre) .few)
+    omega (arith, few (now (start .args .s)) (start .pre))
 
 add-size : tie.Need-add-size
 add-size c =
     let start = c .before .before in
-    omega (arith, counted (now (start .args .s)) (start .pre) .few)
+    omega (arith, few (now (start .args .s)) (start .pre))
 
 returns : tie.Need-returns
 returns c =
@@ -39,21 +39,12 @@ put-entries-requires : tie.Need-put-entries-requires
 put-entries-requires c κs =
     let test = c .before .before .before .before .before in
     let start = test .before .before .before in
-    front-room (now (start .args .s)) (start .pre) (now (start .args .out)) _ (test .if1 .left) (c .before .before .before .put-front .ensures)
-
-sub-put-end : tie.Need-sub-put-end
-sub-put-end c = search needs
-
-part-put-end-start : tie.Need-part-put-end-start
-part-put-end-start c = search needs
-
-part-put-end-end : tie.Need-part-put-end-end
-part-put-end-end c = search needs
+    entries-room (now (start .args .s)) (start .pre) (now (start .args .out)) _ (test .if1 .left) (c .before .before .before .put-front .ensures)
 
 cast-put-end : tie.Need-cast-put-end
 cast-put-end c =
     let start = c .before .before .before .before .before .before .before .before .before .before .before .before in
-    omega (arith, counted (now (start .args .s)) (start .pre) .few)
+    omega (arith, few (now (start .args .s)) (start .pre))
 
 put-end-requires : tie.Need-put-end-requires
 put-end-requires c κs = search needs
@@ -66,8 +57,7 @@ returns-2 c =
     let test = c .before .before .before .before .before .before .before .before .before .before .before .before in
     let start = test .before .before .before in
     all-written (now (start .args .s)) (start .pre) (now (start .args .out)) _ (test .if1 .left)
-    (c .before .before .before .before .before .before .before .before .before .before .put-front .ensures) _ _
-    (c .before .before .before .before .before .before .put-entries .ensures) (c .before .before .put-end .ensures)
+    (c .before .before .before .before .before .before .before .before .before .before .put-front .ensures) _ _ (c .before .before .before .before .before .before .put-entries .ensures) (c .before .before .put-end .ensures)
 
 pub write-spec : {M : Type 1} → statement M
 write-spec =
@@ -79,9 +69,6 @@ write-spec =
     returns
     put-front-requires
     put-entries-requires
-    sub-put-end
-    part-put-end-start
-    part-put-end-end
     cast-put-end
     put-end-requires
     same-length

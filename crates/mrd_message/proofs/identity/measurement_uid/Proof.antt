@@ -1,97 +1,47 @@
 -- `mrd_message::identity::measurement_uid` meets its contract: the number is read where the kind's header has it, and the other kinds have none.
 -- Assumes nothing.
-use mathlib.Core.Path.{ap, _∙_}
+use Prim.Native.Nat.{_≤_}
+use native.Mathlib.Omega.{arith}
+use mathlib.Core.Path.{_≡_, refl, sym, ap, _∙_}
+use mathlib.Core.List.{[], _∷_}
 use borrow.Author.Needs.{needs}
+use denote.Ref.{now}
+use Rattle.mrd_numbers.specs.Little.{num}
+use Rattle.mrd_format.specs.declared.kind.Kind.{Kind}
 use Rattle.mrd_format.specs.Kinds.{fixedSize}
 use Rattle.mrd_format.specs.Content.{uidOf}
+use Rattle.mrd_format.proofs.Arms.{arm, arm-same}
 use Rattle.mrd_message.proofs.identity.measurement_uid.Statement.{statement}
 use Rattle.mrd_message.proofs.identity.measurement_uid.Tie as tie
+
+read-u32-requires : tie.Need-read-u32-requires
+read-u32-requires c κs =
+    let a = c .before .before .args in
+    let long = arm (λ (k : Kind). 14 ≤ fixedSize k) (5 ∷ 7 ∷ []) (a .kind) (c .match .keys1) (omega arith, (omega arith, tt)) in
+    omega (arith, c .before .before .pre, long)
 
 enum-told : tie.Need-enum-told
 enum-told c = search needs
 
-enum-told-2 : tie.Need-enum-told-2
-enum-told-2 c = search needs
-
-enum-told-3 : tie.Need-enum-told-3
-enum-told-3 c = search needs
-
-enum-told-4 : tie.Need-enum-told-4
-enum-told-4 c = search needs
-
-enum-told-5 : tie.Need-enum-told-5
-enum-told-5 c = search needs
-
-enum-told-6 : tie.Need-enum-told-6
-enum-told-6 c = search needs
-
-read-u32-requires : tie.Need-read-u32-requires
-read-u32-requires c κs = let whole = c .before .before .before .pre ∙ ap fixedSize (c .enum-told6 .given .1) in rw whole (search needs)
-
-enum-told-7 : tie.Need-enum-told-7
-enum-told-7 c = search needs
-
 read-u32-requires-2 : tie.Need-read-u32-requires-2
-read-u32-requires-2 c κs = let whole = c .before .before .before .pre ∙ ap fixedSize (c .enum-told7 .given .1) in rw whole (search needs)
-
-enum-told-8 : tie.Need-enum-told-8
-enum-told-8 c = search needs
-
-read-u32-requires-3 : tie.Need-read-u32-requires-3
-read-u32-requires-3 c κs = let whole = c .before .before .before .pre ∙ ap fixedSize (c .enum-told8 .given .1) in rw whole (search needs)
+read-u32-requires-2 c κs = omega (arith, c .before .before .before .pre, ap fixedSize (c .enum-told .given .1))
 
 returns : tie.Need-returns
 unfolding uidOf
-returns c = rw (c .enum-told .given .1)
+returns c =
+    let a = c .before .before .before .args in
+    c .read-u32 .ensures ∙ sym (arm-same (λ (k : Kind). uidOf k (now (a .h))) (num 4 (now (a .h)) 10) (5 ∷ 7 ∷ []) (a .kind) (c .before .match .keys1) refl)
 
 returns-2 : tie.Need-returns-2
 unfolding uidOf
-returns-2 c = rw (c .enum-told2 .given .1)
+returns-2 c = rw (c .before .enum-told .given .1) (c .read-u322 .ensures)
 
 returns-3 : tie.Need-returns-3
 unfolding uidOf
-returns-3 c = rw (c .enum-told3 .given .1)
-
-returns-4 : tie.Need-returns-4
-unfolding uidOf
-returns-4 c = rw (c .enum-told4 .given .1)
-
-returns-5 : tie.Need-returns-5
-unfolding uidOf
-returns-5 c = rw (c .enum-told5 .given .1)
-
-returns-6 : tie.Need-returns-6
-unfolding uidOf
-returns-6 c = rw (c .before .enum-told6 .given .1) (c .read-u32 .ensures)
-
-returns-7 : tie.Need-returns-7
-unfolding uidOf
-returns-7 c = rw (c .before .enum-told7 .given .1) (c .read-u322 .ensures)
-
-returns-8 : tie.Need-returns-8
-unfolding uidOf
-returns-8 c = rw (c .before .enum-told8 .given .1) (c .read-u323 .ensures)
+returns-3 c =
+    let a = c .before .before .args in
+    sym (arm-same (λ (k : Kind). uidOf k (now (a .h))) 0 (0 ∷ 1 ∷ 2 ∷ 3 ∷ 4 ∷ []) (a .kind) (c .match .keys3) refl)
 
 pub measurement-uid-spec : {M : Type 1} → statement M
 measurement-uid-spec =
-    tie.close
-    (tie.spec
-    enum-told
-    enum-told-2
-    enum-told-3
-    enum-told-4
-    enum-told-5
-    enum-told-6
-    read-u32-requires
-    enum-told-7
-    read-u32-requires-2
-    enum-told-8
-    read-u32-requires-3
-    returns
-    returns-2
-    returns-3
-    returns-4
-    returns-5
-    returns-6
-    returns-7
-    returns-8)
+    tie.close (tie.spec read-u32-requires enum-told read-u32-requires-2 returns returns-2 returns-3)

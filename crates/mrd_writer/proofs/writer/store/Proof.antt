@@ -5,21 +5,21 @@ use native.Mathlib.Omega.{arith}
 use denote.Ref.{now}
 use borrow.Author.Needs.{needs}
 use Rattle.mrd_numbers.specs.Stored.{returned, length-lent}
-use Rattle.mrd_writer.specs.Lent.{Lent, lent}
+use Rattle.mrd_format.specs.Parts.{Contents, contents}
 use Rattle.mrd_writer.specs.WriteLaws.{no-room, within, room}
 use Rattle.mrd_writer.proofs.writer.store.Statement.{statement}
 use Rattle.mrd_writer.proofs.writer.store.Tie as tie
 
--- what is lent, where the function begins
-abbrev lentAt : tie.Start → Lent
-lentAt s =
-    lent (now (s .args .header)) (now (s .args .name)) (now (s .args .text)) (now (s .args .trajectory)) (now (s .args .samples))
+-- what is given, where the function begins
+abbrev given : tie.Start → Contents
+given s =
+    contents (now (s .args .header)) (now (s .args .name)) (now (s .args .text)) (now (s .args .trajectory)) (now (s .args .samples))
     (now (s .args .attributes)) (now (s .args .pixels)) (now (s .args .waveform))
 
 returns : tie.Need-returns
 returns c =
     let start = c .before .before .before .before .before .before .before .before .before .before in
-    no-room (start .args .kind) (lentAt start) (start .args .position) (now (start .args .out)) (start .pre) (omega arith)
+    no-room (start .args .kind) (given start) (start .args .position) (now (start .args .out)) (start .pre) (omega arith)
 
 sub-if2 : tie.Need-sub-if2
 sub-if2 c = search needs
@@ -27,7 +27,7 @@ sub-if2 c = search needs
 returns-2 : tie.Need-returns-2
 returns-2 c =
     let start = c .before .before .before .before .before .before .before .before .before .before .before in
-    no-room (start .args .kind) (lentAt start) (start .args .position) (now (start .args .out)) (start .pre) (omega arith)
+    no-room (start .args .kind) (given start) (start .args .position) (now (start .args .out)) (start .pre) (omega arith)
 
 sub-put-u16 : tie.Need-sub-put-u16
 sub-put-u16 c = search needs
@@ -47,7 +47,7 @@ put-u16-requires c κs =
     omega (
       arith,
       length-lent (start .args .position) (now (start .args .out)),
-      within (start .args .kind) (lentAt start)
+      within (start .args .kind) (given start)
           (start .args .position) (now (start .args .out)) (start .pre) (omega arith) .1,
     )
 
@@ -57,12 +57,12 @@ add-content c = search needs
 sub-put-content : tie.Need-sub-put-content
 sub-put-content c =
     let start = c .before .before .before .before .before .before .before .before .before .before .before .before .before .before .before .before in
-    omega (arith, within (start .args .kind) (lentAt start) (start .args .position) (now (start .args .out)) (start .pre) (omega arith) .1)
+    omega (arith, within (start .args .kind) (given start) (start .args .position) (now (start .args .out)) (start .pre) (omega arith) .1)
 
 part-put-content-start : tie.Need-part-put-content-start
 part-put-content-start c =
     let start = c .before .before .before .before .before .before .before .before .before .before .before .before .before .before .before .before in
-    omega (arith, within (start .args .kind) (lentAt start) (start .args .position) (now (start .args .out)) (start .pre) (omega arith) .1)
+    omega (arith, within (start .args .kind) (given start) (start .args .position) (now (start .args .out)) (start .pre) (omega arith) .1)
 
 part-put-content-end : tie.Need-part-put-content-end
 part-put-content-end c = search needs
@@ -70,7 +70,7 @@ part-put-content-end c = search needs
 put-content-requires : tie.Need-put-content-requires
 put-content-requires c κs =
     let start = c .before .before .before .before .before .before .before .before .before .before .before .before .before .before .before .before .before in
-    let w = within (start .args .kind) (lentAt start) (start .args .position) (now (start .args .out)) (start .pre) (omega arith) in (
+    let w = within (start .args .kind) (given start) (start .args .position) (now (start .args .out)) (start .pre) (omega arith) in (
       w .0,
       omega (
         arith,
@@ -96,7 +96,7 @@ same-length c = search needs
 returns-3 : tie.Need-returns-3
 returns-3 c =
     let start = c .before .before .before .before .before .before .before .before .before .before .before .before .before .before .before .before .before .before .before .before in
-    room (start .args .kind) (lentAt start) (start .args .position) (now (start .args .out)) (start .pre)
+    room (start .args .kind) (given start) (start .args .position) (now (start .args .out)) (start .pre)
     (omega (
       arith,
       c .before .before .before .before .before .before .before .before .before .if2 .left,

@@ -1,18 +1,18 @@
--- `mrd_writer::writer::write` meets its contract: check 2, then what is lent is judged by its lengths, and where it passes the output decides.
+-- `mrd_writer::writer::write` meets its contract: check 2, then what is given is judged by its lengths, and where it passes the output decides.
 -- Assumes nothing.
 use mathlib.Core.Path.{sym, ap, _∙_}
 use denote.Ref.{now}
 use borrow.Author.Needs.{needs}
-use Rattle.mrd_writer.specs.Lent.{Lent, lent}
-use Rattle.mrd_writer.specs.Refusals.{toldJudged}
-use Rattle.mrd_writer.specs.WriteLaws.{refused-lent, write-known, write-unknown}
+use Rattle.mrd_format.specs.Parts.{Contents, contents}
+use Rattle.mrd_write_checks.specs.WriteChecks.{judgedMeaning}
+use Rattle.mrd_writer.specs.WriteLaws.{refused-contents, write-known, write-unknown}
 use Rattle.mrd_writer.proofs.writer.write.Statement.{statement}
 use Rattle.mrd_writer.proofs.writer.write.Tie as tie
 
--- what is lent, where the function begins
-abbrev lentAt : tie.Start → Lent
-lentAt s =
-    lent (now (s .args .header)) (now (s .args .name)) (now (s .args .text)) (now (s .args .trajectory)) (now (s .args .samples))
+-- what is given, where the function begins
+abbrev given : tie.Start → Contents
+given s =
+    contents (now (s .args .header)) (now (s .args .name)) (now (s .args .text)) (now (s .args .trajectory)) (now (s .args .samples))
     (now (s .args .attributes)) (now (s .args .pixels)) (now (s .args .waveform))
 
 of-id-requires : tie.Need-of-id-requires
@@ -27,7 +27,7 @@ enum-told c = search needs
 returns : tie.Need-returns
 returns c =
     let start = c .before .before .before .before .before .before .before .before .before .before .before .before in
-    write-unknown (start .args .id) (lentAt start) (start .args .position) (now (start .args .out))
+    write-unknown (start .args .id) (given start) (start .args .position) (now (start .args .out))
     (sym (c .before .before .of-id .ensures) ∙ c .enum-told .given .1)
 
 body-lengths-requires : tie.Need-body-lengths-requires
@@ -43,7 +43,7 @@ store-requires : tie.Need-store-requires
 store-requires c κs =
     sym
     (rw (c .before .before .before .before .before .body-lengths .ensures) at
-    (c .before .before .before .before .judge .ensures)) ∙ ap toldJudged (c .before .before .judged .given .1)
+    (c .before .before .before .before .judge .ensures)) ∙ ap judgedMeaning (c .before .before .judged .given .1)
 
 enum-known-judged-2 : tie.Need-enum-known-judged-2
 enum-known-judged-2 c = search needs
@@ -54,7 +54,7 @@ same-length c = search needs
 returns-2 : tie.Need-returns-2
 returns-2 c =
     let start = c .before .before .before .before .before .before .before .before .before .before .before .before .before .before .before .before .before .before .before .before .before .before in
-    write-known (start .args .id) _ (lentAt start) (start .args .position) (now (start .args .out)) _ _
+    write-known (start .args .id) _ (given start) (start .args .position) (now (start .args .out)) _ _
     (sym (c .before .before .before .before .before .before .before .before .before .before .before .before .of-id .ensures) ∙
     c .before .before .before .before .before .before .before .before .before .before .identified .given .1)
     (c .before .before .store .ensures)
@@ -62,12 +62,12 @@ returns-2 c =
 returns-3 : tie.Need-returns-3
 returns-3 c =
     let start = c .before .before .before .before .before .before .before .before .before .before .before .before .before .before .before .before .before .before in
-    write-known (start .args .id) _ (lentAt start) (start .args .position) (now (start .args .out)) _ _
+    write-known (start .args .id) _ (given start) (start .args .position) (now (start .args .out)) _ _
     (sym (c .before .before .before .before .before .before .before .before .of-id .ensures) ∙
     c .before .before .before .before .before .before .identified .given .1)
-    (refused-lent _ (lentAt start) (start .args .position) (now (start .args .out))
+    (refused-contents _ (given start) (start .args .position) (now (start .args .out))
     (sym (rw (c .before .before .before .before .body-lengths .ensures) at (c .before .before .before .judge .ensures)) ∙ ap
-    toldJudged (c .before .judged2 .given .1)))
+    judgedMeaning (c .before .judged2 .given .1)))
 
 pub write-spec : {M : Type 1} → statement M
 write-spec =

@@ -1,7 +1,7 @@
 -- `c_record::FieldAnswer::of` meets its contract: it goes by the answer's case.
 -- Assumes nothing.
 use mathlib.Core.Path.{sym, ap, _∙_}
-use Rattle.mrd_record.specs.Told.{toldField}
+use Rattle.mrd_fields.specs.Fields.{toldField}
 use Rattle.c_record.specs.RecordStructs.{cField}
 use borrow.Author.Needs.{needs}
 use Rattle.c_record.proofs.field.FieldAnswer.of.Statement.{statement}

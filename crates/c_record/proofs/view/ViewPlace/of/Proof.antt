@@ -1,7 +1,7 @@
 -- `c_record::ViewPlace::of` meets its contract: it goes by the answer's case.
 -- Assumes nothing.
 use mathlib.Core.Path.{sym, ap, _∙_}
-use Rattle.mrd_record.specs.Told.{toldView}
+use Rattle.mrd_views.specs.Views.{toldView}
 use Rattle.c_record.specs.RecordStructs.{cView}
 use borrow.Author.Needs.{needs}
 use Rattle.c_record.proofs.view.ViewPlace.of.Statement.{statement}

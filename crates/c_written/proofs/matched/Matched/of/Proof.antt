@@ -1,7 +1,7 @@
 -- `c_written::Matched::of` meets its contract: it goes by the answer's case.
 -- Assumes nothing.
 use mathlib.Core.Path.{sym, ap, _∙_}
-use Rattle.mrd_index.specs.Compare.{toldMatched}
+use Rattle.mrd_index_match.specs.Compare.{toldMatched}
 use Rattle.c_written.specs.WrittenStructs.{cMatched}
 use borrow.Author.Needs.{needs}
 use Rattle.c_written.proofs.matched.Matched.of.Statement.{statement}

@@ -1,0 +1,46 @@
+-- 'Field', of a record of a stream.
+-- Assumes nothing.
+use Prim.Native.Nat.{ℕ}
+use mathlib.Core.Path.{_≡_}
+use mathlib.Core.Bool.{Bool, true}
+use mathlib.Core.List.{List}
+use lib.Dec.{T}
+use Rattle.mrd_logic.specs.Answer.{Answer, answered, stream, number, andThen}
+use Rattle.mrd_format.specs.Message.{fixedPart}
+use Rattle.mrd_stream.specs.Places.{Located, place}
+use Rattle.mrd_cut.specs.Places.{partAt}
+use Rattle.mrd_element.specs.Field as header
+use Rattle.mrd_element.specs.Told.{told, nanApart}
+use Rattle.mrd_fields.specs.declared.fields.FieldAnswer.{FieldAnswer}
+use Rattle.mrd_fields.specs.declared.fields.FieldAnswer.the-variants.{Value, Stream, Refused}
+
+-- what a header answers, of a record: a number of refusal, 20, is no value
+abbrev pub valued : header.FieldAnswer → Answer header.FieldAnswer
+valued (header.whole n) = answered (header.whole n)
+valued (header.signed z) = answered (header.signed z)
+valued (header.float n) = answered (header.float n)
+valued (header.number n) = number n
+
+-- the field at an offset of the record whose place is answered
+abbrev pub fieldBy : Answer Located → ℕ → List ℕ → Answer header.FieldAnswer
+fieldBy a o s = andThen a (λ l. valued (header.fieldOf (l .kind) (fixedPart (l .kind) (partAt s l)) o))
+
+-- the field at an offset of record n: the stream's refusal first, then 16, then 20
+unfoldable pub fieldOf : List ℕ → ℕ → ℕ → Answer header.FieldAnswer
+fieldOf s n o = fieldBy (place s n) o s
+
+-- what each case of an answer says
+abbrev pub toldField : FieldAnswer → Answer header.FieldAnswer
+toldField (Value v) = answered (told v)
+toldField (Stream r) = stream (r .number) (r .record) (r .byte)
+toldField (Refused n) = number n
+
+abbrev pub fieldApart : FieldAnswer → Bool
+fieldApart (Value v) = nanApart v
+fieldApart (Stream r) = true
+fieldApart (Refused n) = true
+
+-- an answer that says this, with NaNs, and only NaNs, in the case that is meant for them
+pub record TellsField (f : FieldAnswer) (a : Answer header.FieldAnswer) : Type 0 where
+  pub says : toldField f ≡ a
+  pub apart : T (fieldApart f)

@@ -1,0 +1,105 @@
+-- A given index is believed exactly when it is the one that the stream yields.
+-- Assumes nothing.
+use Prim.Native.Nat.{ℕ}
+use native.Mathlib.Omega.{arith}
+use mathlib.Core.Path.{_≡_, refl, sym, ap, _∙_}
+use mathlib.Core.Logic.{_↔_}
+use mathlib.Core.Bool.{Bool, true, false, _&&_, true≢false}
+use mathlib.Core.List.{List}
+use lib.ListN.{length, take}
+use Rattle.mrd_logic.specs.Choice.{both}
+use Rattle.mrd_logic.specs.Lists.{begins, equal}
+use Rattle.mrd_logic.specs.ListLaws.{equal-refl, equal-same, begins-take, take-begins}
+use Rattle.mrd_logic.specs.Answer.{Verdict, accepted, refused, Answer, answered, stream, number, unlessRefused}
+use Rattle.mrd_stream.specs.Walk.{answer}
+use Rattle.mrd_stream.specs.Index.{index, startColumn, idColumn, counterColumn}
+use Rattle.mrd_cut.specs.Walked.{refused-not-accepted}
+use Rattle.mrd_index_match.specs.Compare.{believed, fileMatch, columnsMatch}
+
+-- columns: 'none is too short and the records' places hold its numbers'
+pub record Held (s starts ids counters : List ℕ) : Type 0 where
+  pub by-starts : take (length (startColumn s)) starts ≡ startColumn s
+  pub by-ids : take (length (idColumn s)) ids ≡ idColumn s
+  pub by-counters : take (length (counterColumn s)) counters ≡ counterColumn s
+
+-- the stream is accepted, and what P says holds
+pub record Accepted (s : List ℕ) (P : Type 0) : Type 0 where
+  pub count : ℕ
+  pub passed : answer s ≡ accepted count
+  pub holds : P
+
+-- m is answered for an index given with s, where `own` says that it is the one that s yields: it is believed exactly when s is accepted and it is;
+-- refused with a number, which is 15, exactly when s is accepted and it is not; and else the stream's refusal
+pub record Exactly (s : List ℕ) (own : Type 0) (m : Answer (Unit {0})) : Type 0 where
+  pub own-believed : (m ≡ answered tt) ↔ Accepted s own
+  pub other-15 : (m ≡ number 15) ↔ Accepted s (own → ⊥)
+  pub no-other-number : {k : ℕ} → m ≡ number k → k ≡ 15
+  pub stream-first : {f r b : ℕ} → (m ≡ stream f r b) ↔ (answer s ≡ refused f r b)
+
+-- two answers of different cases are not the same
+abbrev Same : Answer (Unit {0}) → Answer (Unit {0}) → Type 0
+Same a b = a ≡ b
+
+own-not-number : {k : ℕ} → Same (answered tt) (number k) → ⊥
+own-not-number e = let z : _≡_ {A = ℕ} 0 1 = cc in omega arith
+
+own-not-stream : {f r b : ℕ} → Same (answered tt) (stream f r b) → ⊥
+own-not-stream e = let z : _≡_ {A = ℕ} 0 1 = cc in omega arith
+
+stream-not-number : {f r b k : ℕ} → Same (stream f r b) (number k) → ⊥
+stream-not-number e = let z : _≡_ {A = ℕ} 0 1 = cc in omega arith
+
+same-number : {n k : ℕ} → Same (number n) (number k) → k ≡ n
+same-number e = cc
+
+same-stream : {f r b g q c : ℕ} → Same (stream f r b) (stream g q c) → refused f r b ≡ refused g q c
+same-stream e = cc
+
+-- a test that tells whether the index is the stream's own
+module _ (s : List ℕ) {own : Type 0} (x : Bool) (told : (x ≡ true) ↔ own) where
+  exactly : (v : Verdict) → answer s ≡ v → (b : Bool) → x ≡ b → Exactly s own (unlessRefused v (believed b))
+  exactly (accepted n) e true t =
+      record {
+        own-believed = (λ _. record { count = n; passed = e; holds = told .0 t }, λ _. refl);
+        other-15 = (λ q. absurd (own-not-number q), λ a. absurd (a .holds (told .0 t)));
+        no-other-number = λ q. absurd (own-not-number q);
+        stream-first = (λ q. absurd (own-not-stream q), λ q. absurd (refused-not-accepted (sym q ∙ e)));
+      }
+  exactly (accepted n) e false t =
+      let other : own → ⊥ = λ o. true≢false (sym (told .1 o) ∙ t) in
+      record {
+        own-believed = (λ q. absurd (own-not-number (sym q)), λ a. absurd (other (a .holds)));
+        other-15 = (λ _. record { count = n; passed = e; holds = other }, λ _. refl);
+        no-other-number = same-number;
+        stream-first = (λ q. absurd (stream-not-number (sym q)), λ q. absurd (refused-not-accepted (sym q ∙ e)));
+      }
+  exactly (refused f r b) e y t =
+      record {
+        own-believed = (λ q. absurd (own-not-stream (sym q)), λ a. absurd (refused-not-accepted (sym e ∙ a .passed)));
+        other-15 = (λ q. absurd (stream-not-number q), λ a. absurd (refused-not-accepted (sym e ∙ a .passed)));
+        no-other-number = λ q. absurd (stream-not-number q);
+        stream-first = (λ q. e ∙ same-stream q, λ q. ap (λ (v : Verdict). unlessRefused v (believed y)) (sym e ∙ q));
+      }
+
+-- columns found to begin with the index's
+held-begins : (s a b c : List ℕ) → ((begins (startColumn s) a && (begins (idColumn s) b && begins (counterColumn s) c)) ≡ true) ↔ Held s a b c
+held-begins s a b c = (held, λ h. simp (take-begins _ a (h .by-starts), take-begins _ b (h .by-ids), take-begins _ c (h .by-counters)))
+  where
+    held : (begins (startColumn s) a && (begins (idColumn s) b && begins (counterColumn s) c)) ≡ true → Held s a b c
+    held e =
+        let first = both (begins (startColumn s) a) (begins (idColumn s) b && begins (counterColumn s) c) e in
+        let others = both (begins (idColumn s) b) (begins (counterColumn s) c) (first .1) in
+        record {
+          by-starts = begins-take (startColumn s) a (first .0);
+          by-ids = begins-take (idColumn s) b (others .0);
+          by-counters = begins-take (counterColumn s) c (others .1);
+        }
+
+-- a file is the index byte for byte, none short and none over; columns hold it
+pub believed-exactly : (s file starts ids counters : List ℕ) →
+    Exactly s (file ≡ index s) (fileMatch s file) × Exactly s (Held s starts ids counters) (columnsMatch s starts ids counters)
+unfolding fileMatch columnsMatch
+believed-exactly s f a b c = (
+  exactly s (equal f (index s)) (equal-same f (index s), λ e. ap (λ (g : List ℕ). equal g (index s)) e ∙ equal-refl (index s)) (answer s) refl _ refl,
+  exactly s _ (held-begins s a b c) (answer s) refl _ refl,
+)

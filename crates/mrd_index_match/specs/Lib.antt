@@ -1,0 +1,5 @@
+pub mod Compare
+pub mod CompareLaws
+pub mod Comparing
+pub mod Exactly
+pub mod Asked

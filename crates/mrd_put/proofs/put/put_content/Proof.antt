@@ -1,0 +1,135 @@
+-- `mrd_put::put::put_content` meets its contract: each kind's parts are those of the definition.
+-- Assumes nothing.
+use mathlib.Core.Path.{_≡_, refl}
+use mathlib.Core.List.{[], _∷_, _++_}
+use lib.ListN.{length}
+use denote.Ref.{now}
+use denote.Enum.Declared.{tagOf}
+use types.Run.{OneOf}
+use borrow.Author.Needs.{needs}
+use Rattle.mrd_numbers.specs.Little.{toBytes}
+use Rattle.mrd_format.specs.declared.kind.Kind.{Kind}
+use Rattle.mrd_format.specs.Parts.{Contents, contents}
+use Rattle.mrd_format.specs.Content.{fixedOf, bodyOf, contentOf}
+use Rattle.mrd_format.proofs.kind.Kind.{the-type}
+use Rattle.mrd_format.proofs.Arms.{arm-same}
+use Rattle.mrd_put.specs.PutLaws.{content-name, name-room, text-room, acquisition-room, image-room, waveform-room}
+use Rattle.mrd_put.proofs.put.put_content.Statement.{statement}
+use Rattle.mrd_put.proofs.put.put_content.Tie as tie
+
+-- what is given, where the function begins
+abbrev given : tie.Start → Contents
+given s =
+    contents (now (s .args .header)) (now (s .args .name)) (now (s .args .text)) (now (s .args .trajectory)) (now (s .args .samples))
+    (now (s .args .attributes)) (now (s .args .pixels)) (now (s .args .waveform))
+
+-- a text of any of the three kinds is put after its length
+text-made : (c : Contents) (k : Kind) → OneOf (1 ∷ 2 ∷ 4 ∷ []) (tagOf the-type k) →
+    contentOf k c ≡ toBytes 4 (length (c .parts .text)) ++ c .parts .text
+unfolding contentOf fixedOf bodyOf
+text-made c k o = arm-same (λ (j : Kind). contentOf j c) _ (1 ∷ 2 ∷ 4 ∷ []) k o refl
+
+enum-told : tie.Need-enum-told
+enum-told c = search needs
+
+put-name-requires : tie.Need-put-name-requires
+put-name-requires c κs =
+    let s = c .before .before .before .before .before .before .before .before .before .before .before .before in
+    name-room (s .args .kind) (given s) (now (s .args .out)) (s .pre .0) (s .pre .1) (c .before .enum-told .given .1)
+
+put-text-requires : tie.Need-put-text-requires
+put-text-requires c κs =
+    let s = c .before .before .before .before .before .before .before .before .before .before .before in
+    text-room (s .args .kind) (given s) (now (s .args .out)) (s .pre .0) (s .pre .1) (text-made (given s) (s .args .kind) (c .before .match .keys2))
+
+enum-told-2 : tie.Need-enum-told-2
+enum-told-2 c = search needs
+
+enum-told-3 : tie.Need-enum-told-3
+enum-told-3 c = search needs
+
+put-acquisition-requires : tie.Need-put-acquisition-requires
+put-acquisition-requires c κs =
+    let s = c .before .before .before .before .before .before .before .before .before .before .before .before in
+    acquisition-room (s .args .kind) (given s) (now (s .args .out)) (s .pre .0) (s .pre .1) (c .before .enum-told3 .given .1)
+
+enum-told-4 : tie.Need-enum-told-4
+enum-told-4 c = search needs
+
+put-image-requires : tie.Need-put-image-requires
+put-image-requires c κs =
+    let s = c .before .before .before .before .before .before .before .before .before .before .before .before in
+    image-room (s .args .kind) (given s) (now (s .args .out)) (s .pre .0) (s .pre .1) (c .before .enum-told4 .given .1)
+
+enum-told-5 : tie.Need-enum-told-5
+enum-told-5 c = search needs
+
+put-joined-requires : tie.Need-put-joined-requires
+put-joined-requires c κs =
+    let s = c .before .before .before .before .before .before .before .before .before .before .before .before in
+    waveform-room (s .args .kind) (given s) (now (s .args .out)) (s .pre .0) (s .pre .1) (c .before .enum-told5 .given .1)
+
+same-length : tie.Need-same-length
+same-length c = search needs
+
+returns : tie.Need-returns
+returns c = rw (c .before .before .before .before .enum-told .given .1, content-name) (c .before .before .put-name .ensures)
+
+same-length-2 : tie.Need-same-length-2
+same-length-2 c = search needs
+
+returns-2 : tie.Need-returns-2
+returns-2 c =
+    let s = c .before .before .before .before .before .before .before .before .before .before .before .before .before .before in
+    rw (text-made (given s) (s .args .kind) (c .before .before .before .before .match .keys2)) (c .before .before .put-text .ensures)
+
+returns-3 : tie.Need-returns-3
+unfolding contentOf fixedOf bodyOf
+returns-3 c = rw (c .enum-told2 .given .1)
+
+same-length-3 : tie.Need-same-length-3
+same-length-3 c = search needs
+
+returns-4 : tie.Need-returns-4
+unfolding contentOf fixedOf bodyOf
+returns-4 c = rw (c .before .before .before .before .enum-told3 .given .1) (c .before .before .put-acquisition .ensures)
+
+same-length-4 : tie.Need-same-length-4
+same-length-4 c = search needs
+
+returns-5 : tie.Need-returns-5
+unfolding contentOf fixedOf bodyOf
+returns-5 c = rw (c .before .before .before .before .enum-told4 .given .1) (c .before .before .put-image .ensures)
+
+same-length-5 : tie.Need-same-length-5
+same-length-5 c = search needs
+
+returns-6 : tie.Need-returns-6
+unfolding contentOf fixedOf bodyOf
+returns-6 c = rw (c .before .before .before .before .enum-told5 .given .1) (c .before .before .put-joined .ensures)
+
+pub put-content-spec : {M : Type 1} → statement M
+put-content-spec =
+    tie.close
+    (tie.spec
+    enum-told
+    put-name-requires
+    put-text-requires
+    enum-told-2
+    enum-told-3
+    put-acquisition-requires
+    enum-told-4
+    put-image-requires
+    enum-told-5
+    put-joined-requires
+    same-length
+    returns
+    same-length-2
+    returns-2
+    returns-3
+    same-length-3
+    returns-4
+    same-length-4
+    returns-5
+    same-length-5
+    returns-6)

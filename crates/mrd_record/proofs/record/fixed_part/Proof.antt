@@ -1,0 +1,65 @@
+-- `mrd_record::record::fixed_part` meets its contract: the record lies in the stream, and its fixed part two bytes after its start.
+-- Assumes nothing.
+use Prim.Native.Nat.{ℕ, _-_, _+_}
+use native.Mathlib.Omega.{arith}
+use mathlib.Core.Path.{_≡_, ap, _∙_}
+use borrow.Author.Needs.{needs}
+use denote.Ref.{now}
+use lib.ListN.{take, drop}
+use Rattle.mrd_format.specs.Kinds.{fixedSize}
+use Rattle.mrd_format.specs.Shapes.{kindOf}
+use Rattle.mrd_stream.specs.Places.{place}
+use Rattle.mrd_stream.specs.Told.{toldRecord}
+use Rattle.mrd_record.specs.RecordLaws.{fixed-place, fixed-fits}
+use Rattle.mrd_record.proofs.record.fixed_part.Statement.{statement}
+use Rattle.mrd_record.proofs.record.fixed_part.Tie as tie
+
+add-from : tie.Need-add-from
+add-from c = search needs
+
+kind-requires : tie.Need-kind-requires
+kind-requires c κs = search needs
+
+fixed-size-requires : tie.Need-fixed-size-requires
+fixed-size-requires c κs = search needs
+
+add-to : tie.Need-add-to
+add-to c =
+    let a = c .before .before .before .before .before .args in
+    let pre = c .before .before .before .before .before .pre in
+    omega (arith, fixed-fits (now (a .s)) (toldRecord (a .here)) (pre), c .fixed-size .ensures ∙ ap fixedSize (c .before .kind .ensures))
+
+sub-result : tie.Need-sub-result
+sub-result c = search needs
+
+part-result-start : tie.Need-part-result-start
+part-result-start c = search needs
+
+part-result-end : tie.Need-part-result-end
+part-result-end c =
+    let a = c .before .before .before .before .before .args in
+    let pre = c .before .before .before .before .before .pre in
+    omega (arith, fixed-fits (now (a .s)) (toldRecord (a .here)) (pre), c .fixed-size .ensures ∙ ap fixedSize (c .before .kind .ensures))
+
+returns : tie.Need-returns
+returns c =
+    let a′ = c .before .before .before .before .before .before .args in
+    let pre = c .before .before .before .before .before .before .pre in
+    let a = a′ in
+    let from = a .here .place .start + 2 in
+    let size : from + c .before .fixed-size .result - from ≡ fixedSize (kindOf (a .here .shape)) = omega
+    (arith, c .before .fixed-size .ensures ∙ ap fixedSize (c .before .before .kind .ensures)) in
+    ap (λ (k : ℕ). take k (drop from (now (a .s)))) size ∙ fixed-place (now (a′ .s)) (toldRecord (a′ .here)) (pre)
+
+pub fixed-part-spec : {M : Type 1} → statement M
+fixed-part-spec =
+    tie.close
+    (tie.spec
+    add-from
+    kind-requires
+    fixed-size-requires
+    add-to
+    sub-result
+    part-result-start
+    part-result-end
+    returns)

@@ -1,0 +1,34 @@
+-- `mrd_record::record::place_at` meets its contract: by the step.
+-- Assumes nothing.
+use mathlib.Core.Path.{sym, ap, _∙_}
+use Rattle.mrd_record.specs.AtCursor.{placeBy, placeAt}
+use Rattle.mrd_stream.specs.Told.{toldStep}
+use borrow.Author.Needs.{needs}
+use Rattle.mrd_record.proofs.record.place_at.Statement.{statement}
+use Rattle.mrd_record.proofs.record.place_at.Tie as tie
+
+next-requires : tie.Need-next-requires
+next-requires c κs = search needs
+
+enum-known-step : tie.Need-enum-known-step
+enum-known-step c = search needs
+
+enum-known-step-2 : tie.Need-enum-known-step-2
+enum-known-step-2 c = search needs
+
+ended-requires : tie.Need-ended-requires
+ended-requires c κs = search needs
+
+returns : tie.Need-returns
+unfolding placeAt
+returns c = ap placeBy (sym (ap toldStep (c .before .step .given .1)) ∙ c .before .before .before .next .ensures)
+
+returns-2 : tie.Need-returns-2
+unfolding placeAt
+returns-2 c = c .ended .ensures ∙ ap placeBy (sym (ap toldStep (c .before .before .step2 .given .1)) ∙
+    c .before .before .before .before .next .ensures)
+
+pub place-at-spec : {M : Type 1} → statement M
+place-at-spec =
+    tie.close
+    (tie.spec next-requires enum-known-step enum-known-step-2 ended-requires returns returns-2)

@@ -1,0 +1,29 @@
+-- The record at a cursor: the questions about one record, asked where a walk is in place of by number.
+-- Assumes nothing.
+use Prim.Native.Nat.{ℕ, zero, suc}
+use mathlib.Core.Path.{_≡_}
+use mathlib.Core.List.{List}
+use Rattle.mrd_logic.specs.Answer.{accepted, refused, Answer, answered, stream, number}
+use Rattle.mrd_cursor.specs.declared.cursor.Cursor.{Cursor}
+use Rattle.mrd_stream.specs.Places.{Located, Stepped, handed, over, step}
+use Rattle.mrd_cut.specs.Inside.{Inside}
+
+-- the record that a step hands out; where the walk is over, the stream's refusal, or 16: 'no such record'
+abbrev pub placeBy : Stepped → Answer Located
+placeBy (handed l d) = answered l
+placeBy (over (accepted n)) = number 16
+placeBy (over (refused f r b)) = stream f r b
+
+unfoldable pub placeAt : Cursor → List ℕ → Answer Located
+placeAt c s = placeBy (step c s)
+
+-- an answered place lies in s
+abbrev pub LiesIn : List ℕ → Answer Located → Type 0
+LiesIn s (answered l) = Inside s l
+LiesIn s (stream f r b) = Unit {0}
+LiesIn s (number n) = Unit {0}
+
+-- d is where a walk over s stands n steps after c
+abbrev pub Reached : List ℕ → Cursor → ℕ → Cursor → Type 0
+Reached s c zero d = c ≡ d
+Reached s c (suc n) d = (l : Located) × ((next : Cursor) × ((step c s ≡ handed l next) × Reached s next n d))

@@ -1,0 +1,98 @@
+-- An answered place lies in its stream, and so does its fixed part; the record at a cursor that a walk comes to is that of its number.
+-- Assumes nothing.
+use Prim.Native.Nat.{ℕ, zero, suc, _+_, _≤_}
+use native.Mathlib.Omega.{arith}
+use mathlib.Core.Path.{_≡_, refl, sym, ap, _∙_, subst}
+use mathlib.Core.List.{List, _++_}
+use lib.ListN.{length, take, drop, length-append, length-drop}
+use lib.Seq.{take-append-seam, drop-drop, length-take-le}
+use Rattle.mrd_format.specs.Kinds.{fixedSize}
+use Rattle.mrd_format.specs.Message.{fixedPart, numbersOf, WellFormed}
+use Rattle.mrd_format.specs.MessageLaws.{fixed-take, well-least}
+use Rattle.mrd_cursor.specs.declared.cursor.Cursor.{Cursor}
+use Rattle.mrd_logic.specs.Answer.{Verdict, accepted, refused, Answer, answered, stream, number, unlessRefused}
+use Rattle.mrd_cursor.specs.Cursors.{beginning}
+use Rattle.mrd_stream.specs.Walk.{Trace, message, done, trace, verdict, answer}
+use Rattle.mrd_stream.specs.Places.{Located, located, places, nth, place, Stepped, handed, over, step}
+use Rattle.mrd_stream.specs.StepLaws.{Passes, step-handed}
+use Rattle.mrd_cut.specs.Places.{partAt}
+use Rattle.mrd_cut.specs.Inside.{Inside, place-inside}
+use Rattle.mrd_cut.specs.Steps.{Handed, steps-follow}
+use Rattle.mrd_record.specs.AtCursor.{placeBy, placeAt, LiesIn, Reached}
+
+pub place-lies : (s : List ℕ) (n : ℕ) → LiesIn s (place s n)
+place-lies s n = by (place s n) refl
+  where
+    by : (a : Answer Located) → place s n ≡ a → LiesIn s a
+    by (answered l) e = place-inside s n e
+    by (stream f r b) e = tt
+    by (number k) e = tt
+
+-- the bytes that a step passes are a well-formed message of the answered kind
+passes-inside : {c d : Cursor} {s : List ℕ} {l : Located} → Passes c s l d → Inside s l
+passes-inside {c} {d} {s} {l} p =
+    let here : partAt s (located c (p .kind) (p .bytes)) ≡ p .bytes = rw (p .split) (take-append-seam (p .bytes) (drop (d .start) s)) in
+    let size = simp (length-append, length-drop) at (ap length (p .split)) in
+    rw (p .place)
+    (record {
+      well = rw here (p .well);
+      kind = p .known;
+      numbers = rw here;
+      long = rw here;
+      fits = omega (arith, size, p .ahead, p .within);
+    })
+
+pub at-lies : (c : Cursor) (s : List ℕ) → LiesIn s (placeAt c s)
+unfolding placeAt
+at-lies c s = by (step c s) refl
+  where
+    by : (x : Stepped) → step c s ≡ x → LiesIn s (placeBy x)
+    by (handed l d) e = passes-inside (step-handed c s e)
+    by (over (accepted n)) e = tt
+    by (over (refused f r b)) e = tt
+
+not-over : {l : Located} {d : Cursor} {v : Verdict} → over v ≡ handed l d → ⊥
+not-over e = let z : _≡_ {A = ℕ} 0 1 = cc in omega arith
+
+reached-place : (s : List ℕ) (c d : Cursor) (n : ℕ) (r : Trace) {k : ℕ} → Handed s c r → Reached s c n d → verdict r ≡ accepted k →
+    placeAt d s ≡ nth (places r) n
+unfolding placeAt
+reached-place s c d zero (message b k m r) h e a =
+    ap (λ (x : Cursor). placeBy (step x s)) (sym e) ∙ ap placeBy (h .1 .1) ∙ ap (λ (x : Cursor). answered (located x k m)) (sym (h .0))
+reached-place s c d zero (done v) h e a =
+    ap (λ (x : Cursor). placeBy (step x s)) (sym e) ∙ ap placeBy h ∙ ap (λ (v : Verdict). placeBy (over v)) a
+reached-place s c d (suc n) (message b k m r) h e a =
+    let next : h .1 .0 ≡ e .1 .0 = same-next (sym (h .1 .1) ∙ e .1 .1 .0) in
+    reached-place s (e .1 .0) d n r (subst (λ (x : Cursor). Handed s x r) next (h .1 .2)) (e .1 .1 .1) a
+  where
+    same-next : {l m : Located} {x y : Cursor} → handed l x ≡ handed m y → x ≡ y
+    same-next e = cc
+reached-place s c d (suc n) (done v) h e a = absurd (not-over (sym h ∙ e .1 .1 .0))
+
+-- the record where a walk over an accepted stream stands after n steps is record n; so its views and fields are those by number
+pub walked-place : (s : List ℕ) {k : ℕ} → answer s ≡ accepted k → (n : ℕ) (d : Cursor) → Reached s beginning n d → placeAt d s ≡ place s n
+unfolding place answer
+walked-place s {k} a n d e =
+    reached-place s beginning d n (trace s) (steps-follow s) e a ∙ sym (ap (λ (v : Verdict). unlessRefused v (nth (places (trace s)) n)) a)
+
+-- the fixed part of a record that lies in s
+module _ (s : List ℕ) (l : Located) (i : Inside s l) where
+  least : 2 + fixedSize (l .kind) ≤ l .size
+  least = rw (← i .kind, ← i .long) (well-least (partAt s l) (i .well))
+
+  -- it has its kind's length
+  pub fixed-long : length (fixedPart (l .kind) (partAt s l)) ≡ fixedSize (l .kind)
+  unfolding fixedPart
+  fixed-long =
+      let room : fixedSize (l .kind) ≤ length (drop 2 (partAt s l)) = simp length-drop (omega (arith, least, i .long)) in
+      length-take-le (fixedSize (l .kind)) (drop 2 (partAt s l)) room
+
+  -- it is that part of the stream
+  pub fixed-place : take (fixedSize (l .kind)) (drop (l .start + 2) s) ≡ fixedPart (l .kind) (partAt s l)
+  unfolding fixedPart
+  fixed-place =
+      let room : l .size ≤ length (drop (l .start) s) = simp length-drop (omega (arith, i .fits)) in
+      ap (take (fixedSize (l .kind))) (sym (drop-drop 2 (l .start) s)) ∙ sym (fixed-take (l .kind) (l .size) (drop (l .start) s) least room)
+
+  pub fixed-fits : l .start + 2 + fixedSize (l .kind) ≤ length s
+  fixed-fits = omega (arith, least, i .fits)

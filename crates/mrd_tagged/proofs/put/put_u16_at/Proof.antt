@@ -1,0 +1,33 @@
+-- `mrd_tagged::put_u16_at` meets its contract: bytes put at the front of the part from `at` on are stored there.
+-- Assumes nothing.
+use borrow.Author.Needs.{needs}
+use denote.Ref.{now}
+use Rattle.mrd_numbers.specs.Little.{toBytes}
+use Rattle.mrd_numbers.specs.Stored.{stored-lent}
+use Rattle.mrd_tagged.proofs.put.put_u16_at.Statement.{statement}
+use Rattle.mrd_tagged.proofs.put.put_u16_at.Tie as tie
+
+sub-put-u16 : tie.Need-sub-put-u16
+sub-put-u16 c = search needs
+
+part-put-u16-start : tie.Need-part-put-u16-start
+part-put-u16-start c = search needs
+
+part-put-u16-end : tie.Need-part-put-u16-end
+part-put-u16-end c = search needs
+
+put-u16-requires : tie.Need-put-u16-requires
+put-u16-requires c κs = search needs
+
+same-length : tie.Need-same-length
+same-length c = search needs
+
+returns : tie.Need-returns
+returns c =
+    let a = c .before .before .before .before .before .args in
+    stored-lent (a .at) (now (a .out)) (toBytes 2 (a .v)) _ (c .before .before .put-u16 .ensures)
+
+pub put-u16-at-spec : {M : Type 1} → statement M
+put-u16-at-spec =
+    tie.close
+    (tie.spec sub-put-u16 part-put-u16-start part-put-u16-end put-u16-requires same-length returns)

@@ -1,0 +1,22 @@
+-- `mrd_tagged::u64_same` meets its contract: bytes that make the number are its bytes.
+-- Assumes nothing.
+use mathlib.Core.Path.{sym, ap, _∙_}
+use borrow.Author.Needs.{needs}
+use denote.Ref.{now}
+use lib.Dec.{eqb}
+use Rattle.mrd_tagged.specs.TaggedLaws.{number-same}
+use Rattle.mrd_tagged.proofs.same.u64_same.Statement.{statement}
+use Rattle.mrd_tagged.proofs.same.u64_same.Tie as tie
+
+read-u64-requires : tie.Need-read-u64-requires
+read-u64-requires c κs = search needs
+
+returns : tie.Need-returns
+returns c =
+    let start = c .before .before in
+    let a = start .args in
+    ap (λ n. eqb n (a .v)) (c .read-u64 .ensures) ∙
+    sym (number-same 8 (a .v) (now (a .s)) (a .at) (c .before .shared-slice-known .given) (start .pre) (start .fits .v .fits))
+
+pub u64-same-spec : {M : Type 1} → statement M
+u64-same-spec = tie.close (tie.spec read-u64-requires returns)

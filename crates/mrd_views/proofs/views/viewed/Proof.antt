@@ -1,0 +1,46 @@
+-- `mrd_views::views::viewed` meets its contract: by the place, which lies in the stream.
+-- Assumes nothing.
+use borrow.Author.Needs.{needs}
+use Rattle.mrd_views.proofs.views.viewed.Statement.{statement}
+use Rattle.mrd_views.proofs.views.viewed.Tie as tie
+
+enum-known-place : tie.Need-enum-known-place
+enum-known-place c = search needs
+
+spanned-requires : tie.Need-spanned-requires
+spanned-requires c κs = rw (c .before .place .given .1) at (c .before .before .before .before .pre)
+
+enum-told : tie.Need-enum-told
+enum-told c = search needs
+
+spanned-requires-2 : tie.Need-spanned-requires-2
+spanned-requires-2 c κs = search needs
+
+enum-told-2 : tie.Need-enum-told-2
+enum-told-2 c = search needs
+
+spanned-requires-3 : tie.Need-spanned-requires-3
+spanned-requires-3 c κs = search needs
+
+returns : tie.Need-returns
+returns c = rw (c .before .before .place .given .1) (c .spanned .ensures)
+
+returns-2 : tie.Need-returns-2
+returns-2 c = rw (c .before .enum-told .given .1) (c .spanned2 .ensures)
+
+returns-3 : tie.Need-returns-3
+returns-3 c = rw (c .before .enum-told2 .given .1) (c .spanned3 .ensures)
+
+pub viewed-spec : {M : Type 1} → statement M
+viewed-spec =
+    tie.close
+    (tie.spec
+    enum-known-place
+    spanned-requires
+    enum-told
+    spanned-requires-2
+    enum-told-2
+    spanned-requires-3
+    returns
+    returns-2
+    returns-3)

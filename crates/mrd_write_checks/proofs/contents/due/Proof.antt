@@ -1,0 +1,131 @@
+-- `mrd_write_checks::contents::due` meets its contract: each kind's lengths are those of the definition, what the header says by the size.
+-- Assumes nothing.
+use native.Mathlib.Omega.{arith}
+use mathlib.Core.Path.{refl, sym}
+use mathlib.Core.List.{[], _∷_}
+use denote.Ref.{now}
+use borrow.Author.Needs.{needs}
+use Rattle.mrd_format.specs.declared.kind.Kind.{Kind}
+use Rattle.mrd_write_checks.specs.WriteChecks.{dueLengths}
+use Rattle.mrd_write_checks.specs.JudgeLaws.{due-acquisition, due-image, due-waveform}
+use Rattle.mrd_format.proofs.Arms.{arm-same}
+use Rattle.mrd_write_checks.proofs.contents.due.Statement.{statement}
+use Rattle.mrd_write_checks.proofs.contents.due.Tie as tie
+
+none-requires : tie.Need-none-requires
+none-requires c κs = search needs
+
+enum-told : tie.Need-enum-told
+enum-told c = search needs
+
+enum-told-2 : tie.Need-enum-told-2
+enum-told-2 c = search needs
+
+enum-told-3 : tie.Need-enum-told-3
+enum-told-3 c = search needs
+
+trajectory-size-requires : tie.Need-trajectory-size-requires
+trajectory-size-requires c κs = rw (c .enum-told3 .given .1) at (c .before .before .before .before .pre .0)
+
+add-due : tie.Need-add-due
+add-due c = search needs
+
+sub-due : tie.Need-sub-due
+sub-due c =
+    let start = c .before .before .before .before .before in
+    omega (arith, due-acquisition _ (now (start .args .header)) (start .args .given) (start .pre .1) (c .before .enum-told3 .given .1) .0)
+
+sub-due-2 : tie.Need-sub-due-2
+sub-due-2 c =
+    let start = c .before .before .before .before .before .before in
+    omega (
+      arith,
+      c .before .trajectory-size .ensures,
+      due-acquisition _ (now (start .args .header)) (start .args .given) (start .pre .1) (c .before .before .enum-told3 .given .1) .0,
+    )
+
+enum-told-4 : tie.Need-enum-told-4
+enum-told-4 c = search needs
+
+add-due-2 : tie.Need-add-due-2
+add-due-2 c = search needs
+
+sub-due-3 : tie.Need-sub-due-3
+sub-due-3 c =
+    let start = c .before .before .before .before in
+    omega (arith, due-image _ (now (start .args .header)) (start .args .given) (start .pre .1) (c .enum-told4 .given .1) .0)
+
+sub-due-4 : tie.Need-sub-due-4
+sub-due-4 c =
+    let start = c .before .before .before .before .before in
+    omega (arith, due-image _ (now (start .args .header)) (start .args .given) (start .pre .1) (c .before .enum-told4 .given .1) .0)
+
+enum-told-5 : tie.Need-enum-told-5
+enum-told-5 c = search needs
+
+add-due-3 : tie.Need-add-due-3
+add-due-3 c = search needs
+
+sub-due-5 : tie.Need-sub-due-5
+sub-due-5 c =
+    let start = c .before .before .before .before in
+    omega (arith, due-waveform _ (now (start .args .header)) (start .args .given) (start .pre .1) (c .enum-told5 .given .1) .0)
+
+returns : tie.Need-returns
+unfolding dueLengths
+returns c = rw (c .before .before .none .ensures, c .enum-told .given .1)
+
+returns-2 : tie.Need-returns-2
+unfolding dueLengths
+returns-2 c =
+    let a = c .before .before .before .args in
+    rw (c .before .none .ensures)
+    (sym (arm-same (λ (k : Kind). dueLengths k (now (a .header)) (a .given)) _ (1 ∷ 2 ∷ 4 ∷ []) (a .kind) (c .match .keys2) refl))
+
+returns-3 : tie.Need-returns-3
+unfolding dueLengths
+returns-3 c = rw (c .before .before .none .ensures, c .enum-told2 .given .1)
+
+returns-4 : tie.Need-returns-4
+returns-4 c =
+    let start = c .before .before .before .before .before .before in
+    rw (c .before .before .before .before .none .ensures, c .before .trajectory-size .ensures .0)
+    (due-acquisition _ (now (start .args .header)) (start .args .given) (start .pre .1) (c .before .before .enum-told3 .given .1) .1)
+
+returns-5 : tie.Need-returns-5
+returns-5 c =
+    let start = c .before .before .before .before .before in
+    rw (c .before .before .before .none .ensures)
+    (due-image _ (now (start .args .header)) (start .args .given) (start .pre .1) (c .before .enum-told4 .given .1) .1)
+
+returns-6 : tie.Need-returns-6
+returns-6 c =
+    let start = c .before .before .before .before in
+    rw (c .before .before .none .ensures)
+    (due-waveform _ (now (start .args .header)) (start .args .given) (start .pre .1) (c .enum-told5 .given .1) .1)
+
+pub due-spec : {M : Type 1} → statement M
+due-spec =
+    tie.close
+    (tie.spec
+    none-requires
+    enum-told
+    enum-told-2
+    enum-told-3
+    trajectory-size-requires
+    add-due
+    sub-due
+    sub-due-2
+    enum-told-4
+    add-due-2
+    sub-due-3
+    sub-due-4
+    enum-told-5
+    add-due-3
+    sub-due-5
+    returns
+    returns-2
+    returns-3
+    returns-4
+    returns-5
+    returns-6)

@@ -1,0 +1,215 @@
+-- What judging the given bytes finds, one law for each place in the order of checks.
+-- Assumes nothing.
+use Prim.Native.Nat.{ℕ, zero, suc, _+_, _-_, _*_, _≤_, _<_}
+use native.Mathlib.Omega.{arith}
+use mathlib.Core.Path.{_≡_, refl, sym, ap, _∙_}
+use mathlib.Core.Bool.{Bool, true, false, not}
+use mathlib.Core.List.{List, [], _∷_, _++_}
+use lib.Dec.{ltb}
+use lib.ListN.{length}
+use borrow.Author.Tests.{lt-ltb, le-ltb, eq-eqb, ne-eqb}
+use Rattle.bytes.specs.Bytes.{indexOf}
+use Rattle.mrd_format.specs.declared.kind.Kind.{Kind}
+use Rattle.mrd_format.specs.declared.kind.Kind.the-variants.{ConfigurationName, ConfigurationText, HeaderText, Close, Text, Acquisition, Image, Waveform}
+use Rattle.mrd_logic.specs.Answer.{Answer, answered, number}
+use Rattle.mrd_logic.specs.Checks.{Check, _when_, first}
+use Rattle.mrd_logic.specs.CheckLaws.{numbered, first-skip, first-passed, first-stops, numbered-append}
+use Rattle.mrd_format.specs.CheckLaws as format
+use Rattle.mrd_format.specs.Acquisition as acquisition
+use Rattle.mrd_format.specs.Image as image
+use Rattle.mrd_format.specs.Waveform as waveform
+use Rattle.mrd_format.specs.Kinds.{headerSize}
+use Rattle.mrd_format.specs.Sizes.{capped}
+use Rattle.mrd_format.specs.Message as message
+use Rattle.mrd_format.specs.Message.{limit}
+use Rattle.mrd_write_checks.specs.declared.lengths.Lengths.{Lengths}
+use Rattle.mrd_write_checks.specs.WriteChecks.{nameUnfit, ownChecks, sizeOf, partLengths, dueLengths, sameLengths, sizedChecks, contentsChecks, unless, judged}
+
+-- an answer is one or the other
+pub answered-not-number : {z x : ℕ} → _≡_ {A = Answer ℕ} (answered z) (number x) → ⊥
+answered-not-number e = let z : _≡_ {A = ℕ} 0 1 = cc in omega arith
+
+-- where a number is answered, no check refused
+pub unless-answered : (f z : ℕ) {y : ℕ} → unless f z ≡ answered y → (f ≡ 0) × (z ≡ y)
+unless-answered zero z e = (refl, cc)
+unless-answered (suc f) z e = absurd (answered-not-number (sym e))
+
+-- more checks than those of cs: where one of them refuses it decides, and where none does the others decide
+module _ (cs ds : List Check) (all : numbered cs ≡ true) where
+  pub unless-number : (y z : ℕ) {x : ℕ} → unless (first cs) y ≡ number x → unless (first (cs ++ ds)) z ≡ number x
+  unless-number y z {x} e = by-first (first cs) refl e
+    where
+      by-first : (f : ℕ) → first cs ≡ f → unless f y ≡ number x → unless (first (cs ++ ds)) z ≡ number x
+      by-first zero p e = absurd (answered-not-number e)
+      by-first (suc f) p e = rw (first-stops cs ds p) (cc)
+
+  pub unless-passed : first cs ≡ 0 → first (cs ++ ds) ≡ first ds
+  unless-passed e = first-skip cs ds (first-passed cs all e)
+
+-- no check has the number 0
+own-numbered : (k : Kind) (h name : List ℕ) (n : Lengths) → numbered (ownChecks k h name n) ≡ true
+unfolding ownChecks acquisition.checks image.checks waveform.checks
+own-numbered ConfigurationName h name n = refl
+own-numbered ConfigurationText h name n = refl
+own-numbered HeaderText h name n = refl
+own-numbered Close h name n = refl
+own-numbered Text h name n = refl
+own-numbered Acquisition h name n = refl
+own-numbered Image h name n = refl
+own-numbered Waveform h name n = refl
+
+sized-numbered : (k : Kind) (h name : List ℕ) (n : Lengths) → numbered (sizedChecks k h name n) ≡ true
+unfolding sizedChecks
+sized-numbered k h name n = numbered-append (ownChecks k h name n) _ (own-numbered k h name n) refl
+
+pub contents-numbered : (k : Kind) (h name : List ℕ) (n : Lengths) → numbered (contentsChecks k h name n) ≡ true
+unfolding contentsChecks
+contents-numbered k h name n = numbered-append (sizedChecks k h name n) _ (sized-numbered k h name n) refl
+
+-- the size of a message, where checks 4 to 10 pass: of what is given, of a given name, of a given text, and of a fixed part f
+unfoldable pub sized : Kind → (h name : List ℕ) → Lengths → Answer ℕ
+sized k h name n = unless (first (sizedChecks k h name n)) (sizeOf k h n)
+
+unfoldable pub nameSized : List ℕ → Answer ℕ
+nameSized name = unless (first ((5 when nameUnfit name) ∷ [])) 1026
+
+unfoldable pub textSized : ℕ → Answer ℕ
+textSized z = unless (first ((10 when ltb limit (6 + z)) ∷ [])) (6 + z)
+
+unfoldable pub sizedBy : Kind → List ℕ → Answer ℕ
+sizedBy k f = unless (first (message.ownChecks k f ++ ((10 when ltb limit (message.sizeOf k f)) ∷ []))) (message.sizeOf k f)
+
+-- a header that has not its kind's length
+pub judged-header : (k : Kind) (h name : List ℕ) (n : Lengths) → (length h ≡ headerSize k → ⊥) → judged k h name n ≡ number 3
+unfolding judged contentsChecks
+judged-header k h name n d = rw (ne-eqb _ _ d)
+
+-- and one that has: checks 4 to 10 decide, and then 18
+module _ (k : Kind) (h name : List ℕ) (n : Lengths) (e : length h ≡ headerSize k) where
+  pub judged-refused : {x : ℕ} → sized k h name n ≡ number x → judged k h name n ≡ number x
+  unfolding judged contentsChecks sized
+  judged-refused p = rw (eq-eqb _ _ e) (unless-number (sizedChecks k h name n) _ (sized-numbered k h name n) (sizeOf k h n) (sizeOf k h n) p)
+
+  pub judged-sized : {z : ℕ} → sized k h name n ≡ answered z →
+      judged k h name n ≡ unless (first ((18 when not (sameLengths n (dueLengths k h n))) ∷ [])) z
+  unfolding judged contentsChecks sized
+  judged-sized p =
+      let d = unless-answered (first (sizedChecks k h name n)) (sizeOf k h n) p in
+      rw (eq-eqb _ _ e, unless-passed (sizedChecks k h name n) _ (sized-numbered k h name n) (d .0), d .1)
+
+  pub judged-same : {z : ℕ} → sized k h name n ≡ answered z → sameLengths n (dueLengths k h n) ≡ true → judged k h name n ≡ answered z
+  judged-same p s = judged-sized p ∙ rw s
+
+  pub judged-differ : {z : ℕ} → sized k h name n ≡ answered z → sameLengths n (dueLengths k h n) ≡ false → judged k h name n ≡ number 18
+  judged-differ p s = judged-sized p ∙ rw s
+
+-- the size answered is the message's
+pub sized-size : (k : Kind) (h name : List ℕ) (n : Lengths) {z : ℕ} → sized k h name n ≡ answered z → z ≡ sizeOf k h n
+unfolding sized
+sized-size k h name n e = sym (unless-answered (first (sizedChecks k h name n)) (sizeOf k h n) e .1)
+
+-- a name that is too long, one that holds a zero, and one that is sound
+pub name-long : (name : List ℕ) → 1024 ≤ length name → nameSized name ≡ number 5
+unfolding nameSized nameUnfit
+name-long name l = rw (lt-ltb 1023 (length name) l)
+
+pub name-zero : (name : List ℕ) → length name < 1024 → indexOf 0 name < length name → nameSized name ≡ number 5
+unfolding nameSized nameUnfit
+name-zero name l z = let short : length name ≤ 1023 = omega arith in rw (le-ltb 1023 (length name) short, lt-ltb _ _ z)
+
+pub name-sound : (name : List ℕ) → length name < 1024 → length name ≤ indexOf 0 name → nameSized name ≡ answered 1026
+unfolding nameSized nameUnfit
+name-sound name l z = let short : length name ≤ 1023 = omega arith in rw (le-ltb 1023 (length name) short, le-ltb _ _ z)
+
+-- a text over the limit, and one within it
+pub text-long : (z : ℕ) → 268435450 < z → textSized z ≡ number 10
+unfolding textSized
+text-long z l = let over : limit < 6 + z = omega arith in rw (lt-ltb limit (6 + z) over)
+
+pub text-sound : (z : ℕ) → z ≤ 268435450 → textSized z ≡ answered (6 + z)
+unfolding textSized
+text-sound z l = let within : 6 + z ≤ limit = omega arith in rw (le-ltb limit (6 + z) within)
+
+-- a fixed part: one of checks 4 to 9 refuses, or check 10 decides
+unless-refused : (n z : ℕ) → (n ≡ 0 → ⊥) → unless n z ≡ number n
+unless-refused zero z h = absurd (h refl)
+unless-refused (suc n) z h = refl
+
+module _ (k : Kind) (f : List ℕ) where
+  pub fixed-own : (x : ℕ) → first (message.ownChecks k f) ≡ x → (x ≡ 0 → ⊥) → sizedBy k f ≡ number x
+  unfolding sizedBy
+  fixed-own x e n =
+      unless-number (message.ownChecks k f) _ (format.own-numbered k f) (message.sizeOf k f) (message.sizeOf k f)
+      (ap (λ (y : ℕ). unless y (message.sizeOf k f)) e ∙ unless-refused x (message.sizeOf k f) n)
+
+  module _ (own : first (message.ownChecks k f) ≡ 0) where
+    limited : sizedBy k f ≡ unless (first ((10 when ltb limit (message.sizeOf k f)) ∷ [])) (message.sizeOf k f)
+    unfolding sizedBy
+    limited = rw (unless-passed (message.ownChecks k f) _ (format.own-numbered k f) own)
+
+    pub fixed-limit : (z : ℕ) → z ≡ capped (message.sizeOf k f) → limit < z → sizedBy k f ≡ number 10
+    fixed-limit z e h = let over : limit < message.sizeOf k f = omega arith in limited ∙ rw (lt-ltb _ _ over)
+
+    pub fixed-whole : (z : ℕ) → z ≡ capped (message.sizeOf k f) → z ≤ limit → sizedBy k f ≡ answered z
+    fixed-whole z e h = let same : message.sizeOf k f ≡ z = omega arith in limited ∙ rw (same, le-ltb _ _ h)
+
+-- what the kinds share: a message that goes by its name, by its text, by nothing, and by a fixed part with the same checks and size
+pub sized-name : (h name : List ℕ) (n : Lengths) → sized ConfigurationName h name n ≡ nameSized name
+unfolding sized sizedChecks ownChecks sizeOf dueLengths nameSized
+sized-name h name n = by-test (nameUnfit name)
+  where
+    by-test : (b : Bool) → unless (first ((5 when b) ∷ (10 when ltb limit 1026) ∷ [])) 1026 ≡ unless (first ((5 when b) ∷ [])) 1026
+    by-test true = refl
+    by-test false = refl
+
+pub sized-text : (h name : List ℕ) (n : Lengths) →
+    (sized ConfigurationText h name n ≡ textSized (n .text)) ×
+    ((sized HeaderText h name n ≡ textSized (n .text)) × ((sized Text h name n ≡ textSized (n .text)) × Unit {0}))
+unfolding sized sizedChecks ownChecks textSized sizeOf dueLengths
+sized-text h name n =
+    let size : 6 + (n .text + 0) ≡ 6 + n .text = omega arith in
+    let same = ap (λ (z : ℕ). unless (first ((10 when ltb limit z) ∷ [])) z) size in
+    (same, (same, (same, tt)))
+
+pub sized-close : (h name : List ℕ) (n : Lengths) → sized Close h name n ≡ answered 2
+unfolding sized sizedChecks ownChecks sizeOf dueLengths
+sized-close h name n = refl
+
+pub sized-headed : (k : Kind) (h name : List ℕ) (n : Lengths) (f : List ℕ) → ownChecks k h name n ≡ message.ownChecks k f →
+    sizeOf k h n ≡ message.sizeOf k f → sized k h name n ≡ sizedBy k f
+unfolding sized sizedChecks sizedBy
+sized-headed k h name n f own size = rw (own, size)
+
+pub sized-acquisition : (h name : List ℕ) (n : Lengths) → sized Acquisition h name n ≡ sizedBy Acquisition h
+unfolding ownChecks message.ownChecks sizeOf dueLengths message.sizeOf message.bodySize
+sized-acquisition h name n = sized-headed Acquisition h name n h refl (omega arith)
+
+pub sized-waveform : (h name : List ℕ) (n : Lengths) → sized Waveform h name n ≡ sizedBy Waveform h
+unfolding ownChecks message.ownChecks sizeOf dueLengths message.sizeOf message.bodySize
+sized-waveform h name n = sized-headed Waveform h name n h refl (omega arith)
+
+-- the lengths that are due, by the size z of the message
+module _ (k : Kind) (h : List ℕ) (n : Lengths) {z : ℕ} (whole : z ≡ sizeOf k h n) where
+  pub due-acquisition : k ≡ Acquisition → (342 + acquisition.trajectorySize h ≤ z) ×
+      (partLengths 0 0 (acquisition.trajectorySize h) (z - 342 - acquisition.trajectorySize h) 0 0 0 ≡ dueLengths k h n)
+  unfolding sizeOf dueLengths
+  due-acquisition e =
+      let t = acquisition.trajectorySize h in
+      let c = acquisition.get acquisition.active-channels h * acquisition.channelSize h in
+      let size : z ≡ sizeOf Acquisition h n = rw e at whole in
+      let rest : z - 342 - t ≡ c = omega arith in
+      (omega arith, rw e (ap (λ (s : ℕ). partLengths 0 0 t s 0 0 0) rest))
+
+  pub due-image : k ≡ Image → (208 + n .attributes ≤ z) × (partLengths 0 0 0 0 (n .attributes) (z - 208 - n .attributes) 0 ≡ dueLengths k h n)
+  unfolding sizeOf dueLengths
+  due-image e =
+      let size : z ≡ sizeOf Image h n = rw e at whole in
+      let rest : z - 208 - n .attributes ≡ image.pixelsSize h = omega arith in
+      (omega arith, rw e (ap (λ (s : ℕ). partLengths 0 0 0 0 (n .attributes) s 0) rest))
+
+  pub due-waveform : k ≡ Waveform → (34 ≤ z) × (partLengths 0 0 0 0 0 0 (z - 34) ≡ dueLengths k h n)
+  unfolding sizeOf dueLengths
+  due-waveform e =
+      let size : z ≡ sizeOf Waveform h n = rw e at whole in
+      let rest : z - 34 ≡ waveform.bodySize h = omega arith in
+      (omega arith, rw e (ap (λ (s : ℕ). partLengths 0 0 0 0 0 0 s) rest))

@@ -1,0 +1,3 @@
+pub mod WriteChecks
+pub mod JudgeLaws
+pub mod ImageLaws

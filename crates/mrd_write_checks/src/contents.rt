@@ -1,0 +1,134 @@
+// What is given for one message, judged: check 3, checks 4 to 10 by what the kind has, and check 18
+// by the lengths that are then due.
+ghost use mathlib.Core.Path.{_≡_};
+ghost use mathlib.Core.List.{[], _++_};
+ghost use lib.ListN.{length};
+ghost use Rattle.mrd_numbers.specs.Little.{toBytes};
+ghost use Rattle.mrd_format.specs.declared.kind.Kind;
+ghost use Rattle.mrd_format.specs.Kinds.{fixedSize, headerSize};
+ghost use Rattle.mrd_write_checks.specs.WriteChecks.{judgedMeaning, sizeOf, dueLengths, judged};
+ghost use Rattle.mrd_write_checks.specs.JudgeLaws.{sized, sizedBy, nameSized, textSized};
+use crate::lengths::Lengths;
+use mrd_acquisition::trajectory_size;
+use mrd_format::Kind;
+use mrd_format::refusal;
+use mrd_format::size::MAX_MESSAGE_SIZE;
+use mrd_numbers::put_u64;
+
+pub enum ContentsJudged {
+    // The size of the message, id included.
+    Size(usize),
+    // Refused with a number.
+    Refused(u8),
+}
+
+// The size of the message of this kind with this header, this name and parts of the given lengths, or
+// the first refusal, 14 left out.
+pub fn judge(kind: Kind, header: &[u8], name: &[u8], given: Lengths) -> ContentsJudged
+    ensures { λ r. ⌜ judgedMeaning r ≡ judged kind (now (header .entry)) (now (name .entry)) given ⌝ }
+{
+    if header.len() != kind.header_size() {
+        return ContentsJudged::Refused(refusal::FIXED_PART_CUT);
+    }
+    let checked = checked_size(kind, header, name, given);
+    match checked {
+        ContentsJudged::Size(size) => {
+            if given.same(due(kind, header, size, given)) {
+                ContentsJudged::Size(size)
+            } else {
+                ContentsJudged::Refused(refusal::BODY_LENGTH)
+            }
+        }
+        ContentsJudged::Refused(number) => ContentsJudged::Refused(number),
+    }
+}
+
+// The size of the message, or the first of checks 4 to 10 that refuses it.
+fn checked_size(kind: Kind, header: &[u8], name: &[u8], given: Lengths) -> ContentsJudged
+    requires { ⌜ length (now header) ≡ headerSize kind ⌝ }
+    ensures { λ r. ⌜ judgedMeaning r ≡ sized kind (now (header .entry)) (now (name .entry)) given ⌝ }
+{
+    match kind {
+        Kind::ConfigurationName => checked_name(name),
+        Kind::ConfigurationText | Kind::HeaderText | Kind::Text => checked_text(given.text),
+        Kind::Close => ContentsJudged::Size(2),
+        Kind::Acquisition => checked_fixed(Kind::Acquisition, header),
+        Kind::Image => checked_fixed(Kind::Image, &image_fixed(header, given.attributes)),
+        Kind::Waveform => checked_fixed(Kind::Waveform, header),
+    }
+}
+
+// A name: at most 1,023 bytes, none of them zero.
+fn checked_name(name: &[u8]) -> ContentsJudged
+    ensures { λ r. ⌜ judgedMeaning r ≡ nameSized (now (name .entry)) ⌝ }
+{
+    if Kind::NAME_FIXED <= name.len() {
+        return ContentsJudged::Refused(refusal::NAME);
+    }
+    if bytes::scan::find(name, 0, name.len(), 0) < name.len() {
+        return ContentsJudged::Refused(refusal::NAME);
+    }
+    ContentsJudged::Size(2 + Kind::NAME_FIXED)
+}
+
+// A text of any of the three kinds: its message is within the limit.
+fn checked_text(text: usize) -> ContentsJudged
+    ensures { λ r. ⌜ judgedMeaning r ≡ textSized text ⌝ }
+{
+    let head = 2 + Kind::TEXT_FIXED;
+    if MAX_MESSAGE_SIZE - (head as u64) < text as u64 {
+        return ContentsJudged::Refused(refusal::TOO_LARGE);
+    }
+    ContentsJudged::Size(head + text)
+}
+
+// A message with the fixed part h.
+fn checked_fixed(kind: Kind, h: &[u8]) -> ContentsJudged
+    requires { ⌜ length (now h) ≡ fixedSize kind ⌝ }
+    ensures { λ r. ⌜ judgedMeaning r ≡ sizedBy kind (now (h .entry)) ⌝ }
+{
+    let fault = mrd_message::fault(kind, h);
+    if fault != 0 {
+        return ContentsJudged::Refused(fault);
+    }
+    let size = mrd_message::size(kind, h);
+    if MAX_MESSAGE_SIZE < size as u64 {
+        return ContentsJudged::Refused(refusal::TOO_LARGE);
+    }
+    ContentsJudged::Size(size)
+}
+
+// An image's fixed part: the header, and the attributes' length after it.
+fn image_fixed(header: &[u8], attributes: usize) -> [u8; 206]
+    requires { ⌜ length (now header) ≡ 198 ⌝ }
+    ensures { λ r. ⌜ r ≡ now (header .entry) ++ toBytes 8 attributes ⌝ }
+{
+    let mut fixed = [0u8; 206];
+    bytes::copy(header, &mut fixed);
+    put_u64(&mut fixed[Kind::IMAGE_HEADER..], attributes as u64);
+    fixed
+}
+
+// The lengths that the parts of a message of this size must have: what the header says, and none for
+// a part that the kind lacks.
+fn due(kind: Kind, header: &[u8], size: usize, given: Lengths) -> Lengths
+    requires { ⌜ (length (now header) ≡ headerSize kind) × (size ≡ sizeOf kind (now header) given) ⌝ }
+    ensures { λ r. ⌜ r ≡ dueLengths kind (now (header .entry)) given ⌝ }
+{
+    let mut due = Lengths::none();
+    match kind {
+        Kind::ConfigurationName => due.name = given.name,
+        Kind::ConfigurationText | Kind::HeaderText | Kind::Text => due.text = given.text,
+        Kind::Close => {}
+        Kind::Acquisition => {
+            due.trajectory = trajectory_size(header);
+            due.samples = size - (2 + Kind::ACQUISITION_FIXED) - due.trajectory;
+        }
+        Kind::Image => {
+            due.attributes = given.attributes;
+            due.pixels = size - (2 + Kind::IMAGE_FIXED) - given.attributes;
+        }
+        Kind::Waveform => due.waveform = size - (2 + Kind::WAVEFORM_FIXED),
+    }
+    due
+}

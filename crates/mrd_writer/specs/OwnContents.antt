@@ -1,0 +1,145 @@
+-- The other way: the header and the parts of a well-formed message, given to the writer, are not refused, and make that message's normal form.
+-- Assumes nothing.
+use Prim.Native.Nat.{ℕ, _+_, _*_, _^_, _≤_, _<_}
+use native.Mathlib.Nat.{le-of-eq}
+use native.Mathlib.Omega.{arith}
+use mathlib.Core.Path.{_≡_, refl, sym, ap, ap₂, _∙_}
+use mathlib.Core.Bool.{Bool, true, false}
+use mathlib.Core.List.{List, [], _∷_, _++_}
+use borrow.Author.Tests.{le-ltb}
+use lib.Dec.{eqb}
+use lib.ListN.{length, take, drop, length-drop, take-append-drop}
+use lib.Seq.{length-take-le, take-take, take-all}
+use Rattle.bytes.specs.Bytes.{indexOf, indexAfter}
+use Rattle.mrd_numbers.specs.Little.{toBytes, Bytes}
+use Rattle.mrd_numbers.specs.ByteLaws.{bytes-take, bytes-drop, write-num}
+use Rattle.mrd_logic.specs.Checks.{first}
+use Rattle.mrd_logic.specs.CheckLaws.{first-passed}
+use Rattle.mrd_format.specs.CheckLaws.{own-numbered}
+use Rattle.mrd_format.specs.declared.kind.Kind.{Kind}
+use Rattle.mrd_format.specs.declared.kind.Kind.the-variants.{ConfigurationName, ConfigurationText, HeaderText, Close, Text, Acquisition, Image, Waveform}
+use Rattle.mrd_format.specs.Segments.{nameLength}
+use Rattle.mrd_format.specs.Texts.{textLength}
+use Rattle.mrd_format.specs.Message as message
+use Rattle.mrd_format.specs.Message.{limit, fixedPart, WellFormed}
+use Rattle.mrd_format.specs.Parts.{Contents}
+use Rattle.mrd_format.specs.Content.{extentOf, contentsOf, normalOf, messageOf}
+use Rattle.mrd_format.specs.NormalLaws.{nameBytes, name-short}
+use Rattle.mrd_format.specs.Rewritten.{rewritten-normal}
+use Rattle.mrd_format.specs.Acquisition as acquisition
+use Rattle.mrd_format.specs.Image as image
+use Rattle.mrd_format.specs.Waveform as waveform
+use Rattle.mrd_write_checks.specs.WriteChecks.{nameUnfit, ownChecks, sizeOf, partLengths, lengthsOf, dueLengths}
+use Rattle.mrd_write_checks.specs.ImageLaws.{pixels-size, image-size}
+use Rattle.mrd_writer.specs.Sound.{Sound}
+
+-- a part that lies in the message has its size
+part-length : (m : List ℕ) (at n : ℕ) → at + n ≤ length m → length (take n (drop at m)) ≡ n
+part-length m at n h = length-take-le n (drop at m) (simp length-drop (omega arith))
+
+-- bytes up to the first zero hold none
+index-taken : (h : List ℕ) → length (take (indexOf 0 h) h) ≤ indexOf 0 (take (indexOf 0 h) h)
+unfolding indexOf indexAfter
+index-taken [] = omega arith
+index-taken (x ∷ h) = by-test (eqb x 0) refl (index-taken h)
+  where
+    by-test : (t : Bool) → eqb x 0 ≡ t → length (take (indexOf 0 h) h) ≤ indexOf 0 (take (indexOf 0 h) h) →
+        length (take (indexAfter t (indexOf 0 h)) (x ∷ h)) ≤ indexOf 0 (take (indexAfter t (indexOf 0 h)) (x ∷ h))
+    by-test true e ih = omega arith
+    by-test false e ih = rw e (omega arith)
+
+-- a message's name
+name-fit : (m : List ℕ) → length m ≡ 1026 → nameLength (nameBytes m) < 1024 → nameUnfit (take (nameLength (nameBytes m)) (drop 2 m)) ≡ false
+unfolding nameUnfit nameLength fixedPart
+name-fit m whole short =
+    let h = take 1024 (drop 2 m) in
+    let n = indexOf 0 h in
+    let same : take n h ≡ take n (drop 2 m) = take-take n 1024 (drop 2 m) (omega arith) in
+    let long : length (take n (drop 2 m)) ≤ 1023 = omega (arith, part-length m 2 n (omega arith)) in
+    let free : length (take n (drop 2 m)) ≤ indexOf 0 (take n (drop 2 m)) = rw same at (index-taken h) in
+    rw (le-ltb 1023 (length (take n (drop 2 m))) long, le-ltb (indexOf 0 (take n (drop 2 m))) (length (take n (drop 2 m))) free)
+
+-- an image, of its kind's size: a is its attributes' length, and f its fixed part
+module _ (m : List ℕ) (bytes : Bytes m) (a p : ℕ) (whole : 208 + (a + p) ≡ length m) (counted : a ≡ image.attributeLength (take 206 (drop 2 m)))
+    (pixels : p ≡ image.pixelsSize (take 206 (drop 2 m))) (small : length m ≤ limit) where
+  abbrev header : List ℕ
+  header = take 198 (drop 2 m)
+
+  abbrev attributes : List ℕ
+  attributes = take a (drop 208 m)
+
+  header-long : length header ≡ 198
+  header-long = part-length m 2 198 (omega arith)
+
+  attributes-long : length attributes ≡ a
+  attributes-long = part-length m 208 a (omega arith)
+
+  attributes-fit : length attributes < 256 ^ 8
+  attributes-fit = omega (arith, attributes-long)
+
+  -- the length that is worked out is the one that it has
+  image-fixed : header ++ toBytes 8 (length attributes) ≡ take 206 (drop 2 m)
+  image-fixed =
+      let f = take 206 (drop 2 m) in
+      let long : length f ≡ 206 = part-length m 2 206 (omega arith) in
+      let front : header ≡ take 198 f = sym (take-take 198 206 (drop 2 m) (omega arith)) in
+      let count : toBytes 8 (length attributes) ≡ drop 198 f = ap (toBytes 8) (attributes-long ∙ counted) ∙
+      write-num 8 f 198 (bytes-take 206 (drop 2 m) (bytes-drop 2 m bytes)) (omega arith) ∙
+      take-all 8 (drop 198 f) (simp length-drop (omega arith)) in
+      ap₂ (λ (x y : List ℕ). x ++ y) front count ∙ take-append-drop 198 f
+
+  pixels-due : length (take p (drop (208 + a) m)) ≡ image.pixelsSize header
+  pixels-due =
+      part-length m (208 + a) p (omega arith) ∙ pixels ∙ ap image.pixelsSize (sym image-fixed) ∙
+      pixels-size header (length attributes) header-long attributes-fit
+
+-- what every well-formed message is made of passes every check
+own-sound : (k : Kind) (m : List ℕ) → Bytes m → first (message.ownChecks k (fixedPart k m)) ≡ 0 → message.sizeOf k (fixedPart k m) ≤ limit →
+    message.sizeOf k (fixedPart k m) ≡ length m → Sound k (contentsOf k m)
+unfolding contentsOf extentOf fixedPart ownChecks sizeOf dueLengths message.sizeOf message.bodySize message.ownChecks
+own-sound ConfigurationName m bytes sound small whole =
+    record { header = refl; own = (name-fit m (sym whole) (name-short m sound), tt); small = omega arith; lengths = refl }
+own-sound ConfigurationText m bytes sound small whole =
+    record { header = refl; own = tt; small = omega (arith, part-length m 6 (textLength (take 4 (drop 2 m))) (le-of-eq whole)); lengths = refl }
+own-sound HeaderText m bytes sound small whole =
+    record { header = refl; own = tt; small = omega (arith, part-length m 6 (textLength (take 4 (drop 2 m))) (le-of-eq whole)); lengths = refl }
+own-sound Close m bytes sound small whole = record { header = refl; own = tt; small = small; lengths = refl }
+own-sound Text m bytes sound small whole =
+    record { header = refl; own = tt; small = omega (arith, part-length m 6 (textLength (take 4 (drop 2 m))) (le-of-eq whole)); lengths = refl }
+own-sound Acquisition m bytes sound small whole =
+    let f = take 340 (drop 2 m) in
+    let t = acquisition.trajectorySize f in
+    let z = acquisition.get acquisition.active-channels f * acquisition.channelSize f in
+    let trajectory = part-length m 342 t (omega (arith, whole)) in
+    let samples = part-length m (342 + t) z (omega (arith, whole)) in
+    record {
+      header = part-length m 2 340 (omega (arith, whole));
+      own = first-passed (acquisition.checks f) (own-numbered Acquisition f) sound;
+      small = omega (arith, small);
+      lengths = ap₂ (λ (j s : ℕ). partLengths 0 0 j s 0 0 0) trajectory samples;
+    }
+own-sound Image m bytes sound small whole =
+    let f = take 206 (drop 2 m) in
+    let a = image.attributeLength f in
+    let p = image.pixelsSize f in
+    let within : length m ≤ limit = omega (arith, small, whole) in
+    let fixed = image-fixed m bytes a p whole refl refl within in
+    record {
+      header = header-long m bytes a p whole refl refl within;
+      own = rw fixed (first-passed (image.checks f) (own-numbered Image f) sound);
+      small = omega (arith, whole, small, attributes-long m bytes a p whole refl refl within, pixels-due m bytes a p whole refl refl within, part-length m (208 + a) p (omega (arith, whole)));
+      lengths = ap (λ (n : ℕ). partLengths 0 0 0 0 (length (take a (drop 208 m))) n 0) (pixels-due m bytes a p whole refl refl within);
+    }
+own-sound Waveform m bytes sound small whole =
+    let f = take 32 (drop 2 m) in
+    record {
+      header = part-length m 2 32 (omega (arith, whole));
+      own = first-passed (waveform.checks f) (own-numbered Waveform f) sound;
+      small = omega (arith, small);
+      lengths = ap (λ (n : ℕ). partLengths 0 0 0 0 0 0 n) (part-length m 34 (waveform.bodySize f) (le-of-eq whole));
+    }
+
+-- writing the header and the parts of a well-formed message is not refused, and gives its normal form
+pub own-contents : (m : List ℕ) (w : WellFormed m) → Bytes m →
+    Sound (w .kind) (contentsOf (w .kind) m) × (messageOf (w .kind) (contentsOf (w .kind) m) ≡ normalOf (w .kind) m)
+own-contents m w bytes = (own-sound (w .kind) m bytes (w .sound) (w .small) (w .whole), rewritten-normal m bytes w)

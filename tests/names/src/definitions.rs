@@ -148,6 +148,19 @@ impl Sources {
             .collect()
     }
 
+    pub fn has_crate(&self, name: &str) -> bool {
+        self.root.join("crates").join(name).is_dir()
+    }
+
+    /// Whether a file or folder is there, named from the repository's top, from `crates/` on, or by the file's name
+    /// alone.
+    pub fn has_path(&self, path: &str) -> bool {
+        let named = |known: &String| known.ends_with(&format!("/{path}"));
+        self.root.join(path).exists()
+            || self.root.join("crates").join(path).exists()
+            || self.files.keys().any(named)
+    }
+
     /// The one file of definitions that declares this name.
     pub fn home(&self, name: &str) -> &str {
         let mut found = self.declaring(name);

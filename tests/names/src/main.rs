@@ -125,6 +125,32 @@ fn generated(sources: &Sources) -> Vec<(&'static str, String)> {
     files
 }
 
+/// The part of a page from a heading to the next of its rank; all of it where none is named.
+fn section<'a>(page: &'a str, heading: &str) -> &'a str {
+    let from = page.find(heading).expect("the heading");
+    let rest = &page[from..];
+    match rest[heading.len()..].find("\n## ") {
+        Some(end) if !heading.is_empty() => &rest[..heading.len() + end],
+        _ => rest,
+    }
+}
+
+/// The names that the pages of promises cite and the sources do not declare.
+fn strays(sources: &Sources) -> usize {
+    let mut count = 0;
+    for (page, heading) in [
+        ("README.md", "## What is promised"),
+        ("docs/DEMANDS.md", ""),
+    ] {
+        let text = read(sources.root(), page);
+        for name in tables::strays(section(&text, heading), sources) {
+            println!("{page} cites `{name}`, which nothing in crates/ declares");
+            count += 1;
+        }
+    }
+    count
+}
+
 /// The first line in which two texts differ, for whoever has to look.
 fn first_difference(kept: &str, due: &str) -> String {
     let lines = kept.lines().chain(std::iter::repeat("(no such line)"));
@@ -153,6 +179,10 @@ fn main() -> ExitCode {
             std::fs::create_dir_all(root.join(path).parent().expect("a folder")).expect("a folder");
             std::fs::write(root.join(path), due).expect("a file that can be written");
         }
+    }
+    if strays(&sources) > 0 {
+        println!("names: FAILED, the pages cite what is not there");
+        return ExitCode::FAILURE;
     }
     match (differing, write) {
         (0, _) => println!(

@@ -337,3 +337,33 @@ fn home<'a>(name: &str, path: &'a str, sources: &'a Sources) -> &'a str {
         _ => panic!("`{name}` is not declared in {path}, but in {found:?}"),
     }
 }
+
+/// The words in backticks of a page that should be names of the sources and are none: a name alone, or a type's and
+/// a function's as `Cursor::next`. A crate's name is one too, and so is a file's, with its path or without.
+pub fn strays<'a>(page: &'a str, sources: &Sources) -> Vec<&'a str> {
+    let pieces = page.split('`').skip(1).step_by(2);
+    let mut found: Vec<&str> = pieces.filter(|piece| !known(piece, sources)).collect();
+    found.sort();
+    found.dedup();
+    found
+}
+
+/// Words that are neither declared in the sources nor wrong: the language's own, and a struct member.
+const PLAIN_WORDS: [&str; 2] = ["requires", "refusal"];
+
+fn known(piece: &str, sources: &Sources) -> bool {
+    if piece.contains('/') || piece.ends_with(".antt") || piece.ends_with(".rt") {
+        // `crates/NAME/src/` stands for every crate's.
+        return piece.contains(' ') || piece.contains("/NAME/") || sources.has_path(piece);
+    }
+    let name = piece.rsplit("::").next().unwrap_or(piece);
+    let name = name.split('(').next().unwrap_or(name);
+    let is_name = !name.is_empty()
+        && name
+            .chars()
+            .all(|c| c.is_alphanumeric() || "-_".contains(c));
+    !is_name
+        || PLAIN_WORDS.contains(&name)
+        || sources.has_crate(name)
+        || !sources.declaring(name).is_empty()
+}

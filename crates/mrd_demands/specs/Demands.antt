@@ -3,12 +3,12 @@
 -- cuts (`Cut`). That the code gives these answers and writes these bytes is what its contracts say.
 -- Assumes nothing.
 use Prim.Native.Nat.{ℕ}
-use mathlib.Core.Path.{_≡_, refl, sym, ap, _∙_}
+use mathlib.Core.Path.{_≡_, sym, ap, _∙_}
 use mathlib.Core.Logic.{_↔_}
 use mathlib.Core.List.{List, map}
 use lib.ListN.{length}
 use Rattle.mrd_numbers.specs.Little.{Bytes}
-use Rattle.mrd_logic.specs.Answer.{accepted, refused, Answer, answered, stream, number, andThen}
+use Rattle.mrd_logic.specs.Answer.{accepted, refused, Answer, answered, andThen}
 use Rattle.mrd_format.specs.Parts.{Contents}
 use Rattle.mrd_format.specs.Content.{Record, bytesOf}
 use Rattle.mrd_cursor.specs.declared.cursor.Cursor.{Cursor}
@@ -37,6 +37,7 @@ use Rattle.mrd_ask.specs.BeliefLaws.{ask-believed}
 use Rattle.mrd_writer.specs.Write.{writeAnswer, writeOutput}
 use Rattle.mrd_writer.specs.ReadBack.{ReadsBack}
 use Rattle.mrd_writer.specs.ReadBack as writer
+use Rattle.mrd_demands.specs.Refusals.{Refusal, output-kept, written-kept}
 use Rattle.mrd_demands.specs.RecordViews.{Nth, ViewsOf}
 use Rattle.mrd_demands.specs.RecordViews as views
 use Rattle.mrd_demands.specs.Messages.{recordsIn}
@@ -44,21 +45,13 @@ use Rattle.mrd_demands.specs.Normal.{accepted-again, normal-long, normal
 
 -- Demand 1: a refusal changes no output byte
 
--- a refusal: the stream's, or a number alone
-abbrev pub Refusal : Answer ℕ → Type 0
-Refusal (answered n) = ⊥
-Refusal (stream f r b) = Unit {0}
-Refusal (number n) = Unit {0}
-
--- whatever was to be written (a normal form, an index, a column)
+-- whatever was to be written: a normal form, an index, a column
 pub refusal-keeps-output : (a : Answer ℕ) → Refusal a → (w o : List ℕ) → outputBy a w o ≡ o
-refusal-keeps-output (answered n) r w o = absurd r
-refusal-keeps-output (stream f n b) r w o = refl
-refusal-keeps-output (number n) r w o = refl
+refusal-keeps-output = output-kept
 
--- and by the writer
+-- or a message
 pub refused-message-keeps-output : (id : ℕ) (c : Contents) (at : ℕ) (o : List ℕ) → Refusal (writeAnswer id c at o) → writeOutput id c at o ≡ o
-refused-message-keeps-output = writer.refused-output
+refused-message-keeps-output = written-kept
 
 -- Demand 2: reading and writing follow the rules
 

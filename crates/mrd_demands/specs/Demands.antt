@@ -15,11 +15,12 @@ use Rattle.mrd_cursor.specs.declared.cursor.Cursor.{Cursor}
 use Rattle.mrd_cursor.specs.Cursors.{beginning}
 use Rattle.mrd_stream.specs.Walk.{answer, trace}
 use Rattle.mrd_stream.specs.Places.{Located, place}
-use Rattle.mrd_stream.specs.Records.{records}
+use Rattle.mrd_demands.specs.Records.{records}
 use Rattle.mrd_stream.specs.Normal.{normal}
 use Rattle.mrd_stream.specs.Index.{index}
 use Rattle.mrd_stream.specs.Output.{outputBy}
-use Rattle.mrd_stream.specs.Cut.{joined, Cut}
+use Rattle.mrd_logic.specs.Joined.{joined}
+use Rattle.mrd_cut.specs.Cut.{Cut}
 use Rattle.mrd_cut.specs.Accepted.{Acceptable, accepted-iff}
 use Rattle.mrd_cut.specs.Refused.{RefusedAt, refused-iff}
 use Rattle.mrd_cut.specs.Places.{AnsweredCut, places-cut}

@@ -1,3 +1,4 @@
+pub mod Records
 pub mod Messages
 pub mod Normal
 pub mod Refusals

@@ -7,12 +7,8 @@ use mathlib.Core.List.{List, [], _∷_, _++_}
 use Rattle.mrd_format.specs.declared.kind.Kind.{Kind}
 use Rattle.mrd_format.specs.declared.kind.Kind.the-variants.{ConfigurationName, ConfigurationText, HeaderText, Close, Text, Acquisition, Image, Waveform}
 use Rattle.mrd_logic.specs.Every.{Every}
+use Rattle.mrd_logic.specs.Joined.{joined}
 use Rattle.mrd_format.specs.Message.{WellFormed}
-
--- pieces, one after the other
-abbrev pub joined : List (List ℕ) → List ℕ
-joined [] = []
-joined (m ∷ ms) = m ++ joined ms
 
 -- 'a cut' of s
 pub record Cut (s : List ℕ) : Type 0 where

@@ -17,11 +17,11 @@ use Rattle.mrd_cursor.specs.Cursors.{beginning}
 use Rattle.mrd_stream.specs.Index.{Entry, entries, startColumn, idColumn, counterColumn}
 use Rattle.mrd_stream.specs.Places.{Located, over, step}
 use Rattle.mrd_stream.specs.StepLaws.{Passes}
 use Rattle.mrd_index.specs.Counted.{entries-count}
 use Rattle.mrd_index.specs.Entries.{entryAt}
-use Rattle.mrd_index.specs.Columns.{columnsAnswer, Rooms}
+use Rattle.mrd_columns.specs.Columns.{columnsAnswer, Rooms}
 use Rattle.mrd_index.specs.Filling as filling
 use Rattle.mrd_index.specs.Filling.{inColumn, Filling}
 
 -- columns found to have n places
 pub rooms : (n a b c : ℕ) → (ltb a n || (ltb b n || ltb c n)) ≡ false → Rooms n a b c

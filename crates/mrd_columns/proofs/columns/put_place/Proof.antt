@@ -1,12 +1,12 @@
--- `mrd_index::columns::put_place` meets its contract: the columns have the place, and each number is stored there.
+-- `mrd_columns::columns::put_place` meets its contract: the columns have the place, and each number is stored there.
 -- Assumes nothing.
 use native.Mathlib.Omega.{arith}
 use borrow.Author.Needs.{needs}
 use denote.Ref.{now}
 use Rattle.mrd_tagged.specs.TaggedLaws.{set-stored}
-use Rattle.mrd_index.specs.ColumnLaws.{place-there}
-use Rattle.mrd_index.proofs.columns.put_place.Statement.{statement}
-use Rattle.mrd_index.proofs.columns.put_place.Tie as tie
+use Rattle.mrd_columns.specs.ColumnLaws.{place-there}
+use Rattle.mrd_columns.proofs.columns.put_place.Statement.{statement}
+use Rattle.mrd_columns.proofs.columns.put_place.Tie as tie
 
 returns : tie.Need-returns
 returns c =

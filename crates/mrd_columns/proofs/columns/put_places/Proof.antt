@@ -1,4 +1,4 @@
--- `mrd_index::columns::put_places` meets its contract. The loop's invariant: the columns hold the entries of the records that were passed. The measure
+-- `mrd_columns::columns::put_places` meets its contract. The loop's invariant: the columns hold the entries of the records that were passed. The measure
 -- is the bytes of the stream left.
 -- Assumes nothing.
 use Prim.Native.Nat.{_-_}
@@ -8,11 +8,11 @@ use denote.Ref.{now}
 use lib.ListN.{length}
 use Rattle.mrd_stream.specs.StepLaws.{Passes, step-handed, on-less}
 use Rattle.mrd_stream.specs.Told.{toldRecord, toldStep}
 use Rattle.mrd_index.specs.Entries.{passes-within}
 use Rattle.mrd_index.specs.Filling.{same-size}
-use Rattle.mrd_index.specs.ColumnLaws.{FillingAll, start, has-place, next, finish}
-use Rattle.mrd_index.proofs.columns.put_places.Statement.{statement}
-use Rattle.mrd_index.proofs.columns.put_places.Tie as tie
+use Rattle.mrd_columns.specs.ColumnLaws.{FillingAll, start, has-place, next, finish}
+use Rattle.mrd_columns.proofs.columns.put_places.Statement.{statement}
+use Rattle.mrd_columns.proofs.columns.put_places.Tie as tie
 
 abbrev Inv-loop : tie.InvT-loop
 Inv-loop s starts₀ ids₀ counters₀ c₀ starts ids counters c = FillingAll s starts₀ ids₀ counters₀ c starts ids counters

@@ -1,13 +1,13 @@
--- `mrd_index::columns::fill` meets its contract: a column too short leaves all as they are; else each holds the records' numbers.
+-- `mrd_columns::columns::fill` meets its contract: a column too short leaves all as they are; else each holds the records' numbers.
 -- Assumes nothing.
 use mathlib.Core.Path.{refl, sym}
 use borrow.Author.Needs.{needs}
 use denote.Ref.{now}
 use lib.ListN.{length}
 use Rattle.mrd_index.specs.Counted.{entries-count}
-use Rattle.mrd_index.specs.ColumnLaws.{column-short, columns-fit, rooms, filled}
-use Rattle.mrd_index.proofs.columns.fill.Statement.{statement}
-use Rattle.mrd_index.proofs.columns.fill.Tie as tie
+use Rattle.mrd_columns.specs.ColumnLaws.{column-short, columns-fit, rooms, filled}
+use Rattle.mrd_columns.proofs.columns.fill.Statement.{statement}
+use Rattle.mrd_columns.proofs.columns.fill.Tie as tie
 
 returns : tie.Need-returns
 returns c =

@@ -1,12 +1,12 @@
--- `mrd_index::fill_columns` meets its contract: it goes by the stream's answer.
+-- `mrd_columns::fill_columns` meets its contract: it goes by the stream's answer.
 -- Assumes nothing.
 use mathlib.Core.Path.{refl, sym, ap, _∙_}
 use borrow.Author.Needs.{needs}
 use denote.Ref.{now}
 use Rattle.mrd_stream.specs.Told.{toldChecked}
-use Rattle.mrd_index.specs.ColumnLaws.{stream-refused}
-use Rattle.mrd_index.proofs.columns.fill_columns.Statement.{statement}
-use Rattle.mrd_index.proofs.columns.fill_columns.Tie as tie
+use Rattle.mrd_columns.specs.ColumnLaws.{stream-refused}
+use Rattle.mrd_columns.proofs.columns.fill_columns.Statement.{statement}
+use Rattle.mrd_columns.proofs.columns.fill_columns.Tie as tie
 
 check-requires : tie.Need-check-requires
 check-requires c κs = search needs

@@ -180,13 +180,11 @@ pub sized-headed : (k : Kind) (h name : List ℕ) (n : Lengths) (f : List ℕ) �
 unfolding sized sizedChecks sizedBy
 sized-headed k h name n f own size = rw (own, size)
 
-pub sized-acquisition : (h name : List ℕ) (n : Lengths) → sized Acquisition h name n ≡ sizedBy Acquisition h
+pub sized-header : (h name : List ℕ) (n : Lengths) →
+    (sized Acquisition h name n ≡ sizedBy Acquisition h) × ((sized Waveform h name n ≡ sizedBy Waveform h) × Unit {0})
 unfolding ownChecks message.ownChecks sizeOf dueLengths message.sizeOf message.bodySize
-sized-acquisition h name n = sized-headed Acquisition h name n h refl (omega arith)
-
-pub sized-waveform : (h name : List ℕ) (n : Lengths) → sized Waveform h name n ≡ sizedBy Waveform h
-unfolding ownChecks message.ownChecks sizeOf dueLengths message.sizeOf message.bodySize
-sized-waveform h name n = sized-headed Waveform h name n h refl (omega arith)
+sized-header h name n =
+    (sized-headed Acquisition h name n h refl (omega arith), (sized-headed Waveform h name n h refl (omega arith), tt))
 
 -- the lengths that are due, by the size z of the message
 module _ (k : Kind) (h : List ℕ) (n : Lengths) {z : ℕ} (whole : z ≡ sizeOf k h n) where

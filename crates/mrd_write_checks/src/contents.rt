@@ -52,9 +52,8 @@ fn checked_size(kind: Kind, header: &[u8], name: &[u8], given: Lengths) -> Conte
         Kind::ConfigurationName => checked_name(name),
         Kind::ConfigurationText | Kind::HeaderText | Kind::Text => checked_text(given.text),
         Kind::Close => ContentsJudged::Size(2),
-        Kind::Acquisition => checked_fixed(Kind::Acquisition, header),
+        Kind::Acquisition | Kind::Waveform => checked_fixed(kind, header),
         Kind::Image => checked_fixed(Kind::Image, &image_fixed(header, given.attributes)),
-        Kind::Waveform => checked_fixed(Kind::Waveform, header),
     }
 }
 

@@ -1,7 +1,7 @@
 // What is given for one message, judged: check 3, checks 4 to 10 by what the kind has, and check 18
 // by the lengths that are then due.
 ghost use mathlib.Core.Path.{_≡_};
-ghost use mathlib.Core.List.{[], _++_};
+ghost use mathlib.Core.List.{_++_};
 ghost use lib.ListN.{length};
 ghost use Rattle.mrd_numbers.specs.Little.{toBytes};
 ghost use Rattle.mrd_format.specs.declared.kind.Kind;

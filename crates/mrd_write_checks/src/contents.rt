@@ -7,7 +7,7 @@ ghost use Rattle.mrd_numbers.specs.Little.{toBytes};
 ghost use Rattle.mrd_format.specs.declared.kind.Kind;
 ghost use Rattle.mrd_format.specs.Kinds.{fixedSize, headerSize};
 ghost use Rattle.mrd_write_checks.specs.WriteChecks.{judgedMeaning, sizeOf, dueLengths, judged};
-ghost use Rattle.mrd_write_checks.specs.JudgeLaws.{sized, sizedBy, nameSized, textSized};
+ghost use Rattle.mrd_write_checks.specs.Sized.{sized, sizedBy, nameSized, textSized};
 use crate::lengths::Lengths;
 use mrd_acquisition::trajectory_size;
 use mrd_format::Kind;

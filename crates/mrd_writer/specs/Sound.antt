@@ -23,7 +23,7 @@ use Rattle.mrd_format.specs.Content.{fixedOf, bodyOf, contentOf}
 use Rattle.mrd_write_checks.specs.declared.lengths.Lengths.{Lengths}
 use Rattle.mrd_write_checks.specs.WriteChecks.{nameUnfit, ownChecks, bodyLength, sizeOf, lengthsOf, dueLengths, sameLengths, sizedChecks, contentsChecks, judged}
 use Rattle.mrd_write_checks.specs.JudgeLaws.{unless-answered, contents-numbered}
-use Rattle.mrd_put.specs.PutLaws.{Ready}
+use Rattle.mrd_put.specs.Room.{Ready}
 use Rattle.mrd_writer.specs.Write.{judgedContents, sizeGiven, givenChecks}
 
 -- what is given passes checks 3 to 10 and 18

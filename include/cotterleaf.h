@@ -157,31 +157,79 @@ mrd_view_place mrd_view_at(const uint8_t *stream, size_t stream_length, mrd_curs
                            size_t channel);
 mrd_field_answer mrd_field_at(const uint8_t *stream, size_t stream_length, mrd_cursor cursor, size_t offset);
 
-/* ---- The same questions with an index lent: 15 where it is not the stream's own ---- */
+/* ---- The same questions with an index given: 15 where it is not the stream's own ---- */
 
-mrd_placed mrd_place_with_file(const uint8_t *stream, size_t stream_length, size_t n,
-                               const uint8_t *file, size_t file_length);
-mrd_view_place mrd_view_with_file(const uint8_t *stream, size_t stream_length, size_t n, uint32_t part,
-                                  size_t channel, const uint8_t *file, size_t file_length);
-mrd_field_answer mrd_field_with_file(const uint8_t *stream, size_t stream_length, size_t n, size_t offset,
-                                     const uint8_t *file, size_t file_length);
-mrd_found mrd_find_with_file(const uint8_t *stream, size_t stream_length, size_t n,
-                             const uint16_t counters_asked[17], const uint8_t *file, size_t file_length);
+/* What is asked. Any other number asks for a part that no record has. */
+enum {
+    MRD_ASK_PLACE = 1, /* as mrd_place */
+    MRD_ASK_VIEW = 2,  /* as mrd_view */
+    MRD_ASK_FIELD = 3, /* as mrd_field */
+    MRD_ASK_FIND = 4   /* as mrd_find */
+};
 
-mrd_placed mrd_place_with_columns(const uint8_t *stream, size_t stream_length, size_t n,
-                                  const uint64_t *starts, size_t starts_length, const uint16_t *ids,
-                                  size_t ids_length, const uint32_t *counters, size_t counters_length);
-mrd_view_place mrd_view_with_columns(const uint8_t *stream, size_t stream_length, size_t n, uint32_t part,
-                                     size_t channel, const uint64_t *starts, size_t starts_length,
-                                     const uint16_t *ids, size_t ids_length, const uint32_t *counters,
-                                     size_t counters_length);
-mrd_field_answer mrd_field_with_columns(const uint8_t *stream, size_t stream_length, size_t n, size_t offset,
-                                        const uint64_t *starts, size_t starts_length, const uint16_t *ids,
-                                        size_t ids_length, const uint32_t *counters, size_t counters_length);
-mrd_found mrd_find_with_columns(const uint8_t *stream, size_t stream_length, size_t n,
-                                const uint16_t counters_asked[17], const uint64_t *starts,
-                                size_t starts_length, const uint16_t *ids, size_t ids_length,
-                                const uint32_t *counters, size_t counters_length);
+/* A question, about record `number`. Members that it does not need are not looked at. */
+typedef struct {
+    uint32_t what;
+    uint32_t part;         /* of a view */
+    size_t number;
+    size_t channel;        /* of a view of a channel */
+    size_t offset;         /* of a field */
+    uint16_t counters[17]; /* to be found */
+} mrd_question;
+
+/* A question with all that it may need 0, and the four that there are. */
+static inline mrd_question mrd_question_about(uint32_t what, size_t n)
+{
+    mrd_question q;
+    memset(&q, 0, sizeof q);
+    q.what = what;
+    q.number = n;
+    return q;
+}
+
+static inline mrd_question mrd_question_place(size_t n)
+{
+    return mrd_question_about(MRD_ASK_PLACE, n);
+}
+
+static inline mrd_question mrd_question_view(size_t n, uint32_t part, size_t channel)
+{
+    mrd_question q = mrd_question_about(MRD_ASK_VIEW, n);
+    q.part = part;
+    q.channel = channel;
+    return q;
+}
+
+static inline mrd_question mrd_question_field(size_t n, size_t offset)
+{
+    mrd_question q = mrd_question_about(MRD_ASK_FIELD, n);
+    q.offset = offset;
+    return q;
+}
+
+static inline mrd_question mrd_question_find(size_t n, const uint16_t counters[17])
+{
+    mrd_question q = mrd_question_about(MRD_ASK_FIND, n);
+    memcpy(q.counters, counters, sizeof q.counters);
+    return q;
+}
+
+/* What is replied: the answer in the member for what was asked, as the function without an index gives it.
+ * Every member carries the reply's refusal, record and byte; those that were not asked for have no more. */
+typedef struct {
+    uint32_t refusal;
+    size_t record, byte;
+    mrd_placed place;
+    mrd_view_place view;
+    mrd_field_answer field;
+    mrd_found found;
+} mrd_reply;
+
+mrd_reply mrd_ask_with_file(const uint8_t *stream, size_t stream_length, mrd_question question,
+                            const uint8_t *file, size_t file_length);
+mrd_reply mrd_ask_with_columns(const uint8_t *stream, size_t stream_length, mrd_question question,
+                               const uint64_t *starts, size_t starts_length, const uint16_t *ids,
+                               size_t ids_length, const uint32_t *counters, size_t counters_length);
 
 /* ---- Flags and scan counters ---- */
 

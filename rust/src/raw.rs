@@ -83,6 +83,35 @@ pub struct mrd_found {
 
 #[repr(C)]
 #[derive(Clone, Copy, Debug, Default, PartialEq, Eq)]
+pub struct mrd_question {
+    pub what: u32,
+    pub part: u32,
+    pub number: usize,
+    pub channel: usize,
+    pub offset: usize,
+    pub counters: [u16; 17],
+}
+
+/// The numbers of `mrd_question::what`.
+pub const MRD_ASK_PLACE: u32 = 1;
+pub const MRD_ASK_VIEW: u32 = 2;
+pub const MRD_ASK_FIELD: u32 = 3;
+pub const MRD_ASK_FIND: u32 = 4;
+
+#[repr(C)]
+#[derive(Clone, Copy, Debug, Default, PartialEq, Eq)]
+pub struct mrd_reply {
+    pub refusal: u32,
+    pub record: usize,
+    pub byte: usize,
+    pub place: mrd_placed,
+    pub view: mrd_view_place,
+    pub field: mrd_field_answer,
+    pub found: mrd_found,
+}
+
+#[repr(C)]
+#[derive(Clone, Copy, Debug, Default, PartialEq, Eq)]
 pub struct mrd_written {
     pub refusal: u32,
     pub record: usize,
@@ -149,87 +178,24 @@ extern "C" {
         counters: *const u16,
     ) -> mrd_found;
 
-    fn mrd_place_with_file(
+    fn mrd_ask_with_file(
         stream: *const u8,
         stream_length: usize,
-        n: usize,
+        question: mrd_question,
         file: *const u8,
         file_length: usize,
-    ) -> mrd_placed;
-    fn mrd_view_with_file(
+    ) -> mrd_reply;
+    fn mrd_ask_with_columns(
         stream: *const u8,
         stream_length: usize,
-        n: usize,
-        part: u32,
-        channel: usize,
-        file: *const u8,
-        file_length: usize,
-    ) -> mrd_view_place;
-    fn mrd_field_with_file(
-        stream: *const u8,
-        stream_length: usize,
-        n: usize,
-        offset: usize,
-        file: *const u8,
-        file_length: usize,
-    ) -> mrd_field_answer;
-    fn mrd_find_with_file(
-        stream: *const u8,
-        stream_length: usize,
-        n: usize,
-        counters_asked: *const u16,
-        file: *const u8,
-        file_length: usize,
-    ) -> mrd_found;
-
-    fn mrd_place_with_columns(
-        stream: *const u8,
-        stream_length: usize,
-        n: usize,
+        question: mrd_question,
         starts: *const u64,
         starts_length: usize,
         ids: *const u16,
         ids_length: usize,
         counters: *const u32,
         counters_length: usize,
-    ) -> mrd_placed;
-    fn mrd_view_with_columns(
-        stream: *const u8,
-        stream_length: usize,
-        n: usize,
-        part: u32,
-        channel: usize,
-        starts: *const u64,
-        starts_length: usize,
-        ids: *const u16,
-        ids_length: usize,
-        counters: *const u32,
-        counters_length: usize,
-    ) -> mrd_view_place;
-    fn mrd_field_with_columns(
-        stream: *const u8,
-        stream_length: usize,
-        n: usize,
-        offset: usize,
-        starts: *const u64,
-        starts_length: usize,
-        ids: *const u16,
-        ids_length: usize,
-        counters: *const u32,
-        counters_length: usize,
-    ) -> mrd_field_answer;
-    fn mrd_find_with_columns(
-        stream: *const u8,
-        stream_length: usize,
-        n: usize,
-        counters_asked: *const u16,
-        starts: *const u64,
-        starts_length: usize,
-        ids: *const u16,
-        ids_length: usize,
-        counters: *const u32,
-        counters_length: usize,
-    ) -> mrd_found;
+    ) -> mrd_reply;
 
     fn mrd_flag_test(flags: u64, n: u32) -> bool;
     fn mrd_flag_set(flags: u64, n: u32) -> u64;
@@ -348,150 +314,32 @@ pub fn find(stream: &[u8], n: usize, counters: &[u16; 17]) -> mrd_found {
     unsafe { mrd_find(stream.as_ptr(), stream.len(), n, counters.as_ptr()) }
 }
 
-pub fn place_with_file(stream: &[u8], n: usize, file: &[u8]) -> mrd_placed {
-    // SAFETY: each pointer and length are those of a slice that is borrowed for the call.
-    unsafe { mrd_place_with_file(stream.as_ptr(), stream.len(), n, file.as_ptr(), file.len()) }
-}
-
-pub fn view_with_file(
-    stream: &[u8],
-    n: usize,
-    part: u32,
-    channel: usize,
-    file: &[u8],
-) -> mrd_view_place {
-    // SAFETY: each pointer and length are those of a slice that is borrowed for the call.
+pub fn ask_with_file(stream: &[u8], question: mrd_question, file: &[u8]) -> mrd_reply {
+    // SAFETY: each pointer and length are those of a slice that is borrowed for the call; any question may be asked.
     unsafe {
-        mrd_view_with_file(
+        mrd_ask_with_file(
             stream.as_ptr(),
             stream.len(),
-            n,
-            part,
-            channel,
+            question,
             file.as_ptr(),
             file.len(),
         )
     }
 }
 
-pub fn field_with_file(stream: &[u8], n: usize, offset: usize, file: &[u8]) -> mrd_field_answer {
-    // SAFETY: each pointer and length are those of a slice that is borrowed for the call.
-    unsafe {
-        mrd_field_with_file(
-            stream.as_ptr(),
-            stream.len(),
-            n,
-            offset,
-            file.as_ptr(),
-            file.len(),
-        )
-    }
-}
-
-pub fn find_with_file(stream: &[u8], n: usize, asked: &[u16; 17], file: &[u8]) -> mrd_found {
-    // SAFETY: the slices are borrowed for the call, and the array has the seventeen numbers that are read.
-    unsafe {
-        mrd_find_with_file(
-            stream.as_ptr(),
-            stream.len(),
-            n,
-            asked.as_ptr(),
-            file.as_ptr(),
-            file.len(),
-        )
-    }
-}
-
-pub fn place_with_columns(
+pub fn ask_with_columns(
     stream: &[u8],
-    n: usize,
+    question: mrd_question,
     starts: &[u64],
     ids: &[u16],
     counters: &[u32],
-) -> mrd_placed {
-    // SAFETY: each pointer and length are those of a slice that is borrowed for the call.
+) -> mrd_reply {
+    // SAFETY: each pointer and length are those of a slice that is borrowed for the call; any question may be asked.
     unsafe {
-        mrd_place_with_columns(
+        mrd_ask_with_columns(
             stream.as_ptr(),
             stream.len(),
-            n,
-            starts.as_ptr(),
-            starts.len(),
-            ids.as_ptr(),
-            ids.len(),
-            counters.as_ptr(),
-            counters.len(),
-        )
-    }
-}
-
-pub fn view_with_columns(
-    stream: &[u8],
-    n: usize,
-    part: u32,
-    channel: usize,
-    starts: &[u64],
-    ids: &[u16],
-    counters: &[u32],
-) -> mrd_view_place {
-    // SAFETY: each pointer and length are those of a slice that is borrowed for the call.
-    unsafe {
-        mrd_view_with_columns(
-            stream.as_ptr(),
-            stream.len(),
-            n,
-            part,
-            channel,
-            starts.as_ptr(),
-            starts.len(),
-            ids.as_ptr(),
-            ids.len(),
-            counters.as_ptr(),
-            counters.len(),
-        )
-    }
-}
-
-pub fn field_with_columns(
-    stream: &[u8],
-    n: usize,
-    offset: usize,
-    starts: &[u64],
-    ids: &[u16],
-    counters: &[u32],
-) -> mrd_field_answer {
-    // SAFETY: each pointer and length are those of a slice that is borrowed for the call.
-    unsafe {
-        mrd_field_with_columns(
-            stream.as_ptr(),
-            stream.len(),
-            n,
-            offset,
-            starts.as_ptr(),
-            starts.len(),
-            ids.as_ptr(),
-            ids.len(),
-            counters.as_ptr(),
-            counters.len(),
-        )
-    }
-}
-
-pub fn find_with_columns(
-    stream: &[u8],
-    n: usize,
-    asked: &[u16; 17],
-    starts: &[u64],
-    ids: &[u16],
-    counters: &[u32],
-) -> mrd_found {
-    // SAFETY: the slices are borrowed for the call, and the array has the seventeen numbers that are read.
-    unsafe {
-        mrd_find_with_columns(
-            stream.as_ptr(),
-            stream.len(),
-            n,
-            asked.as_ptr(),
+            question,
             starts.as_ptr(),
             starts.len(),
             ids.as_ptr(),

@@ -58,17 +58,28 @@ impl<'a> Stream<'a> {
         counted(&raw::check(self.bytes))
     }
 
-    /// Place and kind of record `n`; 16 where there is none.
-    pub fn place(&self, n: usize) -> Result<Record, Refusal> {
-        let s = self.bytes;
-        Record::told(&match self.index {
-            None => raw::place(s, n),
-            Some(Index::File(file)) => raw::place_with_file(s, n, file),
-            Some(Index::Columns {
+    /// Asks with an index given.
+    fn ask(&self, question: raw::mrd_question, index: Index<'a>) -> raw::mrd_reply {
+        match index {
+            Index::File(file) => raw::ask_with_file(self.bytes, question, file),
+            Index::Columns {
                 starts,
                 ids,
                 counters,
-            }) => raw::place_with_columns(s, n, starts, ids, counters),
+            } => raw::ask_with_columns(self.bytes, question, starts, ids, counters),
+        }
+    }
+
+    /// Place and kind of record `n`; 16 where there is none.
+    pub fn place(&self, n: usize) -> Result<Record, Refusal> {
+        let question = raw::mrd_question {
+            what: raw::MRD_ASK_PLACE,
+            number: n,
+            ..Default::default()
+        };
+        Record::told(&match self.index {
+            None => raw::place(self.bytes, n),
+            Some(index) => self.ask(question, index).place,
         })
     }
 
@@ -80,46 +91,46 @@ impl<'a> Stream<'a> {
 
     /// Where that part lies in the stream. An empty part still has its place.
     pub fn view_place(&self, n: usize, part: Part) -> Result<Range<usize>, Refusal> {
-        let s = self.bytes;
         let (part, channel) = part.numbers();
-        let place = match self.index {
-            None => raw::view(s, n, part, channel),
-            Some(Index::File(file)) => raw::view_with_file(s, n, part, channel, file),
-            Some(Index::Columns {
-                starts,
-                ids,
-                counters,
-            }) => raw::view_with_columns(s, n, part, channel, starts, ids, counters),
+        let question = raw::mrd_question {
+            what: raw::MRD_ASK_VIEW,
+            number: n,
+            part,
+            channel,
+            ..Default::default()
         };
-        range_of(&place)
+        range_of(&match self.index {
+            None => raw::view(self.bytes, n, part, channel),
+            Some(index) => self.ask(question, index).view,
+        })
     }
 
     /// The element of record `n`'s header that starts at `offset`, counted from the header's first byte; 16
     /// where there is no such record, 20 where no element starts there.
     pub fn field(&self, n: usize, offset: usize) -> Result<Field, Refusal> {
-        let s = self.bytes;
+        let question = raw::mrd_question {
+            what: raw::MRD_ASK_FIELD,
+            number: n,
+            offset,
+            ..Default::default()
+        };
         Field::told(&match self.index {
-            None => raw::field(s, n, offset),
-            Some(Index::File(file)) => raw::field_with_file(s, n, offset, file),
-            Some(Index::Columns {
-                starts,
-                ids,
-                counters,
-            }) => raw::field_with_columns(s, n, offset, starts, ids, counters),
+            None => raw::field(self.bytes, n, offset),
+            Some(index) => self.ask(question, index).field,
         })
     }
 
     /// The number of the first acquisition from record `n` on with these seventeen counters; else 16.
     pub fn find(&self, n: usize, asked: &[u16; 17]) -> Result<usize, Refusal> {
-        let s = self.bytes;
+        let question = raw::mrd_question {
+            what: raw::MRD_ASK_FIND,
+            number: n,
+            counters: *asked,
+            ..Default::default()
+        };
         let found = match self.index {
-            None => raw::find(s, n, asked),
-            Some(Index::File(file)) => raw::find_with_file(s, n, asked, file),
-            Some(Index::Columns {
-                starts,
-                ids,
-                counters,
-            }) => raw::find_with_columns(s, n, asked, starts, ids, counters),
+            None => raw::find(self.bytes, n, asked),
+            Some(index) => self.ask(question, index).found,
         };
         Refusal::in_answer(found.refusal, found.record, found.byte)?;
         Ok(found.number)

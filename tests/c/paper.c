@@ -157,6 +157,11 @@ static const uint8_t INDEX[57] = {
     0x04, 0x04, 0x00, 0x02, 0x00, 0x00, 0x00,
 };
 
+static mrd_reply with_file(mrd_question question, const uint8_t *file, size_t length)
+{
+    return mrd_ask_with_file(TWO_RECORDS, 8, question, file, length);
+}
+
 /* The 57 bytes, written and lent: believed as they are, 15 with any one of them changed. */
 static void index_file(void)
 {
@@ -173,21 +178,27 @@ static void index_file(void)
     CHECK(mrd_index_matches(TWO_RECORDS, 8, NULL, 0).refusal == MRD_INDEX_DIFFERS);
     mrd_matched before = mrd_index_matches(TWO_RECORDS, 6, INDEX, 57);
     CHECK(before.refusal == MRD_NO_CLOSE && before.record == 1 && before.byte == 6);
-    CHECK(mrd_place_with_file(TWO_RECORDS, 8, 1, INDEX, 57).start == 6);
-    CHECK(mrd_place_with_file(TWO_RECORDS, 8, 2, INDEX, 57).refusal == MRD_NO_RECORD);
-    CHECK(mrd_view_with_file(TWO_RECORDS, 8, 0, MRD_PART_TEXT, 0, INDEX, 57).start == 6);
-    CHECK(mrd_field_with_file(TWO_RECORDS, 8, 0, 0, INDEX, 57).refusal == MRD_NO_FIELD);
+    CHECK(with_file(mrd_question_place(1), INDEX, 57).place.start == 6);
+    CHECK(with_file(mrd_question_about(0, 1), INDEX, 57).refusal == MRD_NO_PART);
+    CHECK(with_file(mrd_question_about(5, 2), INDEX, 57).refusal == MRD_NO_RECORD);
+    CHECK(with_file(mrd_question_about(5, 2), INDEX, 56).refusal == MRD_INDEX_DIFFERS);
+    mrd_reply refused = mrd_ask_with_file(TWO_RECORDS, 6, mrd_question_place(0), INDEX, 57);
+    CHECK(refused.refusal == MRD_NO_CLOSE && refused.record == 1 && refused.byte == 6);
+    CHECK(refused.place.refusal == MRD_NO_CLOSE && refused.view.byte == 6 && refused.found.record == 1);
+    CHECK(with_file(mrd_question_place(2), INDEX, 57).place.refusal == MRD_NO_RECORD);
+    CHECK(with_file(mrd_question_view(0, MRD_PART_TEXT, 0), INDEX, 57).view.start == 6);
+    CHECK(with_file(mrd_question_field(0, 0), INDEX, 57).field.refusal == MRD_NO_FIELD);
     uint16_t asked[17] = {0};
-    CHECK(mrd_find_with_file(TWO_RECORDS, 8, 0, asked, INDEX, 57).refusal == MRD_NO_RECORD);
+    CHECK(with_file(mrd_question_find(0, asked), INDEX, 57).found.refusal == MRD_NO_RECORD);
     for (size_t i = 0; i < 57; i++) {
         out[i] ^= 1;
         CHECK(mrd_index_matches(TWO_RECORDS, 8, out, 57).refusal == MRD_INDEX_DIFFERS);
-        CHECK(mrd_place_with_file(TWO_RECORDS, 8, 9, out, 57).refusal == MRD_INDEX_DIFFERS);
+        CHECK(with_file(mrd_question_place(9), out, 57).place.refusal == MRD_INDEX_DIFFERS);
         out[i] ^= 1;
     }
-    CHECK(mrd_view_with_file(TWO_RECORDS, 8, 0, 2, 0, out, 56).refusal == MRD_INDEX_DIFFERS);
-    CHECK(mrd_field_with_file(TWO_RECORDS, 8, 0, 0, out, 56).refusal == MRD_INDEX_DIFFERS);
-    CHECK(mrd_find_with_file(TWO_RECORDS, 8, 0, asked, out, 56).refusal == MRD_INDEX_DIFFERS);
+    CHECK(with_file(mrd_question_view(0, 2, 0), out, 56).view.refusal == MRD_INDEX_DIFFERS);
+    CHECK(with_file(mrd_question_field(0, 0), out, 56).field.refusal == MRD_INDEX_DIFFERS);
+    CHECK(with_file(mrd_question_find(0, asked), out, 56).found.refusal == MRD_INDEX_DIFFERS);
 }
 
 /* Columns filled and believed, and 15 with one number changed. */
@@ -203,19 +214,20 @@ static void index_columns(void)
     CHECK(ids[0] == 3 && ids[1] == 4 && ids[2] == 96);
     CHECK(counters[0] == 0 && counters[1] == 0 && counters[2] == 99);
 
+#define WITH_COLUMNS(question) mrd_ask_with_columns(TWO_RECORDS, 8, question, starts, 3, ids, 3, counters, 2)
     uint16_t asked[17] = {0};
     CHECK(mrd_columns_match(TWO_RECORDS, 8, starts, 3, ids, 3, counters, 2).refusal == 0);
-    CHECK(mrd_place_with_columns(TWO_RECORDS, 8, 1, starts, 3, ids, 3, counters, 2).start == 6);
-    CHECK(mrd_view_with_columns(TWO_RECORDS, 8, 0, 2, 0, starts, 3, ids, 3, counters, 2).start == 6);
-    CHECK(mrd_field_with_columns(TWO_RECORDS, 8, 0, 0, starts, 3, ids, 3, counters, 2).refusal == 20);
-    CHECK(mrd_find_with_columns(TWO_RECORDS, 8, 0, asked, starts, 3, ids, 3, counters, 2).refusal == 16);
+    CHECK(WITH_COLUMNS(mrd_question_place(1)).place.start == 6);
+    CHECK(WITH_COLUMNS(mrd_question_view(0, 2, 0)).view.start == 6);
+    CHECK(WITH_COLUMNS(mrd_question_field(0, 0)).field.refusal == 20);
+    CHECK(WITH_COLUMNS(mrd_question_find(0, asked)).found.refusal == 16);
     CHECK(mrd_columns_match(TWO_RECORDS, 8, starts, 1, ids, 3, counters, 2).refusal == MRD_INDEX_DIFFERS);
     ids[1] = 5;
     CHECK(mrd_columns_match(TWO_RECORDS, 8, starts, 3, ids, 3, counters, 2).refusal == MRD_INDEX_DIFFERS);
-    CHECK(mrd_place_with_columns(TWO_RECORDS, 8, 1, starts, 3, ids, 3, counters, 2).refusal == 15);
-    CHECK(mrd_view_with_columns(TWO_RECORDS, 8, 0, 2, 0, starts, 3, ids, 3, counters, 2).refusal == 15);
-    CHECK(mrd_field_with_columns(TWO_RECORDS, 8, 0, 0, starts, 3, ids, 3, counters, 2).refusal == 15);
-    CHECK(mrd_find_with_columns(TWO_RECORDS, 8, 0, asked, starts, 3, ids, 3, counters, 2).refusal == 15);
+    CHECK(WITH_COLUMNS(mrd_question_place(1)).place.refusal == 15);
+    CHECK(WITH_COLUMNS(mrd_question_view(0, 2, 0)).view.refusal == 15);
+    CHECK(WITH_COLUMNS(mrd_question_field(0, 0)).field.refusal == 15);
+    CHECK(WITH_COLUMNS(mrd_question_find(0, asked)).found.refusal == 15);
 }
 
 /* A refused view is the empty part at the stream's front; its place says why. */

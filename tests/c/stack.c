@@ -167,10 +167,12 @@ static bool index_matches(void)
 static bool with_file(void)
 {
     size_t n = last_acquisition;
-    return mrd_place_with_file(stream, length, n, file, file_length).refusal == 0
-           && mrd_view_with_file(stream, length, n, MRD_PART_CHANNEL, 3, file, file_length).length == 512
-           && mrd_field_with_file(stream, length, n, 34, file, file_length).whole == 64
-           && mrd_find_with_file(stream, length, 0, asked, file, file_length).number == n;
+    mrd_question view = mrd_question_view(n, MRD_PART_CHANNEL, 3);
+    mrd_question find = mrd_question_find(0, asked);
+    return mrd_ask_with_file(stream, length, mrd_question_place(n), file, file_length).refusal == 0
+           && mrd_ask_with_file(stream, length, view, file, file_length).view.length == 512
+           && mrd_ask_with_file(stream, length, mrd_question_field(n, 34), file, file_length).field.whole == 64
+           && mrd_ask_with_file(stream, length, find, file, file_length).found.number == n;
 }
 
 #define COLUMNS starts, count, ids, count, counters, count
@@ -188,10 +190,12 @@ static bool columns_match(void)
 static bool with_columns(void)
 {
     size_t n = last_acquisition;
-    return mrd_place_with_columns(stream, length, n, COLUMNS).refusal == 0
-           && mrd_view_with_columns(stream, length, n, MRD_PART_CHANNEL, 3, COLUMNS).length == 512
-           && mrd_field_with_columns(stream, length, n, 34, COLUMNS).whole == 64
-           && mrd_find_with_columns(stream, length, 0, asked, COLUMNS).number == n;
+    mrd_question view = mrd_question_view(n, MRD_PART_CHANNEL, 3);
+    mrd_question find = mrd_question_find(0, asked);
+    return mrd_ask_with_columns(stream, length, mrd_question_place(n), COLUMNS).refusal == 0
+           && mrd_ask_with_columns(stream, length, view, COLUMNS).view.length == 512
+           && mrd_ask_with_columns(stream, length, mrd_question_field(n, 34), COLUMNS).field.whole == 64
+           && mrd_ask_with_columns(stream, length, find, COLUMNS).found.number == n;
 }
 
 static bool write_message(void)

@@ -5,14 +5,14 @@ ghost use Rattle.mrd_stream.specs.Index.{startColumn, idColumn, counterColumn};
 ghost use Rattle.mrd_stream.specs.Output.{outputBy};
 ghost use Rattle.mrd_index.specs.Columns.{columnsAnswer};
 ghost use Rattle.mrd_index_match.specs.Compare.{fileMatch, columnsMatch};
-ghost use Rattle.cotterleaf.specs.Answers.{faceMatched, faceWritten};
-use crate::answers::Matched;
-use crate::answers::Written;
+ghost use Rattle.c_written.specs.WrittenStructs.{cMatched, cWritten};
+use c_written::Matched;
+use c_written::Written;
 
 // As a file, byte for byte and in whole.
 #[no_mangle]
 pub extern "C" fn mrd_index_matches(stream: &[u8], file: &[u8]) -> Matched
-    ensures { λ r. ⌜ r ≡ faceMatched (fileMatch (now (stream .entry)) (now (file .entry))) ⌝ }
+    ensures { λ r. ⌜ r ≡ cMatched (fileMatch (now (stream .entry)) (now (file .entry))) ⌝ }
 {
     Matched::of(mrd_index_match::index_matches(stream, file))
 }
@@ -25,7 +25,7 @@ pub extern "C" fn mrd_columns_match(
     ids: &[u16],
     counters: &[u32],
 ) -> Matched
-    ensures { λ r. ⌜ r ≡ faceMatched (columnsMatch (now (stream .entry)) (now (starts .entry)) (now (ids .entry)) (now (counters .entry))) ⌝ }
+    ensures { λ r. ⌜ r ≡ cMatched (columnsMatch (now (stream .entry)) (now (starts .entry)) (now (ids .entry)) (now (counters .entry))) ⌝ }
 {
     Matched::of(mrd_index_match::columns_match(stream, starts, ids, counters))
 }
@@ -38,7 +38,7 @@ pub extern "C" fn mrd_fill_columns(
     ids: &mut [u16],
     counters: &mut [u32],
 ) -> Written
-    ensures { λ r. ⌜ r ≡ faceWritten (columnsAnswer (now (stream .entry)) (length (now (starts .entry))) (length (now (ids .entry))) (length (now (counters .entry)))) ⌝ }
+    ensures { λ r. ⌜ r ≡ cWritten (columnsAnswer (now (stream .entry)) (length (now (starts .entry))) (length (now (ids .entry))) (length (now (counters .entry)))) ⌝ }
     ensures { λ _. ⌜ now (starts .exit) ≡ outputBy (columnsAnswer (now (stream .entry)) (length (now (starts .entry))) (length (now (ids .entry))) (length (now (counters .entry)))) (startColumn (now (stream .entry))) (now (starts .entry)) ⌝ }
     ensures { λ _. ⌜ now (ids .exit) ≡ outputBy (columnsAnswer (now (stream .entry)) (length (now (starts .entry))) (length (now (ids .entry))) (length (now (counters .entry)))) (idColumn (now (stream .entry))) (now (ids .entry)) ⌝ }
     ensures { λ _. ⌜ now (counters .exit) ≡ outputBy (columnsAnswer (now (stream .entry)) (length (now (starts .entry))) (length (now (ids .entry))) (length (now (counters .entry)))) (counterColumn (now (stream .entry))) (now (counters .entry)) ⌝ }

@@ -3,17 +3,17 @@ ghost use mathlib.Core.Path.{_≡_};
 ghost use Rattle.mrd_find.specs.Find.{findOf};
 ghost use Rattle.mrd_fields.specs.Fields.{fieldOf};
 ghost use Rattle.mrd_views.specs.Views.{viewOf};
-ghost use Rattle.cotterleaf.specs.Answers.{faceView, faceField, faceFound};
-ghost use Rattle.cotterleaf.specs.Parts.{partOf};
-use crate::answers::FieldAnswer;
-use crate::answers::Found;
-use crate::answers::ViewPlace;
-use crate::parts::part_of;
+ghost use Rattle.c_record.specs.RecordStructs.{cView, cField, cFound};
+ghost use Rattle.c_record.specs.PartNumbers.{partOf};
+use c_record::FieldAnswer;
+use c_record::Found;
+use c_record::ViewPlace;
+use c_record::part_of;
 
 // Where a part of record n lies; `channel` is looked at for a channel alone.
 #[no_mangle]
 pub extern "C" fn mrd_view(stream: &[u8], n: usize, part: u32, channel: usize) -> ViewPlace
-    ensures { λ r. ⌜ r ≡ faceView (viewOf (now (stream .entry)) n (partOf part channel)) ⌝ }
+    ensures { λ r. ⌜ r ≡ cView (viewOf (now (stream .entry)) n (partOf part channel)) ⌝ }
 {
     ViewPlace::of(mrd_views::view_place(stream, n, part_of(part, channel)))
 }
@@ -21,7 +21,7 @@ pub extern "C" fn mrd_view(stream: &[u8], n: usize, part: u32, channel: usize) -
 // The element of record n's header that starts at this offset.
 #[no_mangle]
 pub extern "C" fn mrd_field(stream: &[u8], n: usize, offset: usize) -> FieldAnswer
-    ensures { λ r. ⌜ r ≡ faceField (fieldOf (now (stream .entry)) n offset) ⌝ }
+    ensures { λ r. ⌜ r ≡ cField (fieldOf (now (stream .entry)) n offset) ⌝ }
 {
     FieldAnswer::of(mrd_fields::field(stream, n, offset))
 }
@@ -29,7 +29,7 @@ pub extern "C" fn mrd_field(stream: &[u8], n: usize, offset: usize) -> FieldAnsw
 // The first acquisition from record n on with these counters.
 #[no_mangle]
 pub extern "C" fn mrd_find(stream: &[u8], n: usize, counters: &[u16; 17]) -> Found
-    ensures { λ r. ⌜ r ≡ faceFound (findOf (now (stream .entry)) n (now (counters .entry))) ⌝ }
+    ensures { λ r. ⌜ r ≡ cFound (findOf (now (stream .entry)) n (now (counters .entry))) ⌝ }
 {
     Found::of(mrd_find::find(stream, n, counters))
 }

@@ -1,21 +1,22 @@
 // Is it a stream, and where are its records?
 ghost use mathlib.Core.Path.{_≡_};
-ghost use Rattle.mrd_stream.specs.Places.{place, step};
-ghost use Rattle.mrd_stream.specs.Walk.{from, verdict, answer};
 ghost use Rattle.mrd_cursor.specs.Cursors.{beginning};
-ghost use Rattle.cotterleaf.specs.Answers.{faceChecked};
-ghost use Rattle.cotterleaf.specs.Placed.{facePlaced};
-ghost use Rattle.cotterleaf.specs.Walk.{cursorOf, faceCursor, faceStep};
-use crate::answers::Checked;
-use crate::placed::Placed;
-use crate::walk::Cursor;
-use crate::walk::Step;
-use crate::walk::cursor_of;
+ghost use Rattle.mrd_stream.specs.Places.{place, step};
+ghost use Rattle.mrd_stream.specs.Walk.{from};
+ghost use Rattle.mrd_stream.specs.Walk.{verdict, answer};
+ghost use Rattle.c_walk.specs.WalkStructs.{cChecked};
+ghost use Rattle.c_place.specs.PlacedStruct.{cPlaced};
+ghost use Rattle.c_walk.specs.WalkStructs.{cursorOf, cCursor, cStep};
+use c_place::Placed;
+use c_walk::Checked;
+use c_walk::Cursor;
+use c_walk::Step;
+use c_walk::cursor_of;
 
 // Checks a whole stream.
 #[no_mangle]
 pub extern "C" fn mrd_check(stream: &[u8]) -> Checked
-    ensures { λ r. ⌜ r ≡ faceChecked (answer (now (stream .entry))) ⌝ }
+    ensures { λ r. ⌜ r ≡ cChecked (answer (now (stream .entry))) ⌝ }
 {
     Checked::of(mrd_stream::check(stream))
 }
@@ -23,7 +24,7 @@ pub extern "C" fn mrd_check(stream: &[u8]) -> Checked
 // The place and kind of record n.
 #[no_mangle]
 pub extern "C" fn mrd_place(stream: &[u8], n: usize) -> Placed
-    ensures { λ r. ⌜ r ≡ facePlaced (place (now (stream .entry)) n) ⌝ }
+    ensures { λ r. ⌜ r ≡ cPlaced (place (now (stream .entry)) n) ⌝ }
 {
     Placed::of(mrd_stream::place(stream, n))
 }
@@ -31,7 +32,7 @@ pub extern "C" fn mrd_place(stream: &[u8], n: usize) -> Placed
 // Where each walk begins.
 #[no_mangle]
 pub extern "C" fn mrd_beginning() -> Cursor
-    ensures { λ r. ⌜ r ≡ faceCursor beginning ⌝ }
+    ensures { λ r. ⌜ r ≡ cCursor beginning ⌝ }
 {
     Cursor::of(mrd_cursor::Cursor::beginning())
 }
@@ -39,7 +40,7 @@ pub extern "C" fn mrd_beginning() -> Cursor
 // One step of a walk.
 #[no_mangle]
 pub extern "C" fn mrd_next(stream: &[u8], cursor: Cursor) -> Step
-    ensures { λ r. ⌜ r ≡ faceStep (step (cursorOf cursor) (now (stream .entry))) ⌝ }
+    ensures { λ r. ⌜ r ≡ cStep (step (cursorOf cursor) (now (stream .entry))) ⌝ }
 {
     Step::of(mrd_stream::next(cursor_of(cursor), stream))
 }
@@ -47,7 +48,7 @@ pub extern "C" fn mrd_next(stream: &[u8], cursor: Cursor) -> Step
 // The answer of what a walk still has before it.
 #[no_mangle]
 pub extern "C" fn mrd_check_from(stream: &[u8], cursor: Cursor) -> Checked
-    ensures { λ r. ⌜ r ≡ faceChecked (verdict (from (cursorOf cursor) (now (stream .entry)))) ⌝ }
+    ensures { λ r. ⌜ r ≡ cChecked (verdict (from (cursorOf cursor) (now (stream .entry)))) ⌝ }
 {
     Checked::of(mrd_stream::check_from(cursor_of(cursor), stream))
 }

@@ -1,18 +1,18 @@
 // What is written: the normal form and the index of a stream, and one message.
 ghost use mathlib.Core.Path.{_≡_};
 ghost use lib.ListN.{length};
+ghost use Rattle.mrd_format.specs.Parts.{contents};
 ghost use Rattle.mrd_index.specs.File.{indexAnswer, indexOutput};
 ghost use Rattle.mrd_normal.specs.Written.{normalAnswer, normalOutput};
-ghost use Rattle.mrd_format.specs.Parts.{contents};
 ghost use Rattle.mrd_writer.specs.Write.{writeAnswer, writeOutput};
-ghost use Rattle.cotterleaf.specs.Answers.{faceWritten, facePut};
-use crate::answers::Put;
-use crate::answers::Written;
+ghost use Rattle.c_written.specs.WrittenStructs.{cWritten, cPut};
+use c_written::Put;
+use c_written::Written;
 
 // Writes the normal form of a stream to the front of out.
 #[no_mangle]
 pub extern "C" fn mrd_normal_form(stream: &[u8], out: &mut [u8]) -> Written
-    ensures { λ r. ⌜ r ≡ faceWritten (normalAnswer (now (stream .entry)) (length (now (out .entry)))) ⌝ }
+    ensures { λ r. ⌜ r ≡ cWritten (normalAnswer (now (stream .entry)) (length (now (out .entry)))) ⌝ }
     ensures { λ _. ⌜ now (out .exit) ≡ normalOutput (now (stream .entry)) (now (out .entry)) ⌝ }
 {
     Written::of(mrd_normal::normal_form(stream, out))
@@ -21,7 +21,7 @@ pub extern "C" fn mrd_normal_form(stream: &[u8], out: &mut [u8]) -> Written
 // Writes the index of a stream to the front of out.
 #[no_mangle]
 pub extern "C" fn mrd_write_index(stream: &[u8], out: &mut [u8]) -> Written
-    ensures { λ r. ⌜ r ≡ faceWritten (indexAnswer (now (stream .entry)) (length (now (out .entry)))) ⌝ }
+    ensures { λ r. ⌜ r ≡ cWritten (indexAnswer (now (stream .entry)) (length (now (out .entry)))) ⌝ }
     ensures { λ _. ⌜ now (out .exit) ≡ indexOutput (now (stream .entry)) (now (out .entry)) ⌝ }
 {
     Written::of(mrd_index::write_index(stream, out))
@@ -42,7 +42,7 @@ pub extern "C" fn mrd_write(
     out: &mut [u8],
     position: usize,
 ) -> Put
-    ensures { λ r. ⌜ r ≡ facePut (writeAnswer id
+    ensures { λ r. ⌜ r ≡ cPut (writeAnswer id
         (contents (now (header .entry)) (now (name .entry)) (now (text .entry)) (now (trajectory .entry)) (now (samples .entry))
         (now (attributes .entry)) (now (pixels .entry)) (now (waveform .entry)))
         position (now (out .entry))) ⌝ }

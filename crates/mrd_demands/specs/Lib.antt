@@ -1,4 +1,6 @@
 pub mod Messages
 pub mod Normal
+pub mod Refusals
+pub mod RecordViews
 pub mod Demands
 pub mod Examples

@@ -7,9 +7,5 @@ mod entry;
 mod file;
 
 pub use columns::fill_columns;
-pub use entry::Entry;
 pub use entry::entry_of;
-pub use file::END;
-pub use file::ENTRY;
-pub use file::FRONT;
 pub use file::write_index;

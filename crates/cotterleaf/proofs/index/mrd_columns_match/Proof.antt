@@ -1,7 +1,7 @@
 -- `cotterleaf::mrd_columns_match` meets its contract: the inner function meets the same.
 -- Assumes nothing.
 use mathlib.Core.Path.{ap, _∙_}
-use Rattle.cotterleaf.specs.Answers.{faceMatched}
+use Rattle.c_written.specs.WrittenStructs.{cMatched}
 use borrow.Author.Needs.{needs}
 use Rattle.cotterleaf.proofs.index.mrd_columns_match.Statement.{statement}
 use Rattle.cotterleaf.proofs.index.mrd_columns_match.Tie as tie
@@ -13,7 +13,7 @@ of-requires : tie.Need-of-requires
 of-requires c κs = search needs
 
 returns : tie.Need-returns
-returns c = c .of .ensures ∙ ap faceMatched (c .before .columns-match .ensures)
+returns c = c .of .ensures ∙ ap cMatched (c .before .columns-match .ensures)
 
 pub mrd-columns-match-spec : {M : Type 1} → statement M
 mrd-columns-match-spec = tie.close (tie.spec columns-match-requires of-requires returns)

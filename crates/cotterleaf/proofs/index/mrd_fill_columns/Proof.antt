@@ -7,13 +7,13 @@ use denote.Ref.{now}
 use Rattle.mrd_stream.specs.Index.{startColumn, idColumn, counterColumn}
 use Rattle.mrd_logic.specs.Answer.{Answer}
 use Rattle.mrd_stream.specs.Output.{outputBy}
-use Rattle.cotterleaf.specs.Answers.{faceWritten}
+use Rattle.c_written.specs.WrittenStructs.{cWritten}
 use borrow.Author.Needs.{needs}
 use Rattle.cotterleaf.proofs.index.mrd_fill_columns.Statement.{statement}
 use Rattle.cotterleaf.proofs.index.mrd_fill_columns.Tie as tie
 
 -- a column by an answer that is another's
-by : {x y : (Answer ℕ)} → x ≡ y → (w o : List ℕ) → outputBy x w o ≡ outputBy y w o
+by : {x y : Answer ℕ} → x ≡ y → (w o : List ℕ) → outputBy x w o ≡ outputBy y w o
 by e w o = ap (λ (x : Answer ℕ). outputBy x w o) e
 
 fill-columns-requires : tie.Need-fill-columns-requires
@@ -37,7 +37,7 @@ returns c =
     let inner = call .fill-columns .ensures in
     let a = call .before .before .before .before .before .before .before .before .args in
     let s = now (a .stream) in (
-      c .of .ensures ∙ ap faceWritten (inner .0),
+      c .of .ensures ∙ ap cWritten (inner .0),
       (
         inner .1 .0 ∙ by (inner .0) (startColumn s) (now (a .starts)),
         (inner .1 .1 .0 ∙ by (inner .0) (idColumn s) (now (a .ids)), inner .1 .1 .1 ∙ by (inner .0) (counterColumn s) (now (a .counters))),

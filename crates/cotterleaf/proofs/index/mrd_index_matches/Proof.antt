@@ -1,7 +1,7 @@
 -- `cotterleaf::mrd_index_matches` meets its contract: the inner function meets the same.
 -- Assumes nothing.
 use mathlib.Core.Path.{ap, _∙_}
-use Rattle.cotterleaf.specs.Answers.{faceMatched}
+use Rattle.c_written.specs.WrittenStructs.{cMatched}
 use borrow.Author.Needs.{needs}
 use Rattle.cotterleaf.proofs.index.mrd_index_matches.Statement.{statement}
 use Rattle.cotterleaf.proofs.index.mrd_index_matches.Tie as tie
@@ -13,7 +13,7 @@ of-requires : tie.Need-of-requires
 of-requires c κs = search needs
 
 returns : tie.Need-returns
-returns c = c .of .ensures ∙ ap faceMatched (c .before .index-matches .ensures)
+returns c = c .of .ensures ∙ ap cMatched (c .before .index-matches .ensures)
 
 pub mrd-index-matches-spec : {M : Type 1} → statement M
 mrd-index-matches-spec = tie.close (tie.spec index-matches-requires of-requires returns)

@@ -1,7 +1,7 @@
 -- `cotterleaf::mrd_field` meets its contract: the inner function meets the same.
 -- Assumes nothing.
 use mathlib.Core.Path.{ap, _∙_}
-use Rattle.cotterleaf.specs.Answers.{faceField}
+use Rattle.c_record.specs.RecordStructs.{cField}
 use borrow.Author.Needs.{needs}
 use Rattle.cotterleaf.proofs.record.mrd_field.Statement.{statement}
 use Rattle.cotterleaf.proofs.record.mrd_field.Tie as tie
@@ -13,7 +13,7 @@ of-requires : tie.Need-of-requires
 of-requires c κs = c .field .ensures .apart
 
 returns : tie.Need-returns
-returns c = c .of .ensures ∙ ap faceField (c .before .field .ensures .says)
+returns c = c .of .ensures ∙ ap cField (c .before .field .ensures .says)
 
 pub mrd-field-spec : {M : Type 1} → statement M
 mrd-field-spec = tie.close (tie.spec field-requires of-requires returns)

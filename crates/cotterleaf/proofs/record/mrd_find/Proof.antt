@@ -1,7 +1,7 @@
 -- `cotterleaf::mrd_find` meets its contract: the inner function meets the same.
 -- Assumes nothing.
 use mathlib.Core.Path.{ap, _∙_}
-use Rattle.cotterleaf.specs.Answers.{faceFound}
+use Rattle.c_record.specs.RecordStructs.{cFound}
 use borrow.Author.Needs.{needs}
 use Rattle.cotterleaf.proofs.record.mrd_find.Statement.{statement}
 use Rattle.cotterleaf.proofs.record.mrd_find.Tie as tie
@@ -13,7 +13,7 @@ of-requires : tie.Need-of-requires
 of-requires c κs = search needs
 
 returns : tie.Need-returns
-returns c = c .of .ensures ∙ ap faceFound (c .before .find .ensures)
+returns c = c .of .ensures ∙ ap cFound (c .before .find .ensures)
 
 pub mrd-find-spec : {M : Type 1} → statement M
 mrd-find-spec = tie.close (tie.spec find-requires of-requires returns)

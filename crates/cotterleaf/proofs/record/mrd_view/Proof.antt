@@ -3,7 +3,7 @@
 use mathlib.Core.Path.{ap, _∙_}
 use denote.Ref.{now}
 use Rattle.mrd_views.specs.Views.{viewOf}
-use Rattle.cotterleaf.specs.Answers.{faceView}
+use Rattle.c_record.specs.RecordStructs.{cView}
 use borrow.Author.Needs.{needs}
 use Rattle.cotterleaf.proofs.record.mrd_view.Statement.{statement}
 use Rattle.cotterleaf.proofs.record.mrd_view.Tie as tie
@@ -20,7 +20,7 @@ of-requires c κs = search needs
 returns : tie.Need-returns
 returns c =
     let a = c .before .before .before .before .args in
-    c .of .ensures ∙ ap faceView (c .before .view-place .ensures ∙ ap (viewOf (now (a .stream)) (a .n)) (c .before .before .part-of .ensures))
+    c .of .ensures ∙ ap cView (c .before .view-place .ensures ∙ ap (viewOf (now (a .stream)) (a .n)) (c .before .before .part-of .ensures))
 
 pub mrd-view-spec : {M : Type 1} → statement M
 mrd-view-spec = tie.close (tie.spec part-of-requires view-place-requires of-requires returns)

@@ -1,7 +1,7 @@
 -- `cotterleaf::mrd_beginning` meets its contract: the inner function meets the same.
 -- Assumes nothing.
 use mathlib.Core.Path.{ap, _∙_}
-use Rattle.cotterleaf.specs.Walk.{faceCursor}
+use Rattle.c_walk.specs.WalkStructs.{cCursor}
 use borrow.Author.Needs.{needs}
 use Rattle.cotterleaf.proofs.stream.mrd_beginning.Statement.{statement}
 use Rattle.cotterleaf.proofs.stream.mrd_beginning.Tie as tie
@@ -13,7 +13,7 @@ of-requires : tie.Need-of-requires
 of-requires c κs = search needs
 
 returns : tie.Need-returns
-returns c = c .of .ensures ∙ ap faceCursor (c .before .beginning .ensures)
+returns c = c .of .ensures ∙ ap cCursor (c .before .beginning .ensures)
 
 pub mrd-beginning-spec : {M : Type 1} → statement M
 mrd-beginning-spec = tie.close (tie.spec beginning-requires of-requires returns)

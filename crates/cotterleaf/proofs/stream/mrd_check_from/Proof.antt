@@ -3,7 +3,7 @@
 use mathlib.Core.Path.{ap, _∙_}
 use denote.Ref.{now}
 use Rattle.mrd_stream.specs.Walk.{from, verdict}
-use Rattle.cotterleaf.specs.Answers.{faceChecked}
+use Rattle.c_walk.specs.WalkStructs.{cChecked}
 use borrow.Author.Needs.{needs}
 use Rattle.cotterleaf.proofs.stream.mrd_check_from.Statement.{statement}
 use Rattle.cotterleaf.proofs.stream.mrd_check_from.Tie as tie
@@ -20,7 +20,7 @@ of-requires c κs = search needs
 returns : tie.Need-returns
 returns c =
     let s = now (c .before .before .before .before .args .stream) in
-    c .of .ensures ∙ ap faceChecked (c .before .check-from .ensures ∙ ap (λ d. verdict (from d s)) (c .before .before .cursor-of .ensures))
+    c .of .ensures ∙ ap cChecked (c .before .check-from .ensures ∙ ap (λ d. verdict (from d s)) (c .before .before .cursor-of .ensures))
 
 pub mrd-check-from-spec : {M : Type 1} → statement M
 mrd-check-from-spec = tie.close (tie.spec cursor-of-requires check-from-requires of-requires returns)

@@ -3,7 +3,7 @@
 use mathlib.Core.Path.{ap, _∙_}
 use denote.Ref.{now}
 use Rattle.mrd_stream.specs.Places.{step}
-use Rattle.cotterleaf.specs.Walk.{faceStep}
+use Rattle.c_walk.specs.WalkStructs.{cStep}
 use borrow.Author.Needs.{needs}
 use Rattle.cotterleaf.proofs.stream.mrd_next.Statement.{statement}
 use Rattle.cotterleaf.proofs.stream.mrd_next.Tie as tie
@@ -20,7 +20,7 @@ of-requires c κs = search needs
 returns : tie.Need-returns
 returns c =
     let s = now (c .before .before .before .before .args .stream) in
-    c .of .ensures ∙ ap faceStep (c .before .next .ensures ∙ ap (λ d. step d s) (c .before .before .cursor-of .ensures))
+    c .of .ensures ∙ ap cStep (c .before .next .ensures ∙ ap (λ d. step d s) (c .before .before .cursor-of .ensures))
 
 pub mrd-next-spec : {M : Type 1} → statement M
 mrd-next-spec = tie.close (tie.spec cursor-of-requires next-requires of-requires returns)

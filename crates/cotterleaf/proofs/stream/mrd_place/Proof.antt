@@ -1,7 +1,7 @@
 -- `cotterleaf::mrd_place` meets its contract: the inner function meets the same.
 -- Assumes nothing.
 use mathlib.Core.Path.{ap, _∙_}
-use Rattle.cotterleaf.specs.Placed.{facePlaced}
+use Rattle.c_place.specs.PlacedStruct.{cPlaced}
 use borrow.Author.Needs.{needs}
 use Rattle.cotterleaf.proofs.stream.mrd_place.Statement.{statement}
 use Rattle.cotterleaf.proofs.stream.mrd_place.Tie as tie
@@ -13,7 +13,7 @@ of-requires : tie.Need-of-requires
 of-requires c κs = search needs
 
 returns : tie.Need-returns
-returns c = c .of .ensures ∙ ap facePlaced (c .before .place .ensures)
+returns c = c .of .ensures ∙ ap cPlaced (c .before .place .ensures)
 
 pub mrd-place-spec : {M : Type 1} → statement M
 mrd-place-spec = tie.close (tie.spec place-requires of-requires returns)

@@ -1,7 +1,7 @@
 -- `cotterleaf::mrd_write` meets its contract: the inner function meets the same.
 -- Assumes nothing.
 use mathlib.Core.Path.{ap, _∙_}
-use Rattle.cotterleaf.specs.Answers.{facePut}
+use Rattle.c_written.specs.WrittenStructs.{cPut}
 use borrow.Author.Needs.{needs}
 use Rattle.cotterleaf.proofs.writing.mrd_write.Statement.{statement}
 use Rattle.cotterleaf.proofs.writing.mrd_write.Tie as tie
@@ -18,7 +18,7 @@ same-length c = search needs
 returns : tie.Need-returns
 returns c =
     let inner = c .before .before .before .write .ensures in
-    (c .of .ensures ∙ ap facePut (inner .0), inner .1)
+    (c .of .ensures ∙ ap cPut (inner .0), inner .1)
 
 pub mrd-write-spec : {M : Type 1} → statement M
 mrd-write-spec = tie.close (tie.spec write-requires of-requires same-length returns)

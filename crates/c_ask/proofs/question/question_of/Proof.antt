@@ -1,0 +1,50 @@
+-- `c_ask::question::question_of` meets its contract: it goes by the number of what is asked.
+-- Assumes nothing.
+use borrow.Author.Tests.{ne-eqb}
+use Rattle.c_record.specs.PartNumbers.{partOf}
+use Rattle.c_ask.specs.AskStructs.{questionOf}
+use borrow.Author.Tests.{ne-eqb}
+use Rattle.c_record.specs.PartNumbers.{partOf}
+use Rattle.c_ask.specs.AskStructs.{questionOf}
+use borrow.Author.Tests.{ne-eqb}
+use Rattle.c_record.specs.PartNumbers.{partOf}
+use Rattle.c_ask.specs.AskStructs.{questionOf}
+use borrow.Author.Tests.{ne-eqb}
+use Rattle.c_record.specs.PartNumbers.{partOf}
+use Rattle.c_ask.specs.AskStructs.{questionOf}
+use borrow.Author.Needs.{needs}
+use Rattle.c_ask.proofs.question.question_of.Statement.{statement}
+use Rattle.c_ask.proofs.question.question_of.Tie as tie
+
+part-of-requires : tie.Need-part-of-requires
+part-of-requires c κs = search needs
+
+part-of-requires-2 : tie.Need-part-of-requires-2
+part-of-requires-2 c κs = search needs
+
+returns : tie.Need-returns
+unfolding questionOf
+returns c = rw (c .match .keys1)
+
+returns-2 : tie.Need-returns-2
+unfolding questionOf
+returns-2 c = rw (c .match .keys2, c .before .part-of .ensures)
+
+returns-3 : tie.Need-returns-3
+unfolding questionOf
+returns-3 c = rw (c .match .keys3)
+
+returns-4 : tie.Need-returns-4
+unfolding questionOf
+returns-4 c = rw (c .match .keys4)
+
+returns-5 : tie.Need-returns-5
+unfolding questionOf partOf
+returns-5 c =
+    let r = c .before .match .rest in
+    rw (c .part-of2 .ensures) (simp (ne-eqb _ _ (r .1), ne-eqb _ _ (r .0 .1), ne-eqb _ _ (r .0 .0 .1), ne-eqb _ _ (r .0 .0 .0 .1)))
+
+pub question-of-spec : {M : Type 1} → statement M
+question-of-spec =
+    tie.close
+    (tie.spec part-of-requires part-of-requires-2 returns returns-2 returns-3 returns-4 returns-5)

@@ -1,0 +1,69 @@
+-- `c_record::FieldAnswer::value` meets its contract: it goes by the value's case.
+-- Assumes nothing.
+use mathlib.Core.Path.{sym, ap, _∙_}
+use Rattle.mrd_element.specs.Told.{told}
+use Rattle.c_record.specs.RecordStructs.{cValue}
+use mir.Syntax.{w32}
+use mir.ValLaws.{toZ-ofZ}
+use borrow.Author.Needs.{needs}
+use Rattle.c_record.proofs.field.FieldAnswer.value.Statement.{statement}
+use Rattle.c_record.proofs.field.FieldAnswer.value.Tie as tie
+
+refused-requires : tie.Need-refused-requires
+refused-requires c κs = search needs
+
+enum-known-value : tie.Need-enum-known-value
+enum-known-value c = search needs
+
+enum-known-value-2 : tie.Need-enum-known-value-2
+enum-known-value-2 c = search needs
+
+enum-known-value-3 : tie.Need-enum-known-value-3
+enum-known-value-3 c = search needs
+
+float-to-bits-r : tie.Need-float-to-bits-r
+float-to-bits-r c = rw (c .before .value3 .given .1) at (c .before .before .before .before .pre)
+
+enum-known-value-4 : tie.Need-enum-known-value-4
+enum-known-value-4 c = search needs
+
+enum-told : tie.Need-enum-told
+enum-told c = search needs
+
+refused-requires-2 : tie.Need-refused-requires-2
+refused-requires-2 c κs = search needs
+
+returns : tie.Need-returns
+returns c = rw (c .before .before .before .refused .ensures, c .before .value .given .1)
+
+returns-2 : tie.Need-returns-2
+returns-2 c =
+    let kept = toZ-ofZ w32 (c .before .value2 .given .0 .0) (search needs) in
+    rw (c .before .before .before .refused .ensures, kept, c .before .value2 .given .1)
+
+returns-3 : tie.Need-returns-3
+returns-3 c = rw (c .before .before .before .refused .ensures, c .before .value3 .given .1)
+
+returns-4 : tie.Need-returns-4
+returns-4 c = rw (c .before .before .before .refused .ensures, c .before .value4 .given .1)
+
+returns-5 : tie.Need-returns-5
+returns-5 c = c .refused2 .ensures ∙ sym (ap (λ v. cValue (told v)) (c .before .enum-told .given .1))
+
+pub value-spec : {M : Type 1} → statement M
+value-spec =
+    tie.close
+    (tie.spec
+    refused-requires
+    enum-known-value
+    enum-known-value-2
+    enum-known-value-3
+    float-to-bits-r
+    enum-known-value-4
+    enum-told
+    refused-requires-2
+    returns
+    returns-2
+    returns-3
+    returns-4
+    returns-5)

@@ -1,0 +1,3 @@
+pub mod RecordStructs
+pub mod PartNumbers
+pub mod PartNumberLaws

@@ -1,0 +1,23 @@
+-- `cotterleaf::ask::mrd_ask_with_columns` meets its contract: the inner function meets the same, for the question that the struct stands for.
+-- Assumes nothing.
+use mathlib.Core.Path.{ap, _∙_}
+use Rattle.c_ask.specs.AskStructs.{cReply}
+use borrow.Author.Needs.{needs}
+use Rattle.cotterleaf.proofs.ask.mrd_ask_with_columns.Statement.{statement}
+use Rattle.cotterleaf.proofs.ask.mrd_ask_with_columns.Tie as tie
+
+question-of-requires : tie.Need-question-of-requires
+question-of-requires c κs = search needs
+
+ask-with-columns-requires : tie.Need-ask-with-columns-requires
+ask-with-columns-requires c κs = search needs
+
+of-requires : tie.Need-of-requires
+of-requires c κs = search needs
+
+returns : tie.Need-returns
+returns c = c .of .ensures ∙ ap cReply (rw (c .before .before .before .before .question-of .ensures) at (c .before .ask-with-columns .ensures .says))
+
+pub mrd-ask-with-columns-spec : {M : Type 1} → statement M
+mrd-ask-with-columns-spec =
+    tie.close (tie.spec question-of-requires ask-with-columns-requires of-requires returns)

@@ -1,0 +1,28 @@
+-- `cotterleaf::mrd_view_at` meets its contract: the inner function meets the same, at the cursor that the struct stands for.
+-- Assumes nothing.
+use mathlib.Core.Path.{ap, _∙_}
+use Rattle.c_record.specs.RecordStructs.{cView}
+use borrow.Author.Needs.{needs}
+use Rattle.cotterleaf.proofs.at_cursor.mrd_view_at.Statement.{statement}
+use Rattle.cotterleaf.proofs.at_cursor.mrd_view_at.Tie as tie
+
+cursor-of-requires : tie.Need-cursor-of-requires
+cursor-of-requires c κs = search needs
+
+part-of-requires : tie.Need-part-of-requires
+part-of-requires c κs = search needs
+
+view-place-at-requires : tie.Need-view-place-at-requires
+view-place-at-requires c κs = search needs
+
+of-requires : tie.Need-of-requires
+of-requires c κs = search needs
+
+returns : tie.Need-returns
+returns c = c .of .ensures ∙ ap cView (rw (c .before .before .part-of .ensures, c .before .before .before .cursor-of .ensures) at
+    (c .before .view-place-at .ensures))
+
+pub mrd-view-at-spec : {M : Type 1} → statement M
+mrd-view-at-spec =
+    tie.close
+    (tie.spec cursor-of-requires part-of-requires view-place-at-requires of-requires returns)

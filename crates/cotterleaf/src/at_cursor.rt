@@ -1,0 +1,32 @@
+// What does the record hold where a walk stands?
+ghost use mathlib.Core.Path.{_≡_};
+ghost use Rattle.mrd_fields.specs.Fields.{fieldBy};
+ghost use Rattle.mrd_record.specs.AtCursor.{placeAt};
+ghost use Rattle.mrd_views.specs.Views.{viewBy};
+ghost use Rattle.c_record.specs.RecordStructs.{cView, cField};
+ghost use Rattle.c_record.specs.PartNumbers.{partOf};
+ghost use Rattle.c_walk.specs.WalkStructs.{cursorOf};
+use c_record::FieldAnswer;
+use c_record::ViewPlace;
+use c_record::part_of;
+use c_walk::Cursor;
+use c_walk::cursor_of;
+
+// Where a part of the record lies that is due at the cursor.
+#[no_mangle]
+pub extern "C" fn mrd_view_at(stream: &[u8], cursor: Cursor, part: u32, channel: usize) -> ViewPlace
+    ensures { λ r. ⌜ r ≡ cView (viewBy (placeAt (cursorOf cursor) (now (stream .entry))) (partOf part channel) (now (stream .entry))) ⌝ }
+{
+    let c = cursor_of(cursor);
+    let asked = part_of(part, channel);
+    ViewPlace::of(mrd_views::view_place_at(c, stream, asked))
+}
+
+// The element that starts at this offset in its header.
+#[no_mangle]
+pub extern "C" fn mrd_field_at(stream: &[u8], cursor: Cursor, offset: usize) -> FieldAnswer
+    ensures { λ r. ⌜ r ≡ cField (fieldBy (placeAt (cursorOf cursor) (now (stream .entry))) offset (now (stream .entry))) ⌝ }
+{
+    let c = cursor_of(cursor);
+    FieldAnswer::of(mrd_fields::field_at(c, stream, offset))
+}

@@ -1,0 +1,60 @@
+-- Whatever is asked, a given index is believed exactly when it is the stream's own; and a view that is replied is one of the given stream.
+-- Assumes nothing.
+use Prim.Native.Nat.{ℕ, _≤_, _+_}
+use native.Mathlib.Omega.{arith}
+use mathlib.Core.Path.{_≡_, refl, sym, ap, _∙_}
+use mathlib.Core.Logic.{_↔_}
+use mathlib.Core.List.{List}
+use lib.ListN.{length}
+use Rattle.mrd_logic.specs.Answer.{Verdict, accepted, refused, Answer, answered, stream, number, andThen}
+use Rattle.mrd_stream.specs.Walk.{answer}
+use Rattle.mrd_stream.specs.Index.{index}
+use Rattle.mrd_stream.specs.Places.{place}
+use Rattle.mrd_index_match.specs.Compare.{fileMatch, columnsMatch}
+use Rattle.mrd_index_match.specs.Exactly.{Held, Accepted, Exactly, believed-exactly}
+use Rattle.mrd_views.specs.Views.{viewOf}
+use Rattle.mrd_fields.specs.Fields.{fieldOf}
+use Rattle.mrd_find.specs.Find.{findOf}
+use Rattle.mrd_ask.specs.declared.question.Question.{Question}
+use Rattle.mrd_ask.specs.declared.question.Question
+use Rattle.mrd_ask.specs.Replies.{Replied}
+use Rattle.mrd_ask.specs.Questions.{askOf}
+use Rattle.mrd_ask.specs.RefusalLaws.{refuses-above, ask-refuses}
+use Rattle.mrd_ask.specs.Belief.{Believed}
+
+-- a refused stream's refusal comes first, whatever is asked
+stream-asked : (s : List ℕ) (q : Question) (cs : List ℕ) {f r b : ℕ} → answer s ≡ refused f r b → askOf s q cs ≡ stream f r b
+unfolding askOf place viewOf fieldOf findOf
+stream-asked s (Question.Place n) cs e = rw e
+stream-asked s (Question.View n p) cs e = rw e
+stream-asked s (Question.Field n o) cs e = rw e
+stream-asked s (Question.Find n) cs e = rw e
+
+module _ (s : List ℕ) {own : Type 0} (m : Answer (Unit {0})) (x : Exactly s own m) (q : Question) (cs : List ℕ) where
+  abbrev asked : Answer (Unit {0}) → Answer Replied
+  asked n = andThen n (λ _. askOf s q cs)
+
+  own-answered : own → (v : Verdict) → answer s ≡ v → asked m ≡ askOf s q cs
+  own-answered o (accepted n) e = ap asked (x .own-believed .1 (record { count = n; passed = e; holds = o }))
+  own-answered o (refused f r b) e = ap asked (x .stream-first .1 e) ∙ sym (stream-asked s q cs e)
+
+  only-other : (n : Answer (Unit {0})) → m ≡ n → asked n ≡ number 15 → Accepted s (own → ⊥)
+  only-other (answered t) e w = absurd (refuses-above 16 (askOf s q cs) (ask-refuses s q cs) (omega arith) w)
+  only-other (stream f r b) e w = let z : _≡_ {A = ℕ} 0 1 = cc in absurd (omega arith)
+  only-other (number k) e w = x .other-15 .0 (e ∙ ap number (x .no-other-number e))
+
+  believed : Believed s own (askOf s q cs) (asked m)
+  believed =
+      record {
+        own-answered = λ o. own-answered o (answer s) refl;
+        other-15 = (only-other m refl, λ a. ap asked (x .other-15 .1 a));
+        stream-first = λ e. ap asked (x .stream-first .1 e);
+      }
+
+-- an index given as a file, and as columns
+pub ask-believed : (s : List ℕ) (q : Question) (cs file starts ids counters : List ℕ) →
+    Believed s (file ≡ index s) (askOf s q cs) (andThen (fileMatch s file) (λ _. askOf s q cs)) ×
+    Believed s (Held s starts ids counters) (askOf s q cs) (andThen (columnsMatch s starts ids counters) (λ _. askOf s q cs))
+ask-believed s q cs f a b c =
+    let x = believed-exactly s f a b c in
+    (believed s (fileMatch s f) (x .0) q cs, believed s (columnsMatch s a b c) (x .1) q cs)

@@ -1,1 +1,2 @@
+pub mod NoRefusal
 pub mod ZeroLaws

@@ -3,27 +3,32 @@
 use Prim.Native.Nat.{ℕ, zero, suc, _+_, _<_, _≤_}
 use native.Mathlib.Omega.{arith}
 use mathlib.Core.Path.{_≡_, refl}
-use mathlib.Core.Bool.{Bool, true, false}
+use mathlib.Core.Bool.{Bool, true, false, _&&_, _||_}
 use mathlib.Core.List.{List}
+use lib.Dec.{ltb}
 use lib.ListN.{length}
-use Rattle.mrd_logic.specs.Answer.{Verdict, accepted, refused, Answer, answered, stream, number, unlessRefused, andThen}
-use Rattle.mrd_logic.specs.Choice.{pick}
+use Rattle.mrd_logic.specs.Answer.{Verdict, accepted, refused, Answer, answered, stream, number, andThen}
+use Rattle.mrd_logic.specs.Lists.{begins, equal}
 use Rattle.mrd_logic.specs.Checks.{first}
 use Rattle.mrd_format.specs.declared.kind.Identified.{Identified}
 use Rattle.mrd_format.specs.declared.kind.Identified.the-variants.{Known, Unknown}
 use Rattle.mrd_format.specs.Kinds.{identified}
+use Rattle.mrd_format.specs.Elements.{ElementType, u16, u32, u64, i32, f32}
+use Rattle.mrd_format.specs.Message.{fixedPart}
 use Rattle.mrd_format.specs.Parts.{Contents}
 use Rattle.mrd_cursor.specs.declared.cursor.Cursor as walk
 use Rattle.mrd_stream.specs.Walk.{from, verdict, answer}
 use Rattle.mrd_stream.specs.Places.{Located, place, Stepped, handed, over, step}
-use Rattle.mrd_stream.specs.Index.{entries}
+use Rattle.mrd_stream.specs.Index.{index, entries, startColumn, idColumn, counterColumn}
 use Rattle.mrd_stream.specs.Output.{answerBy, answerFor}
+use Rattle.mrd_cut.specs.Places.{partAt}
 use Rattle.mrd_record.specs.AtCursor.{placeAt}
 use Rattle.mrd_parts.specs.declared.parts.Part.{Part}
 use Rattle.mrd_views.specs.Views.{viewBy, viewOf}
-use Rattle.mrd_fields.specs.Fields.{fieldBy, fieldOf}
+use Rattle.mrd_element.specs.Field as header
+use Rattle.mrd_fields.specs.Fields.{valued, fieldBy, fieldOf}
 use Rattle.mrd_find.specs.Find.{findOf}
-use Rattle.mrd_index.specs.Columns.{columnsAnswer}
+use Rattle.mrd_columns.specs.Columns.{columnsAnswer}
 use Rattle.mrd_index_match.specs.Compare.{believed, fileMatch, columnsMatch}
 use Rattle.mrd_index_cursor.specs.IndexCursor.{cursorFor}
 use Rattle.mrd_ask.specs.declared.question.Question.{Question}
@@ -36,11 +41,9 @@ use Rattle.c_walk.specs.WalkStructs.{cChecked, cCursorAnswer, cStep}
 use Rattle.c_record.specs.RecordStructs.{cView, cField, cFound}
 use Rattle.c_written.specs.WrittenStructs.{cWritten, cMatched, cPut}
 use Rattle.c_ask.specs.AskStructs.{cReply}
+use Rattle.c_refusals.specs.NoRefusal.{Accepted, Answered, StepSays}
 
 -- a stream's answer, whole or from a cursor on
-abbrev Accepted : Verdict → Type 0
-Accepted v = (n : ℕ) × (v ≡ accepted n)
-
 zero-verdict : (v : Verdict) → Numbered v → cChecked v .refusal ≡ 0 → Accepted v
 zero-verdict (accepted n) v z = (n, refl)
 zero-verdict (refused f r b) v z = absurd (omega (arith, v, z))
@@ -51,27 +54,16 @@ zero-checked s = zero-verdict (answer s) (answer-numbered s)
 pub zero-checked-from : (c : walk.Cursor) (s : List ℕ) → cChecked (verdict (from c s)) .refusal ≡ 0 → Accepted (verdict (from c s))
 zero-checked-from c s = zero-verdict (verdict (from c s)) (from-numbered c s)
 
--- a step that ended: the stream's answer with 0 is that it is accepted; one that did not has a record
-pub zero-step : (c : walk.Cursor) (s : List ℕ) → cStep (step c s) .answer .refusal ≡ 0 →
-    elim (cStep (step c s) .ended) [
-      | true ↦ (n : ℕ) × (step c s ≡ over (accepted n))
-      | false ↦ (l : Located) × ((d : walk.Cursor) × (step c s ≡ handed l d))
-    ]
+-- a step
+pub zero-step : (c : walk.Cursor) (s : List ℕ) → cStep (step c s) .answer .refusal ≡ 0 → StepSays (cStep (step c s) .ended) (step c s)
 zero-step c s = by (step c s) refl
   where
-    by : (x : Stepped) → step c s ≡ x → cStep x .answer .refusal ≡ 0 →
-        elim (cStep x .ended) [
-          | true ↦ (n : ℕ) × (x ≡ over (accepted n))
-          | false ↦ (l : Located) × ((d : walk.Cursor) × (x ≡ handed l d))
-        ]
+    by : (x : Stepped) → step c s ≡ x → cStep x .answer .refusal ≡ 0 → StepSays (cStep x .ended) x
     by (handed l d) e z = (l, (d, refl))
     by (over (accepted n)) e z = (n, refl)
     by (over (refused f r b)) e z = let some : 0 < f = over-numbered c s e in absurd (omega (arith, some, z))
 
 -- an answer, of which g is the C struct's refusal
-abbrev Answered : {A : Type 0} → Answer A → Type 0
-Answered {A} a = (x : A) × (a ≡ answered x)
-
 zero-answer : {A : Type 0} (g : Answer A → ℕ) → ((f r b : ℕ) → g (stream f r b) ≡ f) → ((n : ℕ) → g (number n) ≡ n) → (a : Answer A) →
     Refuses 1 a → g a ≡ 0 → Answered a
 zero-answer g s n (answered x) r z = (x, refl)
@@ -109,6 +101,33 @@ zero-field s n o = zero-valued (place s n) o s (place-refuses s n)
 pub zero-field-at : (c : walk.Cursor) (s : List ℕ) (o : ℕ) → cField (fieldBy (placeAt c s) o s) .refusal ≡ 0 → Answered (fieldBy (placeAt c s) o s)
 zero-field-at c s o = zero-valued (placeAt c s) o s (at-refuses c s)
 
+-- and it has a type
+typed : (a : Answer Located) (o : ℕ) (s : List ℕ) → Refuses 16 a → cField (fieldBy a o s) .refusal ≡ 0 → 0 < cField (fieldBy a o s) .«value_type»
+unfolding header.fieldOf
+typed (answered l) o s r z = started (header.startOf (l .kind) o) (fixedPart (l .kind) (partAt s l)) z
+  where
+    value : (t : ElementType) (n : ℕ) → 0 < cField (valued (header.valueOf t n)) .«value_type»
+    value u16 n = omega arith
+    value u32 n = omega arith
+    value u64 n = omega arith
+    value i32 n = omega arith
+    value f32 n = omega arith
+
+    started : (x : header.Start) (h : List ℕ) → cField (valued (header.answered x h o)) .refusal ≡ 0 →
+        0 < cField (valued (header.answered x h o)) .«value_type»
+    started (header.starts t) h z = value t _
+    started header.none h z = absurd (omega (arith, z))
+typed (stream f i b) o s r z = absurd (omega (arith, r, z))
+typed (number n) o s r z = absurd (omega (arith, r, z))
+
+pub field-typed : (s : List ℕ) (n o : ℕ) → cField (fieldOf s n o) .refusal ≡ 0 → 0 < cField (fieldOf s n o) .«value_type»
+unfolding fieldOf
+field-typed s n o = typed (place s n) o s (place-refuses s n)
+
+pub field-at-typed : (c : walk.Cursor) (s : List ℕ) (o : ℕ) → cField (fieldBy (placeAt c s) o s) .refusal ≡ 0 →
+    0 < cField (fieldBy (placeAt c s) o s) .«value_type»
+field-at-typed c s o = typed (placeAt c s) o s (at-refuses c s)
+
 -- what was looked for
 pub zero-found : (s : List ℕ) (n : ℕ) (cs : List ℕ) → cFound (findOf s n cs) .refusal ≡ 0 → Answered (findOf s n cs)
 zero-found s n cs = zero-answer (λ a. cFound a .refusal) (λ f r b. refl) (λ k. refl) (findOf s n cs) (some (findOf s n cs) (find-refuses s n cs))
@@ -120,11 +139,13 @@ believed-refuses false = omega arith
 
 file-refuses : (s file : List ℕ) → Refuses 1 (fileMatch s file)
 unfolding fileMatch
-file-refuses s file = unless-refuses 1 (answer s) (believed _) (answer-numbered s) (believed-refuses _)
+file-refuses s file = unless-refuses 1 (answer s) _ (answer-numbered s) (believed-refuses (equal file (index s)))
 
 columns-refuses : (s a b c : List ℕ) → Refuses 1 (columnsMatch s a b c)
 unfolding columnsMatch
-columns-refuses s a b c = unless-refuses 1 (answer s) (believed _) (answer-numbered s) (believed-refuses _)
+columns-refuses s a b c =
+    unless-refuses 1 (answer s) _ (answer-numbered s)
+    (believed-refuses (begins (startColumn s) a && (begins (idColumn s) b && begins (counterColumn s) c)))
 
 zero-matched : (m : Answer (Unit {0})) → Refuses 1 m → cMatched m .refusal ≡ 0 → Answered m
 zero-matched = zero-answer (λ a. cMatched a .refusal) (λ f r b. refl) (λ k. refl)
@@ -167,11 +188,12 @@ zero-output (refused f r b) short n v z = absurd (omega (arith, v, z))
 
 pub zero-written : (s : List ℕ) (n room : ℕ) → cWritten (answerFor s n room) .refusal ≡ 0 → answerFor s n room ≡ answered n
 unfolding answerFor
-zero-written s n room = zero-output (answer s) _ n (answer-numbered s)
+zero-written s n room = zero-output (answer s) (ltb room n) n (answer-numbered s)
 
 pub zero-filled : (s : List ℕ) (a b c : ℕ) → cWritten (columnsAnswer s a b c) .refusal ≡ 0 → columnsAnswer s a b c ≡ answered (length (entries s))
 unfolding columnsAnswer
-zero-filled s a b c = zero-output (answer s) _ (length (entries s)) (answer-numbered s)
+zero-filled s a b c =
+    let n = length (entries s) in zero-output (answer s) (ltb a n || (ltb b n || ltb c n)) n (answer-numbered s)
 
 -- the position after a message
 pub zero-put : (id : ℕ) (c : Contents) (at : ℕ) (o : List ℕ) → cPut (writeAnswer id c at o) .refusal ≡ 0 → Answered (writeAnswer id c at o)

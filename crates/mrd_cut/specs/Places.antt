@@ -15,7 +15,8 @@ use Rattle.mrd_logic.specs.Answer.{accepted}
 use Rattle.mrd_stream.specs.Walk.{Trace, trace, answer}
 use Rattle.mrd_stream.specs.Places.{Located, located, places}
 use Rattle.mrd_logic.specs.Every.{Every}
-use Rattle.mrd_stream.specs.Cut.{joined, Cut}
+use Rattle.mrd_logic.specs.Joined.{joined}
+use Rattle.mrd_cut.specs.Cut.{Cut}
 use Rattle.mrd_cut.specs.Unique.{cut-unique}
 use Rattle.mrd_cut.specs.Accepted.{accepted-cut}
 use Rattle.mrd_cut.specs.Walked.{Walks, ends, faults, meets, piecesOf, walks}

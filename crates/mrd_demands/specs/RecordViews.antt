@@ -18,7 +18,7 @@ use Rattle.mrd_parts.specs.Sought.{partMeaning}
 use Rattle.mrd_cursor.specs.declared.cursor.Cursor.{Cursor}
 use Rattle.mrd_stream.specs.Walk.{Trace, trace, answer}
 use Rattle.mrd_stream.specs.Places.{Located, located, places, nth, place}
-use Rattle.mrd_stream.specs.Records.{recordsOf, records}
+use Rattle.mrd_demands.specs.Records.{recordsOf, records}
 use Rattle.mrd_cut.specs.Walked.{Walks, ends, faults, meets, walks}
 use Rattle.mrd_cut.specs.Places.{partAt}
 use Rattle.mrd_cut.specs.Inside.{Inside, place-inside}

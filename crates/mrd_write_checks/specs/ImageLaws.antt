@@ -16,7 +16,8 @@ use Rattle.mrd_format.specs.Message as message
 use Rattle.mrd_format.specs.Image as image
 use Rattle.mrd_write_checks.specs.declared.lengths.Lengths.{Lengths}
 use Rattle.mrd_write_checks.specs.WriteChecks.{ownChecks, sizeOf, dueLengths}
-use Rattle.mrd_write_checks.specs.JudgeLaws.{sized, sizedBy, sized-headed}
+use Rattle.mrd_write_checks.specs.Sized.{sized, sizedBy}
+use Rattle.mrd_write_checks.specs.JudgeLaws.{sized-headed}
 
 module _ (h : List ℕ) (a : ℕ) (e : length h ≡ 198) (fits : a < 256 ^ 8) where
   -- a field of the header, and the length after it

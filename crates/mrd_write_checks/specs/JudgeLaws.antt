@@ -23,6 +23,7 @@ use Rattle.mrd_format.specs.Sizes.{capped}
 use Rattle.mrd_format.specs.Message as message
 use Rattle.mrd_format.specs.Message.{limit}
 use Rattle.mrd_write_checks.specs.declared.lengths.Lengths.{Lengths}
+use Rattle.mrd_write_checks.specs.Sized.{sized, nameSized, textSized, sizedBy}
 use Rattle.mrd_write_checks.specs.WriteChecks.{nameUnfit, ownChecks, sizeOf, partLengths, dueLengths, sameLengths, sizedChecks, contentsChecks, unless, judged}
 
 -- an answer is one or the other
@@ -65,19 +66,6 @@ sized-numbered k h name n = numbered-append (ownChecks k h name n) _ (own-number
 pub contents-numbered : (k : Kind) (h name : List ℕ) (n : Lengths) → numbered (contentsChecks k h name n) ≡ true
 unfolding contentsChecks
 contents-numbered k h name n = numbered-append (sizedChecks k h name n) _ (sized-numbered k h name n) refl
-
--- the size of a message, where checks 4 to 10 pass: of what is given, of a given name, of a given text, and of a fixed part f
-unfoldable pub sized : Kind → (h name : List ℕ) → Lengths → Answer ℕ
-sized k h name n = unless (first (sizedChecks k h name n)) (sizeOf k h n)
-
-unfoldable pub nameSized : List ℕ → Answer ℕ
-nameSized name = unless (first ((5 when nameUnfit name) ∷ [])) 1026
-
-unfoldable pub textSized : ℕ → Answer ℕ
-textSized z = unless (first ((10 when ltb limit (6 + z)) ∷ [])) (6 + z)
-
-unfoldable pub sizedBy : Kind → List ℕ → Answer ℕ
-sizedBy k f = unless (first (message.ownChecks k f ++ ((10 when ltb limit (message.sizeOf k f)) ∷ []))) (message.sizeOf k f)
 
 -- a header that has not its kind's length
 pub judged-header : (k : Kind) (h name : List ℕ) (n : Lengths) → (length h ≡ headerSize k → ⊥) → judged k h name n ≡ number 3
@@ -180,13 +168,11 @@ pub sized-headed : (k : Kind) (h name : List ℕ) (n : Lengths) (f : List ℕ) �
 unfolding sized sizedChecks sizedBy
 sized-headed k h name n f own size = rw (own, size)
 
-pub sized-acquisition : (h name : List ℕ) (n : Lengths) → sized Acquisition h name n ≡ sizedBy Acquisition h
+pub sized-header : (h name : List ℕ) (n : Lengths) →
+    (sized Acquisition h name n ≡ sizedBy Acquisition h) × ((sized Waveform h name n ≡ sizedBy Waveform h) × Unit {0})
 unfolding ownChecks message.ownChecks sizeOf dueLengths message.sizeOf message.bodySize
-sized-acquisition h name n = sized-headed Acquisition h name n h refl (omega arith)
-
-pub sized-waveform : (h name : List ℕ) (n : Lengths) → sized Waveform h name n ≡ sizedBy Waveform h
-unfolding ownChecks message.ownChecks sizeOf dueLengths message.sizeOf message.bodySize
-sized-waveform h name n = sized-headed Waveform h name n h refl (omega arith)
+sized-header h name n =
+    (sized-headed Acquisition h name n h refl (omega arith), (sized-headed Waveform h name n h refl (omega arith), tt))
 
 -- the lengths that are due, by the size z of the message
 module _ (k : Kind) (h : List ℕ) (n : Lengths) {z : ℕ} (whole : z ≡ sizeOf k h n) where

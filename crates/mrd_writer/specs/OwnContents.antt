@@ -22,15 +22,14 @@ use Rattle.mrd_format.specs.Segments.{nameLength}
 use Rattle.mrd_format.specs.Texts.{textLength}
 use Rattle.mrd_format.specs.Message as message
 use Rattle.mrd_format.specs.Message.{limit, fixedPart, WellFormed}
-use Rattle.mrd_format.specs.Parts.{Contents}
 use Rattle.mrd_format.specs.Content.{extentOf, contentsOf, normalOf, messageOf}
 use Rattle.mrd_format.specs.NormalLaws.{nameBytes, name-short}
 use Rattle.mrd_format.specs.Rewritten.{rewritten-normal}
 use Rattle.mrd_format.specs.Acquisition as acquisition
 use Rattle.mrd_format.specs.Image as image
 use Rattle.mrd_format.specs.Waveform as waveform
-use Rattle.mrd_write_checks.specs.WriteChecks.{nameUnfit, ownChecks, sizeOf, partLengths, lengthsOf, dueLengths}
-use Rattle.mrd_write_checks.specs.ImageLaws.{pixels-size, image-size}
+use Rattle.mrd_write_checks.specs.WriteChecks.{nameUnfit, ownChecks, sizeOf, partLengths, dueLengths}
+use Rattle.mrd_write_checks.specs.ImageLaws.{pixels-size}
 use Rattle.mrd_writer.specs.Sound.{Sound}
 
 -- a part that lies in the message has its size

@@ -3,8 +3,7 @@
 use Prim.Native.Nat.{ℕ, _+_, _≤_}
 use native.Mathlib.Omega.{arith}
 use mathlib.Core.Path.{_≡_, refl, ap}
-use mathlib.Core.Bool.{true, false}
-use mathlib.Core.List.{List}
+use mathlib.Core.Bool.{true}
 use lib.ListN.{length, length-append, length-replicate}
 use lib.Dec.{ltb}
 use borrow.Author.Tests.{eqb-true, ltb-false, not-false}
@@ -24,7 +23,7 @@ use Rattle.mrd_format.specs.Content.{fixedOf, bodyOf, contentOf}
 use Rattle.mrd_write_checks.specs.declared.lengths.Lengths.{Lengths}
 use Rattle.mrd_write_checks.specs.WriteChecks.{nameUnfit, ownChecks, bodyLength, sizeOf, lengthsOf, dueLengths, sameLengths, sizedChecks, contentsChecks, judged}
 use Rattle.mrd_write_checks.specs.JudgeLaws.{unless-answered, contents-numbered}
-use Rattle.mrd_put.specs.PutLaws.{Ready}
+use Rattle.mrd_put.specs.Room.{Ready}
 use Rattle.mrd_writer.specs.Write.{judgedContents, sizeGiven, givenChecks}
 
 -- what is given passes checks 3 to 10 and 18

@@ -3,7 +3,7 @@
 use Prim.Native.Nat.{ℕ, zero, suc, _+_, _-_, _^_, _≤_, _<_}
 use native.Mathlib.Nat.{zero-add, add-zero, suc-add, not-suc-le-zero, le-of-suc-le-suc}
 use native.Mathlib.Omega.{arith}
-use mathlib.Core.Path.{_≡_, refl, sym, ap, _∙_}
+use mathlib.Core.Path.{_≡_, refl, sym, _∙_}
 use mathlib.Core.Bool.{Bool, true, false}
 use mathlib.Core.List.{List, [], _∷_, _++_, append-nil}
 use lib.Dec.{eqb}
@@ -22,7 +22,7 @@ use Rattle.mrd_format.specs.Kinds.{fixedSize, identified}
 use Rattle.mrd_format.specs.Segments.{nameLength}
 use Rattle.mrd_format.specs.Texts.{textLength}
 use Rattle.mrd_format.specs.Message as message
-use Rattle.mrd_format.specs.Message.{limit, idAt, fixedPart, WellFormed}
+use Rattle.mrd_format.specs.Message.{idAt, fixedPart, WellFormed}
 use Rattle.mrd_format.specs.Acquisition as acquisition
 use Rattle.mrd_format.specs.Image as image
 use Rattle.mrd_format.specs.Waveform as waveform

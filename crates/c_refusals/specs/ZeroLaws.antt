@@ -9,6 +9,7 @@ use lib.Dec.{ltb}
 use lib.ListN.{length}
 use Rattle.mrd_logic.specs.Answer.{Verdict, accepted, refused, Answer, answered, stream, number, andThen}
 use Rattle.mrd_logic.specs.Lists.{begins, equal}
+use Rattle.mrd_logic.specs.Choice.{pick}
 use Rattle.mrd_logic.specs.Checks.{first}
 use Rattle.mrd_format.specs.declared.kind.Identified.{Identified}
 use Rattle.mrd_format.specs.declared.kind.Identified.the-variants.{Known, Unknown}
@@ -159,11 +160,12 @@ zero-columns-match s a b c = zero-matched (columnsMatch s a b c) (columns-refuse
 -- a cursor from an index's columns
 pub zero-cursor-for : (starts ids : List ℕ) (n : ℕ) → cCursorAnswer (cursorFor starts ids n) .refusal ≡ 0 → Answered (cursorFor starts ids n)
 unfolding cursorFor
-zero-cursor-for starts ids n = zero-answer (λ a. cCursorAnswer a .refusal) (λ f r b. refl) (λ k. refl) (cursorFor starts ids n) (by _)
+zero-cursor-for starts ids n =
+    zero-answer (λ a. cCursorAnswer a .refusal) (λ f r b. refl) (λ k. refl) (cursorFor starts ids n) (by (ltb n (length starts) && ltb n (length ids)) _)
   where
-    by : (b : Bool) {c : walk.Cursor} → Refuses 1 (pick b (answered c) (number 16))
-    by true = tt
-    by false = omega arith
+    by : (b : Bool) (c : walk.Cursor) → Refuses 1 (pick b (answered c) (number 16))
+    by true c = tt
+    by false c = omega arith
 
 -- any question with an index given
 zero-asked : (s : List ℕ) (m : Answer (Unit {0})) → Refuses 1 m → (q : Question) (cs : List ℕ) → cReply (andThen m (λ _. askOf s q cs)) .refusal ≡ 0 →

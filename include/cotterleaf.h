@@ -1,12 +1,31 @@
 /* Cotterleaf: MRD message streams, read, checked, indexed and written.
  *
- * Link with libcotterleaf.a (`rt staticlib cotterleaf`). Every function takes any bytes and any numbers and
- * ends with an answer; none asks its caller to check first, allocates, or keeps what it is lent. Each answer
- * is a struct whose `refusal` is 0 or the number of refusal. `record` and `byte` say where a stream is
- * refused (refusals 1 to 13 and 19) and are 0 otherwise; what an answer lacks is 0. Only the outputs named
- * `out`, `starts`, `ids` and `counters` of the writing functions are written to, and a refusal writes none.
+ * Link with libcotterleaf: `pkg-config --cflags --libs cotterleaf` where it is installed, else
+ * target/staticlib/libcotterleaf.a of the repository. docs/FORMAT.md describes the stream and every refusal.
  *
- * A slice is a pointer and the number of its elements. An empty slice may have any pointer. */
+ * Every function takes any bytes and any numbers and ends with an answer; none asks its caller to check first,
+ * allocates, or keeps what it is given. Each answer is a struct whose `refusal` is 0 (MRD_OK) or the number of
+ * refusal; mrd_refusal_text says what is wrong and what to do. `record` and `byte` say where a stream is refused
+ * (refusals 1 to 13 and 19) and are 0 otherwise; what an answer lacks is 0. Only the outputs `out`, `starts`, `ids`
+ * and `counters` of the writing functions are written to, and a refusal writes none.
+ *
+ * What is assumed of a caller. A slice is a pointer and the number of its elements: so many can be read there (of
+ * an output: written), and the pointer is aligned for their type; an empty slice may have any pointer, NULL too.
+ * An array of counters has 17. An output overlaps nothing else that is given with it: mrd_normal_form with its
+ * output inside its input answers 0 with wrong bytes. No other thread changes what is given during a call.
+ *
+ * Threads: there is no state between calls, so any calls may run at the same time, each with outputs of its own.
+ *
+ * Samples are little-endian pairs of floats, real part first, 8 bytes each; trajectories, float pixels and waveform
+ * data are little-endian too. A view starts at any byte, so it may not be aligned: a cast to float * is undefined.
+ * mrd_load_complex and mrd_load_float read from any address.
+ *
+ * Cost: a question by record number (mrd_place, mrd_view, mrd_field, mrd_find) first walks the whole stream, and an
+ * index that is given is compared with all of it: it shows that stream and index belong together, and makes no
+ * question faster. For many records walk once: mrd_next, mrd_view_at and mrd_field_at take time that does not grow
+ * with the stream.
+ *
+ * The library is for x86-64 and its usual calling convention (System V) alone. */
 #ifndef COTTERLEAF_H
 #define COTTERLEAF_H
 
@@ -15,52 +34,17 @@
 #include <stdint.h>
 #include <string.h>
 
+#include "cotterleaf_names.h"
+
 #ifdef __cplusplus
 extern "C" {
 #endif
-
-/* The numbers of refusal. */
-enum {
-    MRD_OK = 0,
-    MRD_ID_CUT = 1,          /* one byte remains where an id is due */
-    MRD_UNKNOWN_ID = 2,      /* the id names no kind of message */
-    MRD_FIXED_PART_CUT = 3,  /* the fixed part does not fit in what remains; writer: header of another length */
-    MRD_VERSION = 4,         /* version is not 1 */
-    MRD_NAME = 5,            /* a name without a zero; writer: too long, or holding one */
-    MRD_CHANNELS = 6,        /* active above available channels, or a mask with another count of ones */
-    MRD_DISCARD = 7,         /* discard pre and post above the number of samples */
-    MRD_DATA_TYPE = 8,       /* image data type not 1 to 8 */
-    MRD_ATTRIBUTE_LENGTH = 9, /* the two attribute lengths differ */
-    MRD_TOO_LARGE = 10,      /* a message of over 268,435,456 bytes */
-    MRD_MESSAGE_CUT = 11,    /* the message does not fit in what remains */
-    MRD_ORDER = 12,          /* the order of messages is broken */
-    MRD_NO_CLOSE = 13,       /* the stream ends without a close */
-    MRD_OUTPUT_SHORT = 14,   /* output too short, or position past its end */
-    MRD_INDEX_DIFFERS = 15,  /* the lent index is not the one that the stream yields */
-    MRD_NO_RECORD = 16,      /* no such record */
-    MRD_NO_PART = 17,        /* the record has no such part or channel */
-    MRD_BODY_LENGTH = 18,    /* writer: a body's length is not what its header says */
-    MRD_TOO_MANY = 19,       /* a message begins after 1,000,000 messages */
-    MRD_NO_FIELD = 20        /* no header element starts at that offset */
-};
-
-/* The kinds of message, by id. */
-enum {
-    MRD_ID_CONFIGURATION_NAME = 1,
-    MRD_ID_CONFIGURATION_TEXT = 2,
-    MRD_ID_HEADER_TEXT = 3,
-    MRD_ID_CLOSE = 4,
-    MRD_ID_TEXT = 5,
-    MRD_ID_ACQUISITION = 1008,
-    MRD_ID_IMAGE = 1022,
-    MRD_ID_WAVEFORM = 1026
-};
 
 /* ---- Is it a stream, and where are its records? ---- */
 
 /* A stream's answer: with refusal 0 it is accepted and has `count` records. */
 typedef struct {
-    uint32_t refusal;
+    mrd_refusal refusal;
     size_t record, byte;
     size_t count;
 } mrd_checked;
@@ -69,7 +53,7 @@ mrd_checked mrd_check(const uint8_t *stream, size_t stream_length);
 
 /* A record: its number from 0, first byte, size with the id, id, and the numbers of its kind. */
 typedef struct {
-    uint32_t refusal;
+    mrd_refusal refusal;
     size_t record, byte;
     size_t number, start, size;
     size_t length;              /* of a name or text */
@@ -83,8 +67,8 @@ typedef struct {
 
 mrd_placed mrd_place(const uint8_t *stream, size_t stream_length, size_t n);
 
-/* A walk: from mrd_beginning() on, each mrd_next hands out one record and the cursor of what follows,
- * at a cost that does not grow with the stream; at the end it hands out the stream's answer. Any cursor
+/* A walk: from mrd_beginning() on, each mrd_next yields one record and the cursor of what follows,
+ * at a cost that does not grow with the stream; at the end it yields the stream's answer. Any cursor
  * gets an answer; a phase over 3 is taken as 3. */
 typedef struct {
     size_t number, start;
@@ -101,7 +85,7 @@ typedef struct {
 mrd_cursor mrd_beginning(void);
 mrd_step mrd_next(const uint8_t *stream, size_t stream_length, mrd_cursor cursor);
 
-/* The answer of the rest of a stream, from a cursor on. */
+/* The answer of the rest of a stream, from a cursor on. `count` has the records before the cursor too. */
 mrd_checked mrd_check_from(const uint8_t *stream, size_t stream_length, mrd_cursor cursor);
 
 /* ---- What does a record hold? ---- */
@@ -120,7 +104,7 @@ enum {
 /* Where a part lies in the stream: the view is stream + start, `length` bytes. `channel` is looked at for
  * MRD_PART_CHANNEL alone. */
 typedef struct {
-    uint32_t refusal;
+    mrd_refusal refusal;
     size_t record, byte;
     size_t start, length;
 } mrd_view_place;
@@ -131,9 +115,9 @@ mrd_view_place mrd_view(const uint8_t *stream, size_t stream_length, size_t n, u
 enum { MRD_WHOLE = 1, MRD_SIGNED = 2, MRD_FLOAT = 3 };
 
 typedef struct {
-    uint32_t refusal;
+    mrd_refusal refusal;
     size_t record, byte;
-    uint32_t type;
+    uint32_t value_type;
     uint64_t whole;
     int32_t integer;
     uint32_t float_bits; /* kept by its bits, a NaN's too: mrd_float_of gives the float */
@@ -143,15 +127,15 @@ mrd_field_answer mrd_field(const uint8_t *stream, size_t stream_length, size_t n
 
 /* The number of the first acquisition from record n on with these seventeen counters; else 16. */
 typedef struct {
-    uint32_t refusal;
+    mrd_refusal refusal;
     size_t record, byte;
     size_t number;
 } mrd_found;
 
 mrd_found mrd_find(const uint8_t *stream, size_t stream_length, size_t n, const uint16_t counters[17]);
 
-/* The same for the record that is due where a walk stands, at a cost that does not grow with the stream: take
- * the cursor with which mrd_next hands the record out. The stream's refusal where its message is refused, 16
+/* The same for the record that is due at a cursor of a walk, at a cost that does not grow with the stream: take
+ * the cursor with which mrd_next yields the record. The stream's refusal where its message is refused, 16
  * where none is left. */
 mrd_view_place mrd_view_at(const uint8_t *stream, size_t stream_length, mrd_cursor cursor, uint32_t part,
                            size_t channel);
@@ -217,7 +201,7 @@ static inline mrd_question mrd_question_find(size_t n, const uint16_t counters[1
 /* What is replied: the answer in the member for what was asked, as the function without an index gives it.
  * Every member carries the reply's refusal, record and byte; those that were not asked for have no more. */
 typedef struct {
-    uint32_t refusal;
+    mrd_refusal refusal;
     size_t record, byte;
     mrd_placed place;
     mrd_view_place view;
@@ -243,9 +227,9 @@ int32_t mrd_counter_step(uint32_t earlier, uint32_t later);
 
 /* ---- Writing ---- */
 
-/* What stands at the front of the output: so many bytes, or, of columns, so many places. */
+/* How much the front of the output now has: so many bytes, or, of columns, so many places. */
 typedef struct {
-    uint32_t refusal;
+    mrd_refusal refusal;
     size_t record, byte;
     size_t length;
 } mrd_written;
@@ -261,9 +245,9 @@ mrd_written mrd_fill_columns(const uint8_t *stream, size_t stream_length, uint64
                              size_t starts_length, uint16_t *ids, size_t ids_length, uint32_t *counters,
                              size_t counters_length);
 
-/* Whether a lent index is the stream's own: refusal 0, else 15, or the stream's refusal first. */
+/* Whether an index is the stream's own: refusal 0, else 15, or the stream's refusal first. */
 typedef struct {
-    uint32_t refusal;
+    mrd_refusal refusal;
     size_t record, byte;
 } mrd_matched;
 
@@ -274,10 +258,10 @@ mrd_matched mrd_columns_match(const uint8_t *stream, size_t stream_length, const
                               const uint32_t *counters, size_t counters_length);
 
 /* Writes one message into `out` from `position` on, and answers the position after it. The header is that
- * of the kind, 340, 198 or 32 bytes, or empty; parts that the kind lacks are lent empty. Order and count
+ * of the kind, 340, 198 or 32 bytes, or empty; parts that the kind lacks are empty. Order and count
  * are not judged: mrd_check judges the whole stream. */
 typedef struct {
-    uint32_t refusal;
+    mrd_refusal refusal;
     size_t position;
 } mrd_put;
 
@@ -323,6 +307,26 @@ static inline float mrd_float_of(uint32_t bits)
     float f;
     memcpy(&f, &bits, sizeof f);
     return f;
+}
+
+/* The little-endian float at any address, aligned or not. */
+static inline float mrd_load_float(const uint8_t *bytes)
+{
+    return mrd_float_of((uint32_t)bytes[0] | (uint32_t)bytes[1] << 8 | (uint32_t)bytes[2] << 16 |
+                        (uint32_t)bytes[3] << 24);
+}
+
+/* Sample i of a channel's view: the view has mrd_placed's `samples` of them. */
+typedef struct {
+    float re, im;
+} mrd_complex;
+
+static inline mrd_complex mrd_load_complex(const uint8_t *view, size_t i)
+{
+    mrd_complex sample;
+    sample.re = mrd_load_float(view + 8 * i);
+    sample.im = mrd_load_float(view + 8 * i + 4);
+    return sample;
 }
 
 #ifdef __cplusplus

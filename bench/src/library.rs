@@ -38,7 +38,7 @@ pub fn walk(stream: &[u8], mut each: impl FnMut(usize, usize, u16)) -> Result<us
 
 pub fn field(stream: &[u8], n: usize, offset: usize) -> Result<Field, Refusal> {
     let a = raw::field(stream, n, offset);
-    let field = match a.r#type {
+    let field = match a.value_type {
         raw::MRD_SIGNED => Field::Signed(a.integer),
         raw::MRD_FLOAT => Field::Float(a.float_bits),
         _ => Field::Whole(a.whole),

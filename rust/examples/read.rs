@@ -1,31 +1,23 @@
-//! Lists the records of a recorded stream and the first samples of its first readout:
+//! Lists the records of a recorded stream and, of each readout, its scan counter and first sample:
 //!
 //!     cargo run --example read -- ../samples/all_kinds.mrd
 
-use cotterleaf::{Kind, Part, Refusal, Stream};
+use cotterleaf::{Refusal, Stream};
 use std::process::ExitCode;
 
 fn list(bytes: &[u8]) -> Result<(), Refusal> {
-    let stream = Stream::new(bytes);
-    println!("{} records", stream.check()?);
-    let mut readout = None;
-    for record in stream.records() {
+    for record in Stream::new(bytes).records() {
         let record = record?;
         println!(
             "{} at byte {}: {:?}",
             record.number, record.start, record.kind
         );
-        if matches!(record.kind, Kind::Acquisition { active_channels, .. } if active_channels > 0) {
-            readout = readout.or(Some(record.number));
+        let header = record.acquisition();
+        if let Some(header) = header.filter(|header| header.active_channels() > 0) {
+            // The samples are read where they lie in `bytes`: nothing is copied.
+            let first = record.samples(0)?.next();
+            println!("  scan {}, first sample {first:?}", header.scan_counter());
         }
-    }
-    if let Some(n) = readout {
-        // The view is a part of `bytes` itself: nothing is copied.
-        let samples = stream.view(n, Part::Channel(0))?;
-        println!(
-            "record {n}, channel 0, first bytes: {:02x?}",
-            &samples[..samples.len().min(8)]
-        );
     }
     Ok(())
 }

@@ -1,6 +1,6 @@
-//! The index of a stream, lent with a question.
+//! The index of a stream, given with a question.
 
-/// An index in one of its two forms. A question that is lent one is refused with 15 where it is not the
+/// An index in one of its two forms. A question that is given one is refused with 15 where it is not the
 /// stream's own; an empty one never is.
 #[derive(Clone, Copy, Debug, PartialEq, Eq)]
 pub enum Index<'a> {

@@ -13,23 +13,59 @@
 //! assert_eq!(stream.view(0, Part::Pixels).unwrap_err().number, 17);
 //! ```
 
-#![deny(unsafe_code)]
-#![warn(missing_docs)]
+//!
+//! A walk yields each record with the cursor at which it was due, so that its header and parts cost no further walk:
+//!
+//! ```
+//! # fn mean(bytes: &[u8]) -> Result<f32, cotterleaf::Refusal> {
+//! let (mut sum, mut count) = (0.0, 0.0);
+//! for record in cotterleaf::Stream::new(bytes).records() {
+//!     let record = record?;
+//!     let Some(header) = record.acquisition() else { continue };
+//!     for channel in 0..header.active_channels() {
+//!         for (re, im) in record.samples(channel.into())? {
+//!             sum += re.hypot(im);
+//!             count += 1.0;
+//!         }
+//!     }
+//! }
+//! # Ok(sum / count)
+//! # }
+//! ```
+//!
+//! A question by record number ([`Stream::place`], [`Stream::view`], [`Stream::field`], [`Stream::find`]) first walks
+//! the whole stream, and an index that is given is compared with all of it. Any calls may run at the same time: the
+//! library keeps nothing between them.
+//!
+//! docs/FORMAT.md of the repository describes the stream and every refusal.
 
+#![deny(unsafe_code)]
+#![deny(missing_docs)]
+
+mod element;
 mod flags;
+mod headers;
 mod index;
 mod message;
+mod names;
+// The C interface as it is, for tests and benchmarks.
+#[doc(hidden)]
 #[allow(unsafe_code, missing_docs)]
 pub mod raw;
 mod record;
 mod refusal;
+mod samples;
 mod stream;
 mod walk;
 
-pub use flags::{acquisition_flag, counter_step, flag_clear, flag_set, flag_test};
+pub use flags::{counter_step, flag_clear, flag_set, flag_test};
+pub use headers::{AcquisitionHeader, ImageHeader, WaveformHeader};
 pub use index::Index;
 pub use message::Message;
-pub use record::{id, Field, Kind, Part, Record};
+pub use names::{acquisition_flag, counter, data_type, id, image_type, offset, refused};
+pub use names::{MAX_MESSAGES, MAX_MESSAGE_SIZE};
+pub use record::{Field, Kind, Part, Record};
 pub use refusal::{Fault, Refusal};
+pub use samples::Samples;
 pub use stream::Stream;
-pub use walk::{Cursor, Records, Step};
+pub use walk::{Cursor, RecordAt, Records, Step};

@@ -1,7 +1,9 @@
-//! The C face as include/cotterleaf.h declares it, and each of its functions with slices in place of pointers.
+//! The C interface as include/cotterleaf.h declares it, and each of its functions with slices in place of pointers.
 //! All of this crate's unsafe code is here. The functions take any numbers, so that each of them is safe.
 
 #![allow(non_camel_case_types, clippy::too_many_arguments)]
+
+mod interface;
 
 #[repr(C)]
 #[derive(Clone, Copy, Debug, Default, PartialEq, Eq)]
@@ -66,7 +68,7 @@ pub struct mrd_field_answer {
     pub refusal: u32,
     pub record: usize,
     pub byte: usize,
-    pub r#type: u32,
+    pub value_type: u32,
     pub whole: u64,
     pub integer: i32,
     pub float_bits: u32,
@@ -280,22 +282,22 @@ pub fn beginning() -> mrd_cursor {
 }
 
 pub fn next(stream: &[u8], cursor: mrd_cursor) -> mrd_step {
-    // SAFETY: the pointer and length are those of a slice that is borrowed for the call; any cursor may be lent.
+    // SAFETY: the pointer and length are those of a slice that is borrowed for the call; any cursor may be given.
     unsafe { mrd_next(stream.as_ptr(), stream.len(), cursor) }
 }
 
 pub fn check_from(stream: &[u8], cursor: mrd_cursor) -> mrd_checked {
-    // SAFETY: the pointer and length are those of a slice that is borrowed for the call; any cursor may be lent.
+    // SAFETY: the pointer and length are those of a slice that is borrowed for the call; any cursor may be given.
     unsafe { mrd_check_from(stream.as_ptr(), stream.len(), cursor) }
 }
 
 pub fn view_at(stream: &[u8], cursor: mrd_cursor, part: u32, channel: usize) -> mrd_view_place {
-    // SAFETY: the pointer and length are those of a slice that is borrowed for the call; any cursor may be lent.
+    // SAFETY: the pointer and length are those of a slice that is borrowed for the call; any cursor may be given.
     unsafe { mrd_view_at(stream.as_ptr(), stream.len(), cursor, part, channel) }
 }
 
 pub fn field_at(stream: &[u8], cursor: mrd_cursor, offset: usize) -> mrd_field_answer {
-    // SAFETY: the pointer and length are those of a slice that is borrowed for the call; any cursor may be lent.
+    // SAFETY: the pointer and length are those of a slice that is borrowed for the call; any cursor may be given.
     unsafe { mrd_field_at(stream.as_ptr(), stream.len(), cursor, offset) }
 }
 

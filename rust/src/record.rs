@@ -1,20 +1,8 @@
-//! What a record is told to be: its place, its kind with that kind's own numbers, its parts and fields.
+//! What a record is: its place, its kind with that kind's own numbers, its parts and fields.
 
+use crate::names::id;
 use crate::raw;
 use crate::refusal::Refusal;
-
-/// The ids of the eight kinds of message.
-pub mod id {
-    #![allow(missing_docs)]
-    pub const CONFIGURATION_NAME: u16 = 1;
-    pub const CONFIGURATION_TEXT: u16 = 2;
-    pub const HEADER_TEXT: u16 = 3;
-    pub const CLOSE: u16 = 4;
-    pub const TEXT: u16 = 5;
-    pub const ACQUISITION: u16 = 1008;
-    pub const IMAGE: u16 = 1022;
-    pub const WAVEFORM: u16 = 1026;
-}
 
 /// A record's place and kind.
 #[derive(Clone, Copy, Debug, PartialEq, Eq, Hash)]
@@ -31,34 +19,54 @@ pub struct Record {
 
 /// A kind of message with that kind's own numbers.
 #[derive(Clone, Copy, Debug, PartialEq, Eq, Hash)]
-#[allow(missing_docs)]
 pub enum Kind {
+    /// A configuration name.
     ConfigurationName {
+        /// Its bytes, without the zero that ends it.
         length: usize,
     },
+    /// A configuration text.
     ConfigurationText {
+        /// Its bytes.
         length: usize,
     },
+    /// A header text.
     HeaderText {
+        /// Its bytes.
         length: usize,
     },
+    /// The close, the last message of a stream.
     Close,
+    /// A text.
     Text {
+        /// Its bytes.
         length: usize,
     },
+    /// An acquisition, one readout.
     Acquisition {
-        samples: u16,
+        /// Samples of each channel.
+        number_of_samples: u16,
+        /// Channels that were recorded.
         active_channels: u16,
+        /// Numbers for each sample of the trajectory.
         trajectory_dimensions: u16,
     },
+    /// An image.
     Image {
+        /// Pixels along x, y and z.
         matrix_size: [u16; 3],
+        /// Channels.
         channels: u16,
+        /// The type of a pixel, 1 to 8: one of [`data_type`](crate::data_type).
         data_type: u16,
+        /// Bytes of attributes.
         attribute_length: u64,
     },
+    /// A waveform.
     Waveform {
-        samples: u16,
+        /// Samples of each channel.
+        number_of_samples: u16,
+        /// Channels.
         channels: u16,
     },
 }
@@ -87,7 +95,7 @@ impl Kind {
             id::CLOSE => Kind::Close,
             id::TEXT => Kind::Text { length },
             id::ACQUISITION => Kind::Acquisition {
-                samples: placed.samples,
+                number_of_samples: placed.samples,
                 active_channels: placed.channels,
                 trajectory_dimensions: placed.dimensions,
             },
@@ -98,7 +106,7 @@ impl Kind {
                 attribute_length: placed.attribute_length,
             },
             id::WAVEFORM => Kind::Waveform {
-                samples: placed.samples,
+                number_of_samples: placed.samples,
                 channels: placed.channels,
             },
             other => unreachable!("the library hands out records of the eight kinds, not {other}"),
@@ -177,7 +185,7 @@ impl Field {
 
     pub(crate) fn told(answer: &raw::mrd_field_answer) -> Result<Field, Refusal> {
         Refusal::in_answer(answer.refusal, answer.record, answer.byte)?;
-        Ok(match answer.r#type {
+        Ok(match answer.value_type {
             raw::MRD_WHOLE => Field::Whole(answer.whole),
             raw::MRD_SIGNED => Field::Signed(answer.integer),
             raw::MRD_FLOAT => Field::Float {

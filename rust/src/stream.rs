@@ -1,16 +1,17 @@
-//! A lent stream and the questions about it.
+//! A stream and the questions about it.
 
 use crate::index::Index;
 use crate::raw;
 use crate::record::{Field, Part, Record};
 use crate::refusal::Refusal;
+use crate::samples::Samples;
 use std::ops::Range;
 
-/// A whole stream, borrowed, and the index lent with it, if any.
+/// A whole stream, borrowed, and the index given with it, if any.
 ///
 /// Each question gives the stream's refusal first. [`place`](Stream::place), [`view`](Stream::view),
 /// [`view_place`](Stream::view_place), [`field`](Stream::field) and [`find`](Stream::find) then give 15 where
-/// an index is lent that is not the stream's own; the other calls do not look at it.
+/// an index is given that is not the stream's own; the other calls do not look at it.
 #[derive(Clone, Copy, Debug, PartialEq, Eq)]
 pub struct Stream<'a> {
     bytes: &'a [u8],
@@ -35,12 +36,12 @@ pub(crate) fn range_of(place: &raw::mrd_view_place) -> Result<Range<usize>, Refu
 }
 
 impl<'a> Stream<'a> {
-    /// A stream without an index. Any bytes may be lent.
+    /// A stream without an index. Any bytes may be given.
     pub fn new(bytes: &'a [u8]) -> Stream<'a> {
         Stream { bytes, index: None }
     }
 
-    /// The same stream with an index lent.
+    /// The same stream with an index given.
     pub fn with(self, index: Index<'a>) -> Stream<'a> {
         Stream {
             index: Some(index),
@@ -48,7 +49,7 @@ impl<'a> Stream<'a> {
         }
     }
 
-    /// The lent bytes.
+    /// The bytes.
     pub fn bytes(&self) -> &'a [u8] {
         self.bytes
     }
@@ -83,10 +84,15 @@ impl<'a> Stream<'a> {
         })
     }
 
-    /// A part of record `n`, as that part of the lent bytes; 16 where there is no such record, 17 where it has
+    /// A part of record `n`, as that part of the bytes; 16 where there is no such record, 17 where it has
     /// no such part.
     pub fn view(&self, n: usize, part: Part) -> Result<&'a [u8], Refusal> {
         Ok(&self.bytes[self.view_place(n, part)?])
+    }
+
+    /// The samples of a channel of record `n`.
+    pub fn samples(&self, n: usize, channel: usize) -> Result<Samples<'a>, Refusal> {
+        Ok(Samples::of(self.view(n, Part::Channel(channel))?))
     }
 
     /// Where that part lies in the stream. An empty part still has its place.

@@ -1,8 +1,10 @@
 //! The walk over a stream, one record at each step.
 
+use crate::headers::{AcquisitionHeader, ImageHeader, WaveformHeader};
 use crate::raw;
-use crate::record::{Field, Part, Record};
+use crate::record::{Field, Kind, Part, Record};
 use crate::refusal::Refusal;
+use crate::samples::Samples;
 use crate::stream::{counted, range_of, Stream};
 use std::ops::Range;
 
@@ -65,7 +67,7 @@ impl<'a> Stream<'a> {
         if step.ended {
             return Step::End(counted(&step.answer));
         }
-        let here = Record::told(&step.here).expect("a step hands out a record or ends");
+        let here = Record::told(&step.here).expect("a step yields a record or ends");
         Step::Record(here, Cursor::of(step.next))
     }
 
@@ -108,6 +110,73 @@ impl<'a> Stream<'a> {
     }
 }
 
+/// A record that a walk met, with the cursor at which it was due: what it holds costs no further walk.
+#[derive(Clone, Copy, Debug, PartialEq, Eq)]
+pub struct RecordAt<'a> {
+    stream: Stream<'a>,
+    cursor: Cursor,
+    record: Record,
+}
+
+impl<'a> RecordAt<'a> {
+    /// The cursor at which the record was due.
+    pub fn cursor(&self) -> Cursor {
+        self.cursor
+    }
+
+    /// The bytes of the whole message, from its id on.
+    pub fn bytes(&self) -> &'a [u8] {
+        &self.stream.bytes()[self.record.start..][..self.record.size]
+    }
+
+    /// A part of the record, as that part of the stream; 17 where it has no such part.
+    pub fn view(&self, part: Part) -> Result<&'a [u8], Refusal> {
+        self.stream.view_at(self.cursor, part)
+    }
+
+    /// The samples of a channel; 17 where the record has no such channel.
+    pub fn samples(&self, channel: usize) -> Result<Samples<'a>, Refusal> {
+        Ok(Samples::of(self.view(Part::Channel(channel))?))
+    }
+
+    /// The header element that starts at `offset`; 20 where none does.
+    pub fn field(&self, offset: usize) -> Result<Field, Refusal> {
+        self.stream.field_at(self.cursor, offset)
+    }
+
+    /// The header of an acquisition; none of another kind.
+    pub fn acquisition(&self) -> Option<AcquisitionHeader<'a>> {
+        matches!(self.record.kind, Kind::Acquisition { .. })
+            .then(|| AcquisitionHeader::new(self.header()))
+    }
+
+    /// The header of an image; none of another kind.
+    pub fn image(&self) -> Option<ImageHeader<'a>> {
+        matches!(self.record.kind, Kind::Image { .. }).then(|| ImageHeader::new(self.header()))
+    }
+
+    /// The header of a waveform; none of another kind.
+    pub fn waveform(&self) -> Option<WaveformHeader<'a>> {
+        matches!(self.record.kind, Kind::Waveform { .. })
+            .then(|| WaveformHeader::new(self.header()))
+    }
+
+    /// The header's bytes, right after the id.
+    fn header<const SIZE: usize>(&self) -> &'a [u8; SIZE] {
+        let header = self.bytes()[2..].first_chunk();
+        header.expect("a record has its kind's whole header")
+    }
+}
+
+/// Number, place and kind.
+impl std::ops::Deref for RecordAt<'_> {
+    type Target = Record;
+
+    fn deref(&self) -> &Record {
+        &self.record
+    }
+}
+
 /// The records of a stream in their order. A refused stream's records before the fault come first, then its
 /// refusal, then nothing.
 #[derive(Clone, Debug)]
@@ -123,14 +192,19 @@ impl Records<'_> {
     }
 }
 
-impl Iterator for Records<'_> {
-    type Item = Result<Record, Refusal>;
+impl<'a> Iterator for Records<'a> {
+    type Item = Result<RecordAt<'a>, Refusal>;
 
     fn next(&mut self) -> Option<Self::Item> {
-        match self.stream.step(self.cursor?) {
+        let cursor = self.cursor?;
+        match self.stream.step(cursor) {
             Step::Record(record, next) => {
                 self.cursor = Some(next);
-                Some(Ok(record))
+                Some(Ok(RecordAt {
+                    stream: self.stream,
+                    cursor,
+                    record,
+                }))
             }
             Step::End(answer) => {
                 self.cursor = None;

@@ -49,7 +49,7 @@ impl Kept {
 #[test]
 fn records_come_once_each_and_then_the_refusal() {
     let whole = Stream::new(ALL_KINDS);
-    let records: Vec<Record> = whole.records().map(|record| record.unwrap()).collect();
+    let records: Vec<Record> = whole.records().map(|record| *record.unwrap()).collect();
     assert_eq!(records.len(), 9);
     for record in &records {
         assert_eq!(whole.place(record.number), Ok(*record));
@@ -67,7 +67,9 @@ fn records_come_once_each_and_then_the_refusal() {
     };
     let mut walk = cut.records();
     for record in &records[..8] {
-        assert_eq!(walk.next(), Some(Ok(*record)));
+        let cursor = walk.cursor().unwrap();
+        let met = walk.next().unwrap().unwrap();
+        assert_eq!((*met, met.cursor()), (*record, cursor));
         assert_eq!(cut.check_from(walk.cursor().unwrap()), Err(refusal));
     }
     assert_eq!(walk.next(), Some(Err(refusal)));
@@ -112,6 +114,120 @@ fn fields_keep_their_type_and_floats_their_bits() {
     assert_eq!(stream.field(4, 276), Ok(Field::Signed(-2)));
     assert_eq!(number_of(stream.field(3, 35)), 20);
     assert_eq!(Field::Whole(1).float(), None);
+}
+
+/// What an accessor gives of an element, by its bits.
+fn bits(field: Field) -> u64 {
+    match field {
+        Field::Whole(number) => number,
+        Field::Signed(number) => number as u32 as u64,
+        Field::Float { bits } => bits as u64,
+    }
+}
+
+/// Checks that each accessor of a header gives, by its bits, what the library answers at its offset, for every
+/// element: first the fields of one element, then those of several.
+macro_rules! check_accessors {
+    ($record:expr, $header:expr, $of:ident, [$($one:ident $at:ident $($b:ident)?),*],
+     [$($name:ident $from:ident $($bits:ident)?),*]) => {
+        $(check_elements!($record, [$header.$one()], offset::$of::$at, $($b)?);)*
+        $(check_elements!($record, $header.$name(), offset::$of::$from, $($bits)?);)*
+    };
+}
+
+macro_rules! check_elements {
+    ($record:expr, $values:expr, $offset:path, $($bits:ident)?) => {
+        let from: usize = $offset;
+        for (i, value) in $values.into_iter().enumerate() {
+            let size = std::mem::size_of_val(&value);
+            let asked = bits($record.field(from + i * size).unwrap());
+            let given = value$(.$bits())? as u64 & (u64::MAX >> (64 - 8 * size));
+            assert_eq!(given, asked, "{} of {i}", stringify!($offset));
+        }
+    };
+}
+
+/// The header of one record, so that every element has another value.
+fn patterned(bytes: &mut [u8], from: usize, keep: &[std::ops::Range<usize>], size: usize) {
+    for i in (0..size).filter(|i| !keep.iter().any(|range| range.contains(i))) {
+        bytes[from + i] = (37 * i + 11) as u8;
+    }
+}
+
+#[test]
+fn accessors_give_what_the_library_answers() {
+    let mut bytes = ALL_KINDS.to_vec();
+    // What decides about sizes and checks stays as it is.
+    patterned(&mut bytes, 1_417 + 2, &[0..2, 34..172, 176..178], 340);
+    patterned(
+        &mut bytes,
+        4_747 + 2,
+        &[0..4, 16..22, 34..36, 194..198],
+        198,
+    );
+    patterned(&mut bytes, 6_113 + 2, &[0..2, 22..26], 32);
+    let stream = Stream::new(&bytes);
+    let records: Vec<RecordAt> = stream.records().map(|record| record.unwrap()).collect();
+    let (record, header) = (&records[3], records[3].acquisition().unwrap());
+    check_accessors!(record, header, acquisition,
+    [
+     version VERSION, flags FLAGS, measurement_uid MEASUREMENT_UID, scan_counter SCAN_COUNTER,
+     acquisition_time_stamp ACQUISITION_TIME_STAMP, number_of_samples NUMBER_OF_SAMPLES,
+     available_channels AVAILABLE_CHANNELS, active_channels ACTIVE_CHANNELS, discard_pre
+     DISCARD_PRE, discard_post DISCARD_POST, center_sample CENTER_SAMPLE, encoding_space_ref
+     ENCODING_SPACE_REF, trajectory_dimensions TRAJECTORY_DIMENSIONS, sample_time_us
+     SAMPLE_TIME_US to_bits
+    ],
+    [
+     physiology_time_stamp PHYSIOLOGY_TIME_STAMP, channel_mask CHANNEL_MASK, position POSITION
+     to_bits, read_dir READ_DIR to_bits, phase_dir PHASE_DIR to_bits, slice_dir SLICE_DIR
+     to_bits, patient_table_position PATIENT_TABLE_POSITION to_bits, counters COUNTERS, user_int
+     USER_INT, user_float USER_FLOAT to_bits
+    ]);
+    let (record, header) = (&records[6], records[6].image().unwrap());
+    check_accessors!(record, header, image,
+    [
+     version VERSION, data_type DATA_TYPE, flags FLAGS, measurement_uid MEASUREMENT_UID,
+     channels CHANNELS, average AVERAGE, slice SLICE, contrast CONTRAST, phase PHASE, repetition
+     REPETITION, set SET, acquisition_time_stamp ACQUISITION_TIME_STAMP, image_type IMAGE_TYPE,
+     image_index IMAGE_INDEX, image_series_index IMAGE_SERIES_INDEX, attribute_string_len
+     ATTRIBUTE_STRING_LEN
+    ],
+    [
+     matrix_size MATRIX_SIZE, field_of_view FIELD_OF_VIEW to_bits, position POSITION to_bits,
+     read_dir READ_DIR to_bits, phase_dir PHASE_DIR to_bits, slice_dir SLICE_DIR to_bits,
+     patient_table_position PATIENT_TABLE_POSITION to_bits, physiology_time_stamp
+     PHYSIOLOGY_TIME_STAMP, user_int USER_INT, user_float USER_FLOAT to_bits
+    ]);
+    let (record, header) = (&records[7], records[7].waveform().unwrap());
+    check_accessors!(record, header, waveform,
+        [
+         version VERSION, flags FLAGS, measurement_uid MEASUREMENT_UID, scan_counter SCAN_COUNTER,
+         time_stamp TIME_STAMP, number_of_samples NUMBER_OF_SAMPLES, channels CHANNELS,
+         sample_time_us SAMPLE_TIME_US to_bits, waveform_id WAVEFORM_ID
+        ],
+        []);
+    assert!(records[2].acquisition().is_none() && records[3].image().is_none());
+}
+
+#[test]
+fn samples_are_pairs_read_from_any_byte() {
+    let stream = Stream::new(ALL_KINDS);
+    let record = stream.records().nth(4).unwrap().unwrap();
+    let samples: Vec<(f32, f32)> = record.samples(1).unwrap().collect();
+    assert_eq!(samples.len(), 32);
+    let view = stream.view(4, Part::Channel(1)).unwrap();
+    for (i, (re, im)) in samples.iter().enumerate() {
+        let bytes = [re.to_le_bytes(), im.to_le_bytes()].concat();
+        assert_eq!(bytes, view[8 * i..8 * i + 8]);
+    }
+    assert!(stream
+        .samples(4, 1)
+        .unwrap()
+        .rev()
+        .eq(samples.into_iter().rev()));
+    assert_eq!(record.samples(2).unwrap_err().number, refused::NO_PART);
+    assert_eq!(record.bytes(), &ALL_KINDS[2_527..3_637]);
 }
 
 #[test]
@@ -223,7 +339,7 @@ fn a_refusal_says_what_where_and_what_to_do() {
     let unplaced = Stream::new(&SHORT).normal_form(&mut []).unwrap_err();
     assert_eq!(
         unplaced.to_string(),
-        "refused 14: the output is too short, or the position is past its end; lend a longer output."
+        "refused 14: the output is too short, or the position is past its end; give a longer output."
     );
     let told = |number| Refusal {
         number,

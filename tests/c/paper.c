@@ -31,14 +31,14 @@ static void answers(void)
         mrd_checked answer;
     } rows[] = {
         {{4, 0}, 2, {0, 0, 0, 1}},
-        {{0}, 0, {MRD_NO_CLOSE, 0, 0, 0}},
-        {{4}, 1, {MRD_ID_CUT, 0, 0, 0}},
-        {{4, 0, 0}, 3, {MRD_ORDER, 1, 2, 0}},
-        {{6, 0}, 2, {MRD_UNKNOWN_ID, 0, 0, 0}},
-        {{3, 0, 0, 0, 0}, 5, {MRD_FIXED_PART_CUT, 0, 0, 0}},
-        {{3, 0, 1, 0, 0, 0}, 6, {MRD_MESSAGE_CUT, 0, 0, 0}},
-        {{5, 0, 0, 0, 0, 0}, 6, {MRD_NO_CLOSE, 1, 6, 0}},
-        {{0xF0, 3}, 2, {MRD_ORDER, 0, 0, 0}},
+        {{0}, 0, {MRD_REFUSED_NO_CLOSE, 0, 0, 0}},
+        {{4}, 1, {MRD_REFUSED_ID_CUT, 0, 0, 0}},
+        {{4, 0, 0}, 3, {MRD_REFUSED_ORDER, 1, 2, 0}},
+        {{6, 0}, 2, {MRD_REFUSED_UNKNOWN_ID, 0, 0, 0}},
+        {{3, 0, 0, 0, 0}, 5, {MRD_REFUSED_FIXED_PART_CUT, 0, 0, 0}},
+        {{3, 0, 1, 0, 0, 0}, 6, {MRD_REFUSED_MESSAGE_CUT, 0, 0, 0}},
+        {{5, 0, 0, 0, 0, 0}, 6, {MRD_REFUSED_NO_CLOSE, 1, 6, 0}},
+        {{0xF0, 3}, 2, {MRD_REFUSED_ORDER, 0, 0, 0}},
     };
     for (size_t i = 0; i < sizeof rows / sizeof rows[0]; i++) {
         mrd_checked told = mrd_check(rows[i].bytes, rows[i].length);
@@ -47,7 +47,7 @@ static void answers(void)
         CHECK(told.byte == rows[i].answer.byte);
         CHECK(told.count == rows[i].answer.count);
     }
-    CHECK(mrd_check(NULL, 0).refusal == MRD_NO_CLOSE); /* an empty slice may have any pointer */
+    CHECK(mrd_check(NULL, 0).refusal == MRD_REFUSED_NO_CLOSE); /* an empty slice may have any pointer */
 }
 
 enum { SAMPLES = 256, CHANNELS = 2, DATA = SAMPLES * CHANNELS * 8, TRAJECTORY = SAMPLES * 2 * 4 };
@@ -126,12 +126,12 @@ static void writer_refuses(void)
     memcpy(kept, out, sizeof out);
     mrd_parts none = {0};
     mrd_parts text = {.text = kept, .text_length = 3};
-    CHECK(mrd_write_parts(6, &none, out, sizeof out, 0).refusal == MRD_UNKNOWN_ID);
-    CHECK(mrd_write_parts(MRD_ID_IMAGE, &none, out, sizeof out, 0).refusal == MRD_FIXED_PART_CUT);
-    CHECK(mrd_write_parts(MRD_ID_CLOSE, &text, out, sizeof out, 0).refusal == MRD_BODY_LENGTH);
-    CHECK(mrd_write_parts(MRD_ID_TEXT, &text, out, sizeof out, 0).refusal == MRD_OUTPUT_SHORT);
-    CHECK(mrd_write_parts(MRD_ID_CLOSE, &none, out, sizeof out, 7).refusal == MRD_OUTPUT_SHORT);
-    CHECK(mrd_write_parts(MRD_ID_CLOSE, &none, out, sizeof out, SIZE_MAX).refusal == MRD_OUTPUT_SHORT);
+    CHECK(mrd_write_parts(6, &none, out, sizeof out, 0).refusal == MRD_REFUSED_UNKNOWN_ID);
+    CHECK(mrd_write_parts(MRD_ID_IMAGE, &none, out, sizeof out, 0).refusal == MRD_REFUSED_FIXED_PART_CUT);
+    CHECK(mrd_write_parts(MRD_ID_CLOSE, &text, out, sizeof out, 0).refusal == MRD_REFUSED_BODY_LENGTH);
+    CHECK(mrd_write_parts(MRD_ID_TEXT, &text, out, sizeof out, 0).refusal == MRD_REFUSED_OUTPUT_SHORT);
+    CHECK(mrd_write_parts(MRD_ID_CLOSE, &none, out, sizeof out, 7).refusal == MRD_REFUSED_OUTPUT_SHORT);
+    CHECK(mrd_write_parts(MRD_ID_CLOSE, &none, out, sizeof out, SIZE_MAX).refusal == MRD_REFUSED_OUTPUT_SHORT);
     CHECK(memcmp(out, kept, sizeof out) == 0);
     CHECK(mrd_write_parts(MRD_ID_CLOSE, &none, out, sizeof out, 6).position == 8);
 }
@@ -167,38 +167,38 @@ static void index_file(void)
 {
     uint8_t out[60];
     memset(out, 0xEE, sizeof out);
-    CHECK(mrd_write_index(TWO_RECORDS, 8, out, 56).refusal == MRD_OUTPUT_SHORT);
+    CHECK(mrd_write_index(TWO_RECORDS, 8, out, 56).refusal == MRD_REFUSED_OUTPUT_SHORT);
     CHECK(out[0] == 0xEE);
     CHECK(mrd_write_index(TWO_RECORDS, 8, out, sizeof out).length == 57);
     CHECK(memcmp(out, INDEX, 57) == 0);
     CHECK(out[57] == 0xEE && out[58] == 0xEE && out[59] == 0xEE);
 
     CHECK(mrd_index_matches(TWO_RECORDS, 8, INDEX, 57).refusal == 0);
-    CHECK(mrd_index_matches(TWO_RECORDS, 8, out, 58).refusal == MRD_INDEX_DIFFERS);
-    CHECK(mrd_index_matches(TWO_RECORDS, 8, NULL, 0).refusal == MRD_INDEX_DIFFERS);
+    CHECK(mrd_index_matches(TWO_RECORDS, 8, out, 58).refusal == MRD_REFUSED_INDEX_DIFFERS);
+    CHECK(mrd_index_matches(TWO_RECORDS, 8, NULL, 0).refusal == MRD_REFUSED_INDEX_DIFFERS);
     mrd_matched before = mrd_index_matches(TWO_RECORDS, 6, INDEX, 57);
-    CHECK(before.refusal == MRD_NO_CLOSE && before.record == 1 && before.byte == 6);
+    CHECK(before.refusal == MRD_REFUSED_NO_CLOSE && before.record == 1 && before.byte == 6);
     CHECK(with_file(mrd_question_place(1), INDEX, 57).place.start == 6);
-    CHECK(with_file(mrd_question_about(0, 1), INDEX, 57).refusal == MRD_NO_PART);
-    CHECK(with_file(mrd_question_about(5, 2), INDEX, 57).refusal == MRD_NO_RECORD);
-    CHECK(with_file(mrd_question_about(5, 2), INDEX, 56).refusal == MRD_INDEX_DIFFERS);
+    CHECK(with_file(mrd_question_about(0, 1), INDEX, 57).refusal == MRD_REFUSED_NO_PART);
+    CHECK(with_file(mrd_question_about(5, 2), INDEX, 57).refusal == MRD_REFUSED_NO_RECORD);
+    CHECK(with_file(mrd_question_about(5, 2), INDEX, 56).refusal == MRD_REFUSED_INDEX_DIFFERS);
     mrd_reply refused = mrd_ask_with_file(TWO_RECORDS, 6, mrd_question_place(0), INDEX, 57);
-    CHECK(refused.refusal == MRD_NO_CLOSE && refused.record == 1 && refused.byte == 6);
-    CHECK(refused.place.refusal == MRD_NO_CLOSE && refused.view.byte == 6 && refused.found.record == 1);
-    CHECK(with_file(mrd_question_place(2), INDEX, 57).place.refusal == MRD_NO_RECORD);
+    CHECK(refused.refusal == MRD_REFUSED_NO_CLOSE && refused.record == 1 && refused.byte == 6);
+    CHECK(refused.place.refusal == MRD_REFUSED_NO_CLOSE && refused.view.byte == 6 && refused.found.record == 1);
+    CHECK(with_file(mrd_question_place(2), INDEX, 57).place.refusal == MRD_REFUSED_NO_RECORD);
     CHECK(with_file(mrd_question_view(0, MRD_PART_TEXT, 0), INDEX, 57).view.start == 6);
-    CHECK(with_file(mrd_question_field(0, 0), INDEX, 57).field.refusal == MRD_NO_FIELD);
+    CHECK(with_file(mrd_question_field(0, 0), INDEX, 57).field.refusal == MRD_REFUSED_NO_FIELD);
     uint16_t asked[17] = {0};
-    CHECK(with_file(mrd_question_find(0, asked), INDEX, 57).found.refusal == MRD_NO_RECORD);
+    CHECK(with_file(mrd_question_find(0, asked), INDEX, 57).found.refusal == MRD_REFUSED_NO_RECORD);
     for (size_t i = 0; i < 57; i++) {
         out[i] ^= 1;
-        CHECK(mrd_index_matches(TWO_RECORDS, 8, out, 57).refusal == MRD_INDEX_DIFFERS);
-        CHECK(with_file(mrd_question_place(9), out, 57).place.refusal == MRD_INDEX_DIFFERS);
+        CHECK(mrd_index_matches(TWO_RECORDS, 8, out, 57).refusal == MRD_REFUSED_INDEX_DIFFERS);
+        CHECK(with_file(mrd_question_place(9), out, 57).place.refusal == MRD_REFUSED_INDEX_DIFFERS);
         out[i] ^= 1;
     }
-    CHECK(with_file(mrd_question_view(0, 2, 0), out, 56).view.refusal == MRD_INDEX_DIFFERS);
-    CHECK(with_file(mrd_question_field(0, 0), out, 56).field.refusal == MRD_INDEX_DIFFERS);
-    CHECK(with_file(mrd_question_find(0, asked), out, 56).found.refusal == MRD_INDEX_DIFFERS);
+    CHECK(with_file(mrd_question_view(0, 2, 0), out, 56).view.refusal == MRD_REFUSED_INDEX_DIFFERS);
+    CHECK(with_file(mrd_question_field(0, 0), out, 56).field.refusal == MRD_REFUSED_INDEX_DIFFERS);
+    CHECK(with_file(mrd_question_find(0, asked), out, 56).found.refusal == MRD_REFUSED_INDEX_DIFFERS);
 }
 
 /* Columns filled and believed, and 15 with one number changed. */
@@ -207,7 +207,7 @@ static void index_columns(void)
     uint64_t starts[3] = {91, 92, 93};
     uint16_t ids[3] = {94, 95, 96};
     uint32_t counters[3] = {97, 98, 99};
-    CHECK(mrd_fill_columns(TWO_RECORDS, 8, starts, 3, ids, 1, counters, 3).refusal == MRD_OUTPUT_SHORT);
+    CHECK(mrd_fill_columns(TWO_RECORDS, 8, starts, 3, ids, 1, counters, 3).refusal == MRD_REFUSED_OUTPUT_SHORT);
     CHECK(starts[0] == 91 && ids[0] == 94 && counters[0] == 97);
     CHECK(mrd_fill_columns(TWO_RECORDS, 8, starts, 3, ids, 2, counters, 3).length == 2);
     CHECK(starts[0] == 0 && starts[1] == 6 && starts[2] == 93);
@@ -221,9 +221,9 @@ static void index_columns(void)
     CHECK(WITH_COLUMNS(mrd_question_view(0, 2, 0)).view.start == 6);
     CHECK(WITH_COLUMNS(mrd_question_field(0, 0)).field.refusal == 20);
     CHECK(WITH_COLUMNS(mrd_question_find(0, asked)).found.refusal == 16);
-    CHECK(mrd_columns_match(TWO_RECORDS, 8, starts, 1, ids, 3, counters, 2).refusal == MRD_INDEX_DIFFERS);
+    CHECK(mrd_columns_match(TWO_RECORDS, 8, starts, 1, ids, 3, counters, 2).refusal == MRD_REFUSED_INDEX_DIFFERS);
     ids[1] = 5;
-    CHECK(mrd_columns_match(TWO_RECORDS, 8, starts, 3, ids, 3, counters, 2).refusal == MRD_INDEX_DIFFERS);
+    CHECK(mrd_columns_match(TWO_RECORDS, 8, starts, 3, ids, 3, counters, 2).refusal == MRD_REFUSED_INDEX_DIFFERS);
     CHECK(WITH_COLUMNS(mrd_question_place(1)).place.refusal == 15);
     CHECK(WITH_COLUMNS(mrd_question_view(0, 2, 0)).view.refusal == 15);
     CHECK(WITH_COLUMNS(mrd_question_field(0, 0)).field.refusal == 15);
@@ -234,11 +234,11 @@ static void index_columns(void)
 static void refused_views(void)
 {
     mrd_view_place wrong = mrd_view(TWO_RECORDS, 8, 1, MRD_PART_TEXT, 0);
-    CHECK(wrong.refusal == MRD_NO_PART && wrong.start == 0 && wrong.length == 0);
-    CHECK(mrd_view(TWO_RECORDS, 8, 0, 99, 0).refusal == MRD_NO_PART);
-    CHECK(mrd_view(TWO_RECORDS, 8, SIZE_MAX, MRD_PART_TEXT, 0).refusal == MRD_NO_RECORD);
+    CHECK(wrong.refusal == MRD_REFUSED_NO_PART && wrong.start == 0 && wrong.length == 0);
+    CHECK(mrd_view(TWO_RECORDS, 8, 0, 99, 0).refusal == MRD_REFUSED_NO_PART);
+    CHECK(mrd_view(TWO_RECORDS, 8, SIZE_MAX, MRD_PART_TEXT, 0).refusal == MRD_REFUSED_NO_RECORD);
     mrd_view_place of_refused = mrd_view(TWO_RECORDS, 7, 0, MRD_PART_TEXT, 0);
-    CHECK(of_refused.refusal == MRD_ID_CUT && of_refused.record == 1 && of_refused.byte == 6);
+    CHECK(of_refused.refusal == MRD_REFUSED_ID_CUT && of_refused.record == 1 && of_refused.byte == 6);
     CHECK(of_refused.start == 0 && of_refused.length == 0);
     mrd_view_place empty_text = mrd_view(TWO_RECORDS, 8, 0, MRD_PART_TEXT, 7);
     CHECK(empty_text.refusal == 0 && empty_text.start == 6 && empty_text.length == 0);
@@ -259,7 +259,7 @@ static void one_normal_form(void)
     memset(normal_one, 0xEE, sizeof normal_one);
     memset(normal_other, 0xEE, sizeof normal_other);
     CHECK(memcmp(one, other, sizeof one) != 0);
-    CHECK(mrd_normal_form(one, 1028, normal_one, 1027).refusal == MRD_OUTPUT_SHORT && normal_one[0] == 0xEE);
+    CHECK(mrd_normal_form(one, 1028, normal_one, 1027).refusal == MRD_REFUSED_OUTPUT_SHORT && normal_one[0] == 0xEE);
     CHECK(mrd_normal_form(one, 1028, normal_one, 1030).length == 1028);
     CHECK(mrd_normal_form(other, 1028, normal_other, 1030).length == 1028);
     CHECK(memcmp(normal_one, normal_other, 1030) == 0);
@@ -279,20 +279,20 @@ static void fields_and_find(void)
     memcpy(stream + 8, header, 340);
     put(stream, 348, 2, MRD_ID_CLOSE);
     mrd_field_answer counter = mrd_field(stream, sizeof stream, 1, 14);
-    CHECK(counter.refusal == 0 && counter.type == MRD_WHOLE && counter.whole == 77);
+    CHECK(counter.refusal == 0 && counter.value_type == MRD_WHOLE && counter.whole == 77);
     mrd_field_answer integer = mrd_field(stream, sizeof stream, 1, 276);
-    CHECK(integer.type == MRD_SIGNED && integer.integer == -2);
+    CHECK(integer.value_type == MRD_SIGNED && integer.integer == -2);
     mrd_field_answer nan = mrd_field(stream, sizeof stream, 1, 178);
-    CHECK(nan.type == MRD_FLOAT && nan.float_bits == 0x7F800001);
+    CHECK(nan.value_type == MRD_FLOAT && nan.float_bits == 0x7F800001);
     CHECK(mrd_float_of(0x3F800000) == 1.0f);
-    CHECK(mrd_field(stream, sizeof stream, 1, 15).refusal == MRD_NO_FIELD);
-    CHECK(mrd_field(stream, sizeof stream, 0, 0).refusal == MRD_NO_FIELD);
-    CHECK(mrd_field(stream, sizeof stream, 3, 15).refusal == MRD_NO_RECORD);
+    CHECK(mrd_field(stream, sizeof stream, 1, 15).refusal == MRD_REFUSED_NO_FIELD);
+    CHECK(mrd_field(stream, sizeof stream, 0, 0).refusal == MRD_REFUSED_NO_FIELD);
+    CHECK(mrd_field(stream, sizeof stream, 3, 15).refusal == MRD_REFUSED_NO_RECORD);
     uint16_t asked[17] = {5};
     CHECK(mrd_find(stream, sizeof stream, 0, asked).number == 1);
-    CHECK(mrd_find(stream, sizeof stream, 2, asked).refusal == MRD_NO_RECORD);
+    CHECK(mrd_find(stream, sizeof stream, 2, asked).refusal == MRD_REFUSED_NO_RECORD);
     asked[16] = 1;
-    CHECK(mrd_find(stream, sizeof stream, 0, asked).refusal == MRD_NO_RECORD);
+    CHECK(mrd_find(stream, sizeof stream, 0, asked).refusal == MRD_REFUSED_NO_RECORD);
 }
 
 /* A walk hands out each record once and then the answer; from any cursor there is one. */
@@ -307,9 +307,9 @@ static void walk(void)
     CHECK(mrd_check_from(TWO_RECORDS, 8, first.next).count == 2);
     mrd_cursor over = {7, 6, 400};
     mrd_checked told = mrd_check_from(TWO_RECORDS, 8, over);
-    CHECK(told.refusal == MRD_ORDER && told.record == 7 && told.byte == 6);
+    CHECK(told.refusal == MRD_REFUSED_ORDER && told.record == 7 && told.byte == 6);
     mrd_cursor past = {1000000, SIZE_MAX, 0};
-    CHECK(mrd_next(TWO_RECORDS, 8, past).answer.refusal == MRD_NO_CLOSE);
+    CHECK(mrd_next(TWO_RECORDS, 8, past).answer.refusal == MRD_REFUSED_NO_CLOSE);
 }
 
 /* Where a walk stands, views and fields are those by number. */
@@ -320,11 +320,11 @@ static void where_a_walk_stands(void)
     mrd_cursor end = mrd_next(TWO_RECORDS, 8, second).next;
     mrd_view_place text = mrd_view_at(TWO_RECORDS, 8, first, MRD_PART_TEXT, 0);
     CHECK(text.refusal == 0 && text.start == 6 && text.length == 0);
-    CHECK(mrd_view_at(TWO_RECORDS, 8, second, MRD_PART_TEXT, 0).refusal == MRD_NO_PART);
-    CHECK(mrd_view_at(TWO_RECORDS, 8, end, MRD_PART_TEXT, 0).refusal == MRD_NO_RECORD);
-    CHECK(mrd_field_at(TWO_RECORDS, 8, first, 0).refusal == MRD_NO_FIELD);
+    CHECK(mrd_view_at(TWO_RECORDS, 8, second, MRD_PART_TEXT, 0).refusal == MRD_REFUSED_NO_PART);
+    CHECK(mrd_view_at(TWO_RECORDS, 8, end, MRD_PART_TEXT, 0).refusal == MRD_REFUSED_NO_RECORD);
+    CHECK(mrd_field_at(TWO_RECORDS, 8, first, 0).refusal == MRD_REFUSED_NO_FIELD);
     mrd_field_answer cut = mrd_field_at(TWO_RECORDS, 7, second, 0);
-    CHECK(cut.refusal == MRD_ID_CUT && cut.record == 1 && cut.byte == 6);
+    CHECK(cut.refusal == MRD_REFUSED_ID_CUT && cut.record == 1 && cut.byte == 6);
 }
 
 int main(void)

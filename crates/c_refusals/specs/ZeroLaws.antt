@@ -28,7 +28,7 @@ use Rattle.mrd_views.specs.Views.{viewBy, viewOf}
 use Rattle.mrd_element.specs.Field as header
 use Rattle.mrd_fields.specs.Fields.{valued, fieldBy, fieldOf}
 use Rattle.mrd_find.specs.Find.{findOf}
-use Rattle.mrd_index.specs.Columns.{columnsAnswer}
+use Rattle.mrd_columns.specs.Columns.{columnsAnswer}
 use Rattle.mrd_index_match.specs.Compare.{believed, fileMatch, columnsMatch}
 use Rattle.mrd_ask.specs.declared.question.Question.{Question}
 use Rattle.mrd_ask.specs.Questions.{askOf}

@@ -3,7 +3,7 @@ ghost use mathlib.Core.Path.{_≡_};
 ghost use lib.ListN.{length};
 ghost use Rattle.mrd_stream.specs.Index.{startColumn, idColumn, counterColumn};
 ghost use Rattle.mrd_stream.specs.Output.{outputBy};
-ghost use Rattle.mrd_index.specs.Columns.{columnsAnswer};
+ghost use Rattle.mrd_columns.specs.Columns.{columnsAnswer};
 ghost use Rattle.mrd_index_match.specs.Compare.{fileMatch, columnsMatch};
 ghost use Rattle.c_written.specs.WrittenStructs.{cMatched, cWritten};
 use c_written::Matched;
@@ -43,5 +43,5 @@ pub extern "C" fn mrd_fill_columns(
     ensures { λ _. ⌜ now (ids .exit) ≡ outputBy (columnsAnswer (now (stream .entry)) (length (now (starts .entry))) (length (now (ids .entry))) (length (now (counters .entry)))) (idColumn (now (stream .entry))) (now (ids .entry)) ⌝ }
     ensures { λ _. ⌜ now (counters .exit) ≡ outputBy (columnsAnswer (now (stream .entry)) (length (now (starts .entry))) (length (now (ids .entry))) (length (now (counters .entry)))) (counterColumn (now (stream .entry))) (now (counters .entry)) ⌝ }
 {
-    Written::of(mrd_index::fill_columns(stream, starts, ids, counters))
+    Written::of(mrd_columns::fill_columns(stream, starts, ids, counters))
 }

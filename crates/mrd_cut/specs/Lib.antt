@@ -1,3 +1,4 @@
+pub mod Cut
 pub mod Order
 pub mod Unique
 pub mod Walked

@@ -15,7 +15,7 @@ use Rattle.mrd_cursor.specs.declared.cursor.Phase.{Phase}
 use Rattle.mrd_cursor.specs.declared.cursor.Phase.the-variants.{Start, Configured, Headed, Closed}
 use Rattle.mrd_cursor.specs.OrderLaws.{allowed-open}
 use Rattle.mrd_cursor.specs.Order.{isStart, isBeforeHeader, isHeaded, isOpen, isClosed, allowed, nextPhase}
-use Rattle.mrd_stream.specs.Cut.{Role, configuration, header, measured, text, close, roleOf, Lacks, May, InOrder, EndsInClose}
+use Rattle.mrd_cut.specs.Cut.{Role, configuration, header, measured, text, close, roleOf, Lacks, May, InOrder, EndsInClose}
 
 -- the phase that kinds lead to from p
 abbrev pub phaseFrom : Phase → List Kind → Phase

@@ -1,17 +1,22 @@
--- The places that the walk of an accepted stream gives are those of the messages of its only cut.
+-- The places that the walk of an accepted stream gives are those of the messages of its only cut, and they adjoin.
 -- Assumes nothing.
 use Prim.Native.Nat.{ℕ, _+_}
-use mathlib.Core.Path.{_≡_, refl, sym, ap₂, _∙_}
+use native.Mathlib.Nat.{add-zero, zero-add}
+use native.Mathlib.Omega.{arith}
+use mathlib.Core.Path.{_≡_, refl, sym, ap, ap₂, _∙_}
 use mathlib.Core.List.{List, [], _∷_, _++_, map, append-assoc}
 use lib.ListN.{length, take, drop, length-append}
 use lib.Seq.{take-append-seam, drop-at}
+use Rattle.mrd_format.specs.declared.kind.Kind.{Kind}
+use Rattle.mrd_format.specs.declared.kind.Kind.the-variants.{Close, Text}
 use Rattle.mrd_format.specs.Message.{WellFormed}
 use Rattle.mrd_cursor.specs.declared.cursor.Cursor.{Cursor}
 use Rattle.mrd_logic.specs.Answer.{accepted}
 use Rattle.mrd_stream.specs.Walk.{Trace, trace, answer}
 use Rattle.mrd_stream.specs.Places.{Located, located, places}
 use Rattle.mrd_logic.specs.Every.{Every}
-use Rattle.mrd_stream.specs.Cut.{joined, Cut}
+use Rattle.mrd_logic.specs.Joined.{joined}
+use Rattle.mrd_cut.specs.Cut.{Cut}
 use Rattle.mrd_cut.specs.Unique.{cut-unique}
 use Rattle.mrd_cut.specs.Accepted.{accepted-cut}
 use Rattle.mrd_cut.specs.Walked.{Walks, ends, faults, meets, piecesOf, walks}
@@ -32,25 +37,49 @@ places-pieces (meets {c} {m} {rest} {r} w a n v) before h =
     ap₂ (λ (l : List ℕ) (ls : List (List ℕ)). l ∷ ls) here later
 
 -- the pieces of s that the answered places name
-abbrev pub answered : List ℕ → List (List ℕ)
-answered s = map (partAt s) (places (trace s))
+abbrev pub placedPieces : List ℕ → List (List ℕ)
+placedPieces s = map (partAt s) (places (trace s))
 
--- these pieces, n of them, are a cut of s, and the only one
+-- 'adjoining' places from byte b on up to byte e: the first starts at b, each other where the one before it ends, and the last ends at e
+abbrev pub Adjoin : ℕ → List Located → ℕ → Type 0
+Adjoin b [] e = b ≡ e
+Adjoin b (l ∷ ls) e = (l .start ≡ b) × Adjoin (b + l .size) ls e
+
+-- two empty texts and a close adjoin so
+abbrev spanning : ℕ → ℕ → ℕ → Kind → Located
+spanning n start size k = record { number = n; start = start; size = size; kind = k; numbers = [] }
+
+pub adjoining : Adjoin 0 (spanning 0 0 6 Text ∷ spanning 1 6 6 Text ∷ spanning 2 12 2 Close ∷ []) 14
+adjoining = (refl, (refl, (refl, refl)))
+
+-- these pieces, n of them, are a cut of s, and the only one; their places adjoin, from the first byte of s to its end
 pub record AnsweredCut (s : List ℕ) (n : ℕ) : Type 0 where
-  pub well : Every WellFormed (answered s)
-  pub whole : joined (answered s) ≡ s
-  pub count : length (answered s) ≡ n
-  pub only : (other : Cut s) → other .pieces ≡ answered s
+  pub well : Every WellFormed (placedPieces s)
+  pub whole : joined (placedPieces s) ≡ s
+  pub count : length (placedPieces s) ≡ n
+  pub only : (other : Cut s) → other .pieces ≡ placedPieces s
+  pub adjoin : Adjoin 0 (places (trace s)) (length s)
+
+-- the places of a walk adjoin, as the messages do that it met
+places-adjoin : {c : Cursor} {s : List ℕ} {r : Trace} → Walks c s r → Adjoin (c .start) (places r) (c .start + length (joined (piecesOf r)))
+places-adjoin (ends {c}) = sym (add-zero (c .start))
+places-adjoin (faults {c} e) = sym (add-zero (c .start))
+places-adjoin (meets {c} {m} {rest} {r} w a n v) =
+    let far : c .start + length m + length (joined (piecesOf r)) ≡ c .start + length (m ++ joined (piecesOf r)) =
+    simp length-append (omega arith) in
+    (refl, rw far at (places-adjoin v))
 
 -- the answered places cut an accepted stream
 pub places-cut : (s : List ℕ) (n : ℕ) → answer s ≡ accepted n → AnsweredCut s n
 places-cut s n e =
     let c = accepted-cut s e in
     let cut = c .0 .cut in
-    let same : answered s ≡ cut .pieces = places-pieces (walks s) [] refl ∙ sym (c .1) in
+    let same : placedPieces s ≡ cut .pieces = places-pieces (walks s) [] refl ∙ sym (c .1) in
+    let all : joined (piecesOf (trace s)) ≡ s = ap joined (sym (c .1)) ∙ cut .whole in
     record {
       well = rw same (cut .well);
       whole = rw same (cut .whole);
       count = rw same (c .2);
       only = λ other. cut-unique s other cut ∙ sym same;
+      adjoin = rw (all, zero-add) at (places-adjoin (walks s));
     }

@@ -19,7 +19,8 @@ use Rattle.mrd_stream.specs.Walk.{endedAs, ended, trace, walk, verdict, answer}
 use Rattle.mrd_stream.specs.WalkLaws.{walk-end, walk-fault}
 use Rattle.mrd_logic.specs.Every.{Every}
 use Rattle.mrd_logic.specs.Checks.{FirstFault}
-use Rattle.mrd_stream.specs.Cut.{joined, kindsIn, close, Lacks, InOrder}
+use Rattle.mrd_logic.specs.Joined.{joined}
+use Rattle.mrd_cut.specs.Cut.{kindsIn, close, Lacks, InOrder}
 use Rattle.mrd_cut.specs.Order.{open-iff-lacks-close}
 use Rattle.mrd_judge.specs.WholeLaws.{faulty-judge}
 use Rattle.mrd_cut.specs.Walked.{refused-not-accepted, Stops, met, piecesOf, cursorAfter, answer-after}

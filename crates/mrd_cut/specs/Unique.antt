@@ -8,7 +8,8 @@ use lib.ListN.{length, length-append}
 use Rattle.mrd_format.specs.Message.{WellFormed}
 use Rattle.mrd_format.specs.MessageLaws.{well-least, prefix-free}
 use Rattle.mrd_logic.specs.Every.{Every}
-use Rattle.mrd_stream.specs.Cut.{joined, Cut}
+use Rattle.mrd_logic.specs.Joined.{joined}
+use Rattle.mrd_cut.specs.Cut.{Cut}
 
 -- a well-formed message takes bytes
 pub not-empty : (m rest : List ℕ) → WellFormed m → m ++ rest ≡ [] → ⊥

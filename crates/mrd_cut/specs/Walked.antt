@@ -22,7 +22,8 @@ use Rattle.mrd_stream.specs.Walk.{ended, Trace, message, done, walk, trace, ver
 use Rattle.mrd_stream.specs.WalkLaws.{walk-end, walk-fault, walk-next}
 use Rattle.mrd_logic.specs.Every.{Every}
 use Rattle.mrd_logic.specs.Checks.{FirstFault}
-use Rattle.mrd_stream.specs.Cut.{joined, kindsIn, InOrder}
+use Rattle.mrd_logic.specs.Joined.{joined}
+use Rattle.mrd_cut.specs.Cut.{kindsIn, InOrder}
 use Rattle.mrd_cut.specs.Order.{phaseFrom, phaseAfter, AllowedFrom, in-order-iff}
 use Rattle.mrd_cut.specs.Unique.{not-empty}
 use Rattle.mrd_judge.specs.WholeLaws.{WholeAt, judge-whole, judge-faulty, wellFormed, well-judge}

@@ -1,6 +1,6 @@
--- The final theorems about streams, each proved in a line from named parts; start here. They hold of every stream, and are said with the
+-- The theorems of the three demands, each proved in a line from named parts; start here. They hold of every stream, and are said with the
 -- answer (`answer`, `accepted`, `refused`), the record list (`records`), the normal form (`normal`), well-formed messages (`WellFormed`) and
--- cuts (`Cut`). That the code gives these answers and writes this normal form is what its contracts say.
+-- cuts (`Cut`). That the code gives these answers and writes these bytes is what its contracts say.
 -- Assumes nothing.
 use Prim.Native.Nat.{ℕ}
 use mathlib.Core.Path.{_≡_, sym, ap, _∙_}
@@ -8,20 +8,53 @@ use mathlib.Core.Logic.{_↔_}
 use mathlib.Core.List.{List, map}
 use lib.ListN.{length}
 use Rattle.mrd_numbers.specs.Little.{Bytes}
+use Rattle.mrd_logic.specs.Answer.{accepted, refused, Answer, answered, andThen}
+use Rattle.mrd_format.specs.Parts.{Contents}
 use Rattle.mrd_format.specs.Content.{Record, bytesOf}
-use Rattle.mrd_logic.specs.Answer.{accepted, refused}
-use Rattle.mrd_stream.specs.Walk.{answer}
-use Rattle.mrd_stream.specs.Records.{records}
+use Rattle.mrd_cursor.specs.declared.cursor.Cursor.{Cursor}
+use Rattle.mrd_cursor.specs.Cursors.{beginning}
+use Rattle.mrd_stream.specs.Walk.{answer, trace}
+use Rattle.mrd_stream.specs.Places.{Located, place}
+use Rattle.mrd_demands.specs.Records.{records}
 use Rattle.mrd_stream.specs.Normal.{normal}
-use Rattle.mrd_stream.specs.Cut.{joined, Cut}
+use Rattle.mrd_stream.specs.Index.{index}
+use Rattle.mrd_stream.specs.Output.{outputBy}
+use Rattle.mrd_logic.specs.Joined.{joined}
+use Rattle.mrd_cut.specs.Cut.{Cut}
 use Rattle.mrd_cut.specs.Accepted.{Acceptable, accepted-iff}
 use Rattle.mrd_cut.specs.Refused.{RefusedAt, refused-iff}
 use Rattle.mrd_cut.specs.Places.{AnsweredCut, places-cut}
 use Rattle.mrd_cut.specs.Unique.{cut-unique}
+use Rattle.mrd_cut.specs.Steps.{Handed}
+use Rattle.mrd_cut.specs.Steps as steps
+use Rattle.mrd_record.specs.AtCursor.{Reached, placeAt}
+use Rattle.mrd_record.specs.RecordLaws as records-at
+use Rattle.mrd_index_match.specs.Compare.{fileMatch, columnsMatch}
+use Rattle.mrd_index_match.specs.Exactly.{Held}
+use Rattle.mrd_ask.specs.declared.question.Question.{Question}
+use Rattle.mrd_ask.specs.Questions.{askOf}
+use Rattle.mrd_ask.specs.Belief.{Believed}
+use Rattle.mrd_ask.specs.BeliefLaws.{ask-believed}
+use Rattle.mrd_writer.specs.Write.{writeAnswer, writeOutput}
+use Rattle.mrd_writer.specs.ReadBack.{ReadsBack}
+use Rattle.mrd_writer.specs.ReadBack as writer
+use Rattle.mrd_demands.specs.Refusals.{Refusal, output-kept, written-kept}
+use Rattle.mrd_demands.specs.RecordViews.{Nth, ViewsOf}
+use Rattle.mrd_demands.specs.RecordViews as views
 use Rattle.mrd_demands.specs.Messages.{recordsIn}
 use Rattle.mrd_demands.specs.Normal.{accepted-again, normal-long, normal-records, normal-own, normal-written, records-cut}
 
--- Demand 2: accepted exactly
+-- Demand 1: a refusal changes no output byte
+
+-- whatever was to be written: a normal form, an index, a column
+pub refusal-keeps-output : (a : Answer ℕ) → Refusal a → (w o : List ℕ) → outputBy a w o ≡ o
+refusal-keeps-output = output-kept
+
+-- or a message
+pub refused-message-keeps-output : (id : ℕ) (c : Contents) (at : ℕ) (o : List ℕ) → Refusal (writeAnswer id c at o) → writeOutput id c at o ≡ o
+refused-message-keeps-output = written-kept
+
+-- Demand 2: reading and writing follow the rules
 
 -- a stream is accepted, with the count n, exactly when it has a cut into n well-formed messages, at most 1,000,000, in order, the last a close
 pub accepted-exactly : (s : List ℕ) (n : ℕ) → (answer s ≡ accepted n) ↔ ((a : Acceptable s) × (length (a .cut .pieces) ≡ n))
@@ -43,6 +76,31 @@ places-are-the-cut = places-cut
 -- the bytes fix the records: the record list of an accepted stream holds the record of each message of its only cut, in order
 pub records-are-the-cut : (s : List ℕ) (n : ℕ) → answer s ≡ accepted n → (c : Cut s) → records s ≡ recordsIn (c .pieces) (c .well)
 records-are-the-cut s n e c = records-cut s e c
+
+-- from the beginning on, the steps of a walk yield the places and kinds of the stream's messages in order, and then its answer
+pub steps-are-the-messages : (s : List ℕ) → Handed s beginning (trace s)
+steps-are-the-messages = steps.steps-follow
+
+-- where a walk over an accepted stream stands after n steps, the record is record n: so are its views and fields
+pub walk-stands-at-record : (s : List ℕ) {k : ℕ} → answer s ≡ accepted k → (n : ℕ) (c : Cursor) → Reached s beginning n c →
+    placeAt c s ≡ place s n
+walk-stands-at-record = records-at.walked-place
+
+-- each view of a record is that part of it, and the record is the record list's
+pub views-are-the-records-parts : (s : List ℕ) (n : ℕ) {l : Located} → place s n ≡ answered l →
+    (r : Record) × (Nth (records s) n r × ViewsOf s n r)
+views-are-the-records-parts = views.views-are-parts
+
+-- what we write reads back as the same record: where the writer answers, what it left is a well-formed message whose record is that of what was
+-- given, and wherever order and count allow, a walk over any stream that has it there meets it
+pub written-reads-back : (id : ℕ) (c : Contents) (at : ℕ) (o : List ℕ) (p : ℕ) → writeAnswer id c at o ≡ answered p → ReadsBack id c at o p
+written-reads-back = writer.written-reads-back
+
+-- an index is believed exactly when it equals the one the stream itself yields, whatever is asked and in either form
+pub index-believed-exactly : (s : List ℕ) (q : Question) (cs file starts ids counters : List ℕ) →
+    Believed s (file ≡ index s) (askOf s q cs) (andThen (fileMatch s file) (λ _. askOf s q cs)) ×
+    Believed s (Held s starts ids counters) (askOf s q cs) (andThen (columnsMatch s starts ids counters) (λ _. askOf s q cs))
+index-believed-exactly = ask-believed
 
 -- Demand 3: one meaning, one set of bytes
 

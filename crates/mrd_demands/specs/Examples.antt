@@ -13,7 +13,7 @@ use Rattle.mrd_logic.specs.Answer.{accepted}
 use Rattle.mrd_stream.specs.Walk.{answer, trace, walk, ended}
 use Rattle.mrd_judge.specs.Judge.{judge, judgeAs}
 use Rattle.mrd_judge.specs.Stages.{checksAs, frontChecks, idChecks, fixedChecks, sizeChecks}
-use Rattle.mrd_stream.specs.Records.{records}
+use Rattle.mrd_demands.specs.Records.{records}
 use Rattle.mrd_stream.specs.Normal.{normal}
 
 -- the configuration name 'a', with this byte among the filler, and a close

@@ -12,7 +12,8 @@ use Rattle.mrd_format.specs.Message.{WellFormed}
 use Rattle.mrd_format.specs.Content.{Record, recordOf, normalOf, bytesOf}
 use Rattle.mrd_format.specs.Rewritten.{record-writes}
 use Rattle.mrd_format.specs.NormalLaws.{well-normalised, normal-well}
-use Rattle.mrd_stream.specs.Cut.{joined, kindsIn}
+use Rattle.mrd_logic.specs.Joined.{joined}
+use Rattle.mrd_cut.specs.Cut.{kindsIn}
 
 -- what f finds in each of some well-formed messages, by its kind and bytes
 abbrev pub eachIn : {A : Type 0} → (Kind → List ℕ → A) → (ms : List (List ℕ)) → Every WellFormed ms → List A

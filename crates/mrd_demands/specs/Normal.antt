@@ -11,9 +11,10 @@ use Rattle.mrd_format.specs.Content.{Record, recordOf, normalOf, bytesOf}
 use Rattle.mrd_cursor.specs.declared.cursor.Cursor.{Cursor}
 use Rattle.mrd_stream.specs.Walk.{Trace, trace, answer}
 use Rattle.mrd_logic.specs.Answer.{accepted}
-use Rattle.mrd_stream.specs.Records.{recordsOf, records}
+use Rattle.mrd_demands.specs.Records.{recordsOf, records}
 use Rattle.mrd_stream.specs.Normal.{normalFrom, normal}
-use Rattle.mrd_stream.specs.Cut.{joined, Cut}
+use Rattle.mrd_logic.specs.Joined.{joined}
+use Rattle.mrd_cut.specs.Cut.{Cut}
 use Rattle.mrd_cut.specs.Unique.{cut-unique}
 use Rattle.mrd_cut.specs.Walked.{Walks, ends, faults, meets, walks, piecesOf}
 use Rattle.mrd_cut.specs.Accepted.{Acceptable, accepted-cut, cut-accepted}

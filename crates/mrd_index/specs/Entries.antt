@@ -13,11 +13,6 @@ use Rattle.mrd_stream.specs.Walk.{Trace, message}
 use Rattle.mrd_stream.specs.Index.{Entry, entryOf, entriesOf}
 use Rattle.mrd_stream.specs.Places.{Located}
 use Rattle.mrd_stream.specs.StepLaws.{Passes}
-use Rattle.mrd_index.specs.declared.entry.Entry as kept
-
--- an entry as the code keeps it
-abbrev pub toldEntry : kept.Entry → Entry
-toldEntry e = record { start = e .start; id = e .id; counter = e .counter }
 
 -- the entry of the record that lies at l in s
 abbrev pub entryAt : List ℕ → Located → Entry

@@ -3,5 +3,3 @@ pub mod Counted
 pub mod File
 pub mod FileLaws
 pub mod Filling
-pub mod Columns
-pub mod ColumnLaws

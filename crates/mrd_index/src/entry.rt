@@ -1,16 +1,12 @@
 // The index's entry for one record: where it starts, its id and its scan counter.
 ghost use mathlib.Core.Path.{_≡_};
 ghost use Rattle.mrd_stream.specs.Told.{toldRecord};
-ghost use Rattle.mrd_index.specs.Entries.{toldEntry, entryAt, Within};
+ghost use Rattle.mrd_index_fields.specs.IndexFields.{toldEntry};
+ghost use Rattle.mrd_index.specs.Entries.{entryAt, Within};
+use mrd_index_fields::Entry;
 use mrd_judge::fixed_part;
 use mrd_message::scan_counter;
 use mrd_stream::Record;
-
-pub struct Entry {
-    pub start: u64,
-    pub id: u16,
-    pub counter: u32,
-}
 
 // The entry of a record of the stream s.
 pub fn entry_of(s: &[u8], here: Record) -> Entry

@@ -5,31 +5,22 @@ ghost use lib.ListN.{length};
 ghost use Rattle.mrd_numbers.specs.Stored.{stored};
 ghost use Rattle.mrd_logic.specs.Answer.{accepted};
 ghost use Rattle.mrd_stream.specs.Walk.{answer};
-ghost use Rattle.mrd_stream.specs.Index.{entries, frontField, entryField, entryFields, endField};
+ghost use Rattle.mrd_stream.specs.Index.{entries, entryFields};
 ghost use Rattle.mrd_stream.specs.Output.{toldWritten};
-ghost use Rattle.mrd_index.specs.Entries.{toldEntry};
 ghost use Rattle.mrd_index.specs.File.{indexAnswer, indexOutput};
-use crate::entry::Entry;
 use crate::entry::entry_of;
 use mrd_cursor::Cursor;
 use mrd_format::refusal;
+use mrd_index_fields::END;
+use mrd_index_fields::ENTRY;
+use mrd_index_fields::FRONT;
+use mrd_index_fields::put_end;
+use mrd_index_fields::put_entry;
+use mrd_index_fields::put_front;
 use mrd_stream::Checked;
 use mrd_stream::Step;
 use mrd_stream::Written;
 use mrd_stream::check;
-use mrd_tagged::put_tag;
-use mrd_tagged::put_u16_at;
-use mrd_tagged::put_u32_at;
-use mrd_tagged::put_u64_at;
-
-// The bytes before the first entry: edition and stream length.
-pub const FRONT: usize = 16;
-
-// The bytes of one entry.
-pub const ENTRY: usize = 17;
-
-// The bytes after the last entry: the record count.
-pub const END: usize = 7;
 
 // Writes the index of the stream s to the front of out and answers its length, which is 23 bytes and 17 for
 // each record; else answers the stream's refusal, or 14 where out is shorter than that. The rest of out keeps
@@ -82,39 +73,4 @@ fn put_entries(s: &[u8], out: &mut [u8])
             }
         }
     }
-}
-
-// Edition 1, and the stream's length.
-fn put_front(out: &mut [u8], total: u64)
-    requires { ⌜ 16 ≤ length (now out) ⌝ }
-    ensures { λ _. ⌜ now (out .exit) ≡ stored 0 (frontField total) (now (out .entry)) ⌝ }
-{
-    put_tag(out, 0, 1, 2);
-    put_u16_at(out, 3, 1);
-    put_tag(out, 5, 2, 8);
-    put_u64_at(out, 8, total);
-}
-
-// One record's entry, from `at` on. The test is for a stream that changes between the check and the walk: no byte
-// is written past the output then.
-fn put_entry(out: &mut [u8], at: usize, entry: Entry)
-    requires { ⌜ at + 17 ≤ length (now out) ⌝ }
-    ensures { λ _. ⌜ now (out .exit) ≡ stored at (entryField (toldEntry entry)) (now (out .entry)) ⌝ }
-{
-    if out.len() < at + ENTRY {
-        return;
-    }
-    put_tag(out, at, 3, 14);
-    put_u64_at(out, at + 3, entry.start);
-    put_u16_at(out, at + 11, entry.id);
-    put_u32_at(out, at + 13, entry.counter);
-}
-
-// The record count, from `at` on.
-fn put_end(out: &mut [u8], at: usize, count: u32)
-    requires { ⌜ at + 7 ≤ length (now out) ⌝ }
-    ensures { λ _. ⌜ now (out .exit) ≡ stored at (endField count) (now (out .entry)) ⌝ }
-{
-    put_tag(out, at, 4, 4);
-    put_u32_at(out, at + 3, count);
 }

@@ -1,15 +1,9 @@
-// The index of an accepted stream: written as a file, or filled into columns.
+// The index of an accepted stream, written as a file; and the entry of each record.
 //
-// No public function here has a `requires` but `entry_of`: any bytes and any output get an answer. The stream is
-// checked first, and a refusal writes no byte. Assumes nothing.
-mod columns;
+// `write_index` has no `requires`: any bytes and any output get an answer. The stream is checked first, and a refusal
+// writes no byte. Assumes nothing.
 mod entry;
 mod file;
 
-pub use columns::fill_columns;
-pub use entry::Entry;
 pub use entry::entry_of;
-pub use file::END;
-pub use file::ENTRY;
-pub use file::FRONT;
 pub use file::write_index;

@@ -26,9 +26,6 @@ fields-held f a b c i (e ∷ es) =
 
 -- so a file is compared whole
 module _ (s f a b c : List ℕ) where
-  front : Bool
-  front = begins (frontField (length s)) f
-
   file-whole : {n : ℕ} → answer s ≡ accepted n →
       ((begins (frontField (length s)) f && allSame (given File f a b c) 0 (entries s)) && equal (drop (16 + 17 * n) f) (endField n)) ≡ equal f (index s)
   file-whole {n} e =

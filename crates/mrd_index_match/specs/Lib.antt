@@ -2,4 +2,3 @@ pub mod Compare
 pub mod CompareLaws
 pub mod Comparing
 pub mod Exactly
-pub mod Asked

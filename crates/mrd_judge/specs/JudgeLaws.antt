@@ -14,9 +14,9 @@ use Rattle.mrd_format.specs.declared.kind.Identified.{Identified}
 use Rattle.mrd_format.specs.declared.kind.Identified.the-variants.{Known, Unknown}
 use Rattle.mrd_format.specs.Kinds.{fixedSize}
 use Rattle.mrd_format.specs.CheckLaws.{own-numbered}
-use Rattle.mrd_format.specs.Message.{limit, fixedPart, ownChecks, sizeOf}
+use Rattle.mrd_format.specs.Message.{limit, fixedPart, sizeOf}
 use Rattle.mrd_format.specs.Sizes.{capped}
-use Rattle.mrd_logic.specs.Checks.{Check, _when_, first}
+use Rattle.mrd_logic.specs.Checks.{Check, first}
 use Rattle.mrd_logic.specs.CheckLaws.{first-skip, first-passed, first-stops, numbered}
 use Rattle.mrd_cursor.specs.declared.cursor.Cursor.{Cursor}
 use Rattle.mrd_judge.specs.Stages.{frontChecks, idChecks, fixedChecks, sizeChecks, id, fixed, size, checksOf, checksAs}

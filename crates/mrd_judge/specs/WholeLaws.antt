@@ -5,16 +5,16 @@ use Prim.Native.Nat.{ℕ, zero, suc, _+_, _≤_, _<_}
 use native.Mathlib.Omega.{arith}
 use mathlib.Core.Path.{_≡_, refl, sym, ap, _∙_}
 use mathlib.Core.Bool.{true, false, not, true≢false}
-use mathlib.Core.List.{List, [], _∷_, _++_}
+use mathlib.Core.List.{List, [], _++_}
 use lib.ListN.{length, take, length-append}
 use lib.Seq.{length-take-le}
-use lib.Dec.{ltb, eqb}
+use lib.Dec.{eqb}
 use borrow.Author.Tests.{leb-false, ltb-false, not-false, lt-leb, le-ltb, ne-eqb}
 use Rattle.mrd_format.specs.declared.kind.Kind.{Kind}
 use Rattle.mrd_format.specs.declared.kind.Identified.{Identified}
 use Rattle.mrd_format.specs.declared.kind.Identified.the-variants.{Known, Unknown}
 use Rattle.mrd_format.specs.Kinds.{fixedSize, identified}
-use Rattle.mrd_logic.specs.Checks.{Check, _when_, first, Passed, FirstFault}
+use Rattle.mrd_logic.specs.Checks.{_when_, first, Passed, FirstFault}
 use Rattle.mrd_format.specs.Message.{limit, idAt, fixedPart, ownChecks, sizeOf, WellFormed}
 use Rattle.mrd_format.specs.MessageLaws.{size-least, id-take, fixed-take, well-known, well-fixed, well-size}
 use Rattle.mrd_cursor.specs.declared.cursor.Cursor.{Cursor}

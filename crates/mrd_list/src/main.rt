@@ -1,5 +1,6 @@
 // Lists the records of the stream on standard input: a line for each with its number, id, start and
-// size, or one line with the refusal. At most 65,536 bytes are listed; of more, nothing is.
+// size, or one line with the refusal. At most 65,536 bytes are listed; of more, nothing is, and what
+// comes after the first byte too many is not read.
 use libc::STDIN_FILENO;
 use libc::STDOUT_FILENO;
 use mrd_cursor::Cursor;
@@ -15,23 +16,10 @@ fn main() {
     let mut input = [0u8; 65537];
     let got = io::read_full(STDIN_FILENO, &mut input);
     if LIMIT < got {
-        drain();
         io::write_all(STDOUT_FILENO, b"input over 65536 bytes\n");
         return;
     }
     list(&input[..got]);
-}
-
-// Reads the input to its end, so that whoever writes it is not cut off.
-fn drain() {
-    let mut chunk = [0u8; 4096];
-    let mut turns: u64 = 0;
-    while turns < 0x1000_0000_0000_0000 {
-        if io::read_full(STDIN_FILENO, &mut chunk) == 0 {
-            return;
-        }
-        turns += 1;
-    }
 }
 
 // The whole listing of s: nothing of a refused stream but its refusal.

@@ -11,18 +11,9 @@ use Rattle.mrd_numbers.specs.WriteLaws.{length-toBytes}
 use Rattle.mrd_numbers.specs.Stored.{front, lentFrom, returned, front-next, front-two}
 use Rattle.mrd_format.specs.declared.kind.Kind.{Kind}
 use Rattle.mrd_format.specs.declared.kind.Kind.the-variants.{ConfigurationName, Acquisition, Image, Waveform}
-use Rattle.mrd_format.specs.Kinds.{fixedSize}
 use Rattle.mrd_format.specs.Parts.{Contents}
 use Rattle.mrd_format.specs.Content.{fixedOf, bodyOf, contentOf}
-
--- what is given makes a whole fixed part, and a text's length fits its four bytes
-pub record Ready (k : Kind) (c : Contents) : Type 0 where
-  pub fixed : length (fixedOf k c) ≡ fixedSize k
-  pub text : length (c .parts .text) < 2 ^ 32
-
--- what is given is ready, and the part o of the output has room for what follows the id
-abbrev pub Roomy : Kind → Contents → List ℕ → Type 0
-Roomy k c o = Ready k c × (length (contentOf k c) ≤ length o)
+use Rattle.mrd_put.specs.Room.{Ready}
 
 -- what a copy of all of a leaves in r
 abbrev copied : List ℕ → List ℕ → List ℕ

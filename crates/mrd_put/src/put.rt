@@ -8,7 +8,7 @@ ghost use Rattle.mrd_numbers.specs.Little.{toBytes};
 ghost use Rattle.mrd_numbers.specs.Stored.{front};
 ghost use Rattle.mrd_format.specs.Parts.{contents};
 ghost use Rattle.mrd_format.specs.Content.{contentOf};
-ghost use Rattle.mrd_put.specs.PutLaws.{Roomy};
+ghost use Rattle.mrd_put.specs.Room.{Roomy};
 use mrd_format::Kind;
 use mrd_numbers::put_u32;
 use mrd_numbers::put_u64;

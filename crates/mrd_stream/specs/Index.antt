@@ -1,6 +1,6 @@
 -- 'The index' of a stream, as a file and as columns.
 -- Assumes nothing.
-use Prim.Native.Nat.{ℕ, suc}
+use Prim.Native.Nat.{ℕ}
 use mathlib.Core.List.{List, [], _∷_, _++_, map}
 use lib.ListN.{length}
 use Rattle.mrd_numbers.specs.Little.{toBytes}

@@ -1,7 +1,5 @@
 pub mod Walk
 pub mod Places
-pub mod Records
-pub mod Cut
 pub mod Normal
 pub mod Index
 pub mod WalkLaws

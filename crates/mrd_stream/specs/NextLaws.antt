@@ -18,7 +18,7 @@ use Rattle.mrd_judge.specs.Judge.{Judged, faulty, whole, judge}
 use Rattle.mrd_judge.specs.JudgeLaws.{fixed-long}
 use Rattle.mrd_judge.specs.WholeLaws.{WholeAt, judge-whole}
 use Rattle.mrd_stream.specs.Walk.{ended}
-use Rattle.mrd_stream.specs.Places.{located, Stepped, handed, over, stepBy, stepAt, step, handedOut}
+use Rattle.mrd_stream.specs.Places.{located, handed, over, stepBy, stepAt, step, handedOut}
 
 -- the step where bytes are left
 step-front : (c : Cursor) (t : List ℕ) → 0 < length t → stepAt c t ≡ stepBy (judge c t) c t

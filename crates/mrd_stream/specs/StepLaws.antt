@@ -16,7 +16,7 @@ use Rattle.mrd_logic.specs.Answer.{Verdict}
 use Rattle.mrd_stream.specs.Walk.{Trace, message, done, walk, trace, from}
 use Rattle.mrd_stream.specs.WalkLaws.{walk-end, walk-fault, walk-next}
 use Rattle.mrd_judge.specs.WholeLaws.{WholeAt, judge-whole, wellFormed}
-use Rattle.mrd_stream.specs.Places.{Located, located, Stepped, handed, over, stepBy, stepAt, step}
+use Rattle.mrd_stream.specs.Places.{Located, located, handed, over, stepBy, stepAt, step}
 
 -- a step from c over s that hands out l goes to d: it passes one message of the trace, the well-formed bytes at c
 pub record Passes (c : Cursor) (s : List ℕ) (l : Located) (d : Cursor) : Type 0 where

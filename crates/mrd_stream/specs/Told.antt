@@ -1,6 +1,5 @@
 -- What each case of the reader's enums says: for each, the paper's number and values.
 -- Assumes nothing.
-use Prim.Native.Nat.{ℕ}
 use Rattle.mrd_format.specs.Shapes.{kindOf, toldNumbers}
 use Rattle.mrd_stream.specs.declared.answer.Checked.{Checked}
 use Rattle.mrd_stream.specs.declared.answer.Checked

@@ -1,15 +1,14 @@
 -- The laws of the walk that serve every walker: what it meets where no bytes are left, at a fault, and at a whole message.
 -- Assumes nothing.
-use Prim.Native.Nat.{ℕ, zero, suc, pred, _+_, _-_, _≤_, _<_}
-use native.Mathlib.Nat.{le-of-suc-le-suc, not-suc-le-zero}
-use native.Mathlib.Omega.{arith}
-use mathlib.Core.Path.{_≡_, refl, sym, ap, _∙_}
-use mathlib.Core.List.{List, [], _∷_, _++_}
-use lib.ListN.{length, take, drop, length-drop}
+use Prim.Native.Nat.{ℕ, zero, suc, _-_, _<_}
+use native.Mathlib.Nat.{not-suc-le-zero}
+use mathlib.Core.Path.{_≡_, refl, ap}
+use mathlib.Core.List.{List, [], _∷_}
+use lib.ListN.{take, drop}
 use Rattle.mrd_format.specs.declared.kind.Kind.{Kind}
 use Rattle.mrd_cursor.specs.declared.cursor.Cursor.{Cursor}
-use Rattle.mrd_judge.specs.Judge.{Judged, faulty, whole, judge}
-use Rattle.mrd_stream.specs.Walk.{ended, Trace, message, done, walk}
+use Rattle.mrd_judge.specs.Judge.{faulty, whole, judge}
+use Rattle.mrd_stream.specs.Walk.{ended, message, done, walk}
 use Rattle.mrd_cursor.specs.Cursors.{after}
 use Rattle.mrd_logic.specs.Answer.{refused}
 

@@ -21,7 +21,8 @@ pub fn view_place_at(c: Cursor, s: &[u8], part: Part) -> ViewPlace
 
 // That part of the stream, or the empty part at the stream's front where view_place_at is a refusal.
 pub fn view_at(c: Cursor, s: &[u8], part: Part) -> &[u8]
-    ensures { λ r. ⌜ (now r ≡ shown (viewBy (placeAt c (now (s .entry))) part (now (s .entry))) (now (s .entry))) × ((r .ptr .0 ≡ s .entry .ptr .0) × (r .ptr .1 ≡ s .entry .ptr .1 + startOf (viewBy (placeAt c (now (s .entry))) part (now (s .entry))))) ⌝ }
+    ensures { λ r. ⌜ now r ≡ shown (viewBy (placeAt c (now (s .entry))) part (now (s .entry))) (now (s .entry)) ⌝ }
+    ensures { λ r. ⌜ (r .ptr .0 ≡ s .entry .ptr .0) × (r .ptr .1 ≡ s .entry .ptr .1 + startOf (viewBy (placeAt c (now (s .entry))) part (now (s .entry)))) ⌝ }
 {
     let place = view_place_at(c, s, part);
     viewed(place, s)

@@ -44,7 +44,8 @@ pub fn view_place(s: &[u8], n: usize, part: Part) -> ViewPlace
 // A part of record n: that part of the stream, or the empty part at the stream's front where
 // view_place is a refusal. One walk over the stream.
 pub fn view(s: &[u8], n: usize, part: Part) -> &[u8]
-    ensures { λ r. ⌜ (now r ≡ shown (viewOf (now (s .entry)) n part) (now (s .entry))) × ((r .ptr .0 ≡ s .entry .ptr .0) × (r .ptr .1 ≡ s .entry .ptr .1 + startOf (viewOf (now (s .entry)) n part))) ⌝ }
+    ensures { λ r. ⌜ now r ≡ shown (viewOf (now (s .entry)) n part) (now (s .entry)) ⌝ }
+    ensures { λ r. ⌜ (r .ptr .0 ≡ s .entry .ptr .0) × (r .ptr .1 ≡ s .entry .ptr .1 + startOf (viewOf (now (s .entry)) n part)) ⌝ }
 {
     let place = view_place(s, n, part);
     viewed(place, s)
@@ -65,7 +66,8 @@ pub(crate) fn placed_view(placed: Placed, s: &[u8], part: Part) -> ViewPlace
 // The part of s that lies at this place, or the empty part at the front of s.
 pub(crate) fn viewed(place: ViewPlace, s: &[u8]) -> &[u8]
     requires { ⌜ ViewIn (now s) (toldView place) ⌝ }
-    ensures { λ r. ⌜ (now r ≡ shown (toldView place) (now (s .entry))) × ((r .ptr .0 ≡ s .entry .ptr .0) × (r .ptr .1 ≡ s .entry .ptr .1 + startOf (toldView place))) ⌝ }
+    ensures { λ r. ⌜ now r ≡ shown (toldView place) (now (s .entry)) ⌝ }
+    ensures { λ r. ⌜ (r .ptr .0 ≡ s .entry .ptr .0) × (r .ptr .1 ≡ s .entry .ptr .1 + startOf (toldView place)) ⌝ }
 {
     match place {
         ViewPlace::At(span) => spanned(s, span.start, span.length),
@@ -77,7 +79,8 @@ pub(crate) fn viewed(place: ViewPlace, s: &[u8]) -> &[u8]
 // The bytes of s from start on, as many as length.
 fn spanned(s: &[u8], start: usize, length: usize) -> &[u8]
     requires { ⌜ start + length ≤ List·length (now s) ⌝ }
-    ensures { λ r. ⌜ (now r ≡ take length (drop start (now (s .entry)))) × ((r .ptr .0 ≡ s .entry .ptr .0) × (r .ptr .1 ≡ s .entry .ptr .1 + start)) ⌝ }
+    ensures { λ r. ⌜ now r ≡ take length (drop start (now (s .entry))) ⌝ }
+    ensures { λ r. ⌜ (r .ptr .0 ≡ s .entry .ptr .0) × (r .ptr .1 ≡ s .entry .ptr .1 + start) ⌝ }
 {
     let end = start + length;
     &s[start..end]

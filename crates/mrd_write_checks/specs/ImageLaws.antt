@@ -15,8 +15,9 @@ use Rattle.mrd_format.specs.Elements.{width}
 use Rattle.mrd_format.specs.Message as message
 use Rattle.mrd_format.specs.Image as image
 use Rattle.mrd_write_checks.specs.declared.lengths.Lengths.{Lengths}
-use Rattle.mrd_write_checks.specs.WriteChecks.{ownChecks, bodySize, sizeOf}
-use Rattle.mrd_write_checks.specs.JudgeLaws.{sized, sizedBy, sized-headed}
+use Rattle.mrd_write_checks.specs.WriteChecks.{ownChecks, sizeOf, dueLengths}
+use Rattle.mrd_write_checks.specs.Sized.{sized, sizedBy}
+use Rattle.mrd_write_checks.specs.JudgeLaws.{sized-headed}
 
 module _ (h : List ℕ) (a : ℕ) (e : length h ≡ 198) (fits : a < 256 ^ 8) where
   -- a field of the header, and the length after it
@@ -39,8 +40,8 @@ module _ (h : List ℕ) (a : ℕ) (e : length h ≡ 198) (fits : a < 256 ^ 8) wh
   )
 
   pub image-size : (n : Lengths) → n .attributes ≡ a → sizeOf Image h n ≡ message.sizeOf Image (h ++ toBytes 8 a)
-  unfolding sizeOf bodySize message.sizeOf message.bodySize image.bodySize
-  image-size n q = rw (attribute-length, pixels-size, q)
+  unfolding sizeOf dueLengths message.sizeOf message.bodySize
+  image-size n q = rw (attribute-length, pixels-size, q) (omega arith)
 
 -- so checks 4 to 10 of an image are those of its fixed part
 pub image-sized : (h name : List ℕ) (n : Lengths) → length h ≡ 198 → n .attributes < 256 ^ 8 →

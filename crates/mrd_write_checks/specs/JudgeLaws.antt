@@ -23,7 +23,8 @@ use Rattle.mrd_format.specs.Sizes.{capped}
 use Rattle.mrd_format.specs.Message as message
 use Rattle.mrd_format.specs.Message.{limit}
 use Rattle.mrd_write_checks.specs.declared.lengths.Lengths.{Lengths}
-use Rattle.mrd_write_checks.specs.WriteChecks.{nameUnfit, ownChecks, bodySize, sizeOf, partLengths, dueLengths, sameLengths, sizedChecks, contentsChecks, unless, judged}
+use Rattle.mrd_write_checks.specs.Sized.{sized, nameSized, textSized, sizedBy}
+use Rattle.mrd_write_checks.specs.WriteChecks.{nameUnfit, ownChecks, sizeOf, partLengths, dueLengths, sameLengths, sizedChecks, contentsChecks, unless, judged}
 
 -- an answer is one or the other
 pub answered-not-number : {z x : ℕ} → _≡_ {A = Answer ℕ} (answered z) (number x) → ⊥
@@ -65,19 +66,6 @@ sized-numbered k h name n = numbered-append (ownChecks k h name n) _ (own-number
 pub contents-numbered : (k : Kind) (h name : List ℕ) (n : Lengths) → numbered (contentsChecks k h name n) ≡ true
 unfolding contentsChecks
 contents-numbered k h name n = numbered-append (sizedChecks k h name n) _ (sized-numbered k h name n) refl
-
--- the size of a message, where checks 4 to 10 pass: of what is given, of a given name, of a given text, and of a fixed part f
-unfoldable pub sized : Kind → (h name : List ℕ) → Lengths → Answer ℕ
-sized k h name n = unless (first (sizedChecks k h name n)) (sizeOf k h n)
-
-unfoldable pub nameSized : List ℕ → Answer ℕ
-nameSized name = unless (first ((5 when nameUnfit name) ∷ [])) 1026
-
-unfoldable pub textSized : ℕ → Answer ℕ
-textSized z = unless (first ((10 when ltb limit (6 + z)) ∷ [])) (6 + z)
-
-unfoldable pub sizedBy : Kind → List ℕ → Answer ℕ
-sizedBy k f = unless (first (message.ownChecks k f ++ ((10 when ltb limit (message.sizeOf k f)) ∷ []))) (message.sizeOf k f)
 
 -- a header that has not its kind's length
 pub judged-header : (k : Kind) (h name : List ℕ) (n : Lengths) → (length h ≡ headerSize k → ⊥) → judged k h name n ≡ number 3
@@ -155,7 +143,7 @@ module _ (k : Kind) (f : List ℕ) where
 
 -- what the kinds share: a message that goes by its name, by its text, by nothing, and by a fixed part with the same checks and size
 pub sized-name : (h name : List ℕ) (n : Lengths) → sized ConfigurationName h name n ≡ nameSized name
-unfolding sized sizedChecks ownChecks sizeOf bodySize nameSized
+unfolding sized sizedChecks ownChecks sizeOf dueLengths nameSized
 sized-name h name n = by-test (nameUnfit name)
   where
     by-test : (b : Bool) → unless (first ((5 when b) ∷ (10 when ltb limit 1026) ∷ [])) 1026 ≡ unless (first ((5 when b) ∷ [])) 1026
@@ -165,11 +153,14 @@ sized-name h name n = by-test (nameUnfit name)
 pub sized-text : (h name : List ℕ) (n : Lengths) →
     (sized ConfigurationText h name n ≡ textSized (n .text)) ×
     ((sized HeaderText h name n ≡ textSized (n .text)) × ((sized Text h name n ≡ textSized (n .text)) × Unit {0}))
-unfolding sized sizedChecks ownChecks sizeOf bodySize textSized
-sized-text h name n = (refl, (refl, (refl, tt)))
+unfolding sized sizedChecks ownChecks textSized sizeOf dueLengths
+sized-text h name n =
+    let size : 6 + (n .text + 0) ≡ 6 + n .text = omega arith in
+    let same = ap (λ (z : ℕ). unless (first ((10 when ltb limit z) ∷ [])) z) size in
+    (same, (same, (same, tt)))
 
 pub sized-close : (h name : List ℕ) (n : Lengths) → sized Close h name n ≡ answered 2
-unfolding sized sizedChecks ownChecks sizeOf bodySize
+unfolding sized sizedChecks ownChecks sizeOf dueLengths
 sized-close h name n = refl
 
 pub sized-headed : (k : Kind) (h name : List ℕ) (n : Lengths) (f : List ℕ) → ownChecks k h name n ≡ message.ownChecks k f →
@@ -177,36 +168,34 @@ pub sized-headed : (k : Kind) (h name : List ℕ) (n : Lengths) (f : List ℕ) �
 unfolding sized sizedChecks sizedBy
 sized-headed k h name n f own size = rw (own, size)
 
-pub sized-acquisition : (h name : List ℕ) (n : Lengths) → sized Acquisition h name n ≡ sizedBy Acquisition h
-unfolding ownChecks message.ownChecks sizeOf bodySize message.sizeOf message.bodySize acquisition.bodySize
-sized-acquisition h name n = sized-headed Acquisition h name n h refl refl
-
-pub sized-waveform : (h name : List ℕ) (n : Lengths) → sized Waveform h name n ≡ sizedBy Waveform h
-unfolding ownChecks message.ownChecks sizeOf bodySize message.sizeOf message.bodySize
-sized-waveform h name n = sized-headed Waveform h name n h refl refl
+pub sized-header : (h name : List ℕ) (n : Lengths) →
+    (sized Acquisition h name n ≡ sizedBy Acquisition h) × ((sized Waveform h name n ≡ sizedBy Waveform h) × Unit {0})
+unfolding ownChecks message.ownChecks sizeOf dueLengths message.sizeOf message.bodySize
+sized-header h name n =
+    (sized-headed Acquisition h name n h refl (omega arith), (sized-headed Waveform h name n h refl (omega arith), tt))
 
 -- the lengths that are due, by the size z of the message
 module _ (k : Kind) (h : List ℕ) (n : Lengths) {z : ℕ} (whole : z ≡ sizeOf k h n) where
   pub due-acquisition : k ≡ Acquisition → (342 + acquisition.trajectorySize h ≤ z) ×
       (partLengths 0 0 (acquisition.trajectorySize h) (z - 342 - acquisition.trajectorySize h) 0 0 0 ≡ dueLengths k h n)
-  unfolding sizeOf bodySize acquisition.bodySize dueLengths
+  unfolding sizeOf dueLengths
   due-acquisition e =
       let t = acquisition.trajectorySize h in
       let c = acquisition.get acquisition.active-channels h * acquisition.channelSize h in
-      let size : z ≡ 342 + (t + c) = rw e at whole in
+      let size : z ≡ sizeOf Acquisition h n = rw e at whole in
       let rest : z - 342 - t ≡ c = omega arith in
       (omega arith, rw e (ap (λ (s : ℕ). partLengths 0 0 t s 0 0 0) rest))
 
   pub due-image : k ≡ Image → (208 + n .attributes ≤ z) × (partLengths 0 0 0 0 (n .attributes) (z - 208 - n .attributes) 0 ≡ dueLengths k h n)
-  unfolding sizeOf bodySize dueLengths
+  unfolding sizeOf dueLengths
   due-image e =
-      let size : z ≡ 208 + (n .attributes + image.pixelsSize h) = rw e at whole in
+      let size : z ≡ sizeOf Image h n = rw e at whole in
       let rest : z - 208 - n .attributes ≡ image.pixelsSize h = omega arith in
       (omega arith, rw e (ap (λ (s : ℕ). partLengths 0 0 0 0 (n .attributes) s 0) rest))
 
   pub due-waveform : k ≡ Waveform → (34 ≤ z) × (partLengths 0 0 0 0 0 0 (z - 34) ≡ dueLengths k h n)
-  unfolding sizeOf bodySize dueLengths
+  unfolding sizeOf dueLengths
   due-waveform e =
-      let size : z ≡ 34 + waveform.bodySize h = rw e at whole in
+      let size : z ≡ sizeOf Waveform h n = rw e at whole in
       let rest : z - 34 ≡ waveform.bodySize h = omega arith in
       (omega arith, rw e (ap (λ (s : ℕ). partLengths 0 0 0 0 0 0 s) rest))

@@ -1,3 +1,4 @@
 pub mod WriteChecks
+pub mod Sized
 pub mod JudgeLaws
 pub mod ImageLaws

@@ -1,8 +1,8 @@
 -- What the writer refuses before it looks at the output: 'The writer: 2 to 10 in order, then 18, 14', without 2 and 14. These checks go by the
 -- kind, the given header, the given name and the given parts' lengths.
 -- Assumes nothing.
-use Prim.Native.Nat.{ℕ, zero, suc, _+_, _*_}
-use mathlib.Core.Bool.{Bool, not, _||_, _&&_}
+use Prim.Native.Nat.{ℕ, zero, suc, _+_}
+use mathlib.Core.Bool.{Bool, false, not, _||_, _&&_}
 use mathlib.Core.List.{List, [], _∷_, _++_}
 use lib.Dec.{eqb, ltb}
 use lib.ListN.{length}
@@ -10,8 +10,11 @@ use Rattle.bytes.specs.Bytes.{indexOf}
 use Rattle.mrd_numbers.specs.Little.{toBytes}
 use Rattle.mrd_format.specs.declared.kind.Kind.{Kind}
 use Rattle.mrd_format.specs.declared.kind.Kind.the-variants.{ConfigurationName, ConfigurationText, HeaderText, Close, Text, Acquisition, Image, Waveform}
-use Rattle.mrd_format.specs.Kinds.{fixedSize, headerSize}
-use Rattle.mrd_format.specs.Parts.{Contents}
+use Rattle.mrd_format.specs.Kinds.{formOf, fixedSize, headerSize}
+use Rattle.mrd_format.specs.Parts as part
+use Rattle.mrd_format.specs.Parts.{Part, same, Contents}
+use Rattle.mrd_format.specs.Segments.{Segment, fixed, counted, padded, sized, channels, reachSize, reachFrom}
+use Rattle.mrd_logic.specs.Choice.{pick}
 use Rattle.mrd_logic.specs.Checks.{Check, _when_, first}
 use Rattle.mrd_logic.specs.Answer.{Answer, answered, number}
 use Rattle.mrd_format.specs.Message.{limit}
@@ -38,21 +41,6 @@ ownChecks Acquisition h name n = acquisition.checks h
 ownChecks Image h name n = image.checks (h ++ toBytes 8 (n .attributes))
 ownChecks Waveform h name n = waveform.checks h
 
--- what follows the fixed part, 'by the header's numbers and the lent text's or attributes' length'
-unfoldable pub bodySize : Kind → List ℕ → Lengths → ℕ
-bodySize ConfigurationName h n = 0
-bodySize ConfigurationText h n = n .text
-bodySize HeaderText h n = n .text
-bodySize Close h n = 0
-bodySize Text h n = n .text
-bodySize Acquisition h n = acquisition.bodySize h
-bodySize Image h n = n .attributes + image.pixelsSize h
-bodySize Waveform h n = waveform.bodySize h
-
--- the 'whole message, id included'
-unfoldable pub sizeOf : Kind → List ℕ → Lengths → ℕ
-sizeOf k h n = 2 + fixedSize k + bodySize k h n
-
 abbrev pub partLengths : (name text trajectory samples attributes pixels waveform : ℕ) → Lengths
 partLengths n t j s a p w =
     record { name = n; text = t; trajectory = j; samples = s; attributes = a; pixels = p; waveform = w }
@@ -63,18 +51,33 @@ lengthsOf c =
     partLengths (length (c .parts .name)) (length (c .parts .text)) (length (c .parts .trajectory)) (length (c .parts .samples))
     (length (c .parts .attributes)) (length (c .parts .pixels)) (length (c .parts .waveform))
 
--- the lengths that the parts must have: 'what its header says', and 0 for 'a part its kind lacks'. The writer takes a name's, a text's and the
--- attributes' length from the given bytes
+-- whether the writer takes a part's length from the given bytes: 'it works out a text's length and an image's 8-byte length', and a name's
+abbrev pub counts : Part → List Segment → Bool
+counts p [] = false
+counts p (fixed n ∷ ss) = counts p ss
+counts p (counted w q ∷ ss) = same p q || counts p ss
+counts p (padded n ∷ ss) = same p part.name || counts p ss
+counts p (sized q n ∷ ss) = counts p ss
+counts p (channels c n ∷ ss) = counts p ss
+
+-- the length that a part given with n bytes must have: its own, or 'what its header says', or 0 for 'a part its kind lacks'
+abbrev pub dueLength : Kind → List ℕ → Part → ℕ → ℕ
+dueLength k h p n = pick (counts p (formOf k .fixedSegments)) n (reachSize (reachFrom p h 0 (formOf k .bodySegments h)))
+
+-- the lengths that all parts must have
 unfoldable pub dueLengths : Kind → List ℕ → Lengths → Lengths
-dueLengths ConfigurationName h n = partLengths (n .name) 0 0 0 0 0 0
-dueLengths ConfigurationText h n = partLengths 0 (n .text) 0 0 0 0 0
-dueLengths HeaderText h n = partLengths 0 (n .text) 0 0 0 0 0
-dueLengths Close h n = partLengths 0 0 0 0 0 0 0
-dueLengths Text h n = partLengths 0 (n .text) 0 0 0 0 0
-dueLengths Acquisition h n =
-    partLengths 0 0 (acquisition.trajectorySize h) (acquisition.get acquisition.active-channels h * acquisition.channelSize h) 0 0 0
-dueLengths Image h n = partLengths 0 0 0 0 (n .attributes) (image.pixelsSize h) 0
-dueLengths Waveform h n = partLengths 0 0 0 0 0 0 (waveform.bodySize h)
+dueLengths k h n =
+    partLengths (dueLength k h part.name (n .name)) (dueLength k h part.text (n .text)) (dueLength k h part.trajectory (n .trajectory))
+    (dueLength k h part.samples (n .samples)) (dueLength k h part.attributes (n .attributes)) (dueLength k h part.pixels (n .pixels))
+    (dueLength k h part.waveform (n .waveform))
+
+-- the parts after a fixed part, together
+abbrev pub bodyLength : Lengths → ℕ
+bodyLength n = n .text + (n .trajectory + (n .samples + (n .attributes + (n .pixels + n .waveform))))
+
+-- the 'whole message, id included', 'by the header's numbers and the lent text's or attributes' length'
+unfoldable pub sizeOf : Kind → List ℕ → Lengths → ℕ
+sizeOf k h n = 2 + fixedSize k + bodyLength (dueLengths k h n)
 
 -- whether each part has the length that it must have
 unfoldable pub sameLengths : Lengths → Lengths → Bool

@@ -1,13 +1,13 @@
 // What is given for one message, judged: check 3, checks 4 to 10 by what the kind has, and check 18
 // by the lengths that are then due.
 ghost use mathlib.Core.Path.{_≡_};
-ghost use mathlib.Core.List.{[], _++_};
+ghost use mathlib.Core.List.{_++_};
 ghost use lib.ListN.{length};
 ghost use Rattle.mrd_numbers.specs.Little.{toBytes};
 ghost use Rattle.mrd_format.specs.declared.kind.Kind;
 ghost use Rattle.mrd_format.specs.Kinds.{fixedSize, headerSize};
 ghost use Rattle.mrd_write_checks.specs.WriteChecks.{judgedMeaning, sizeOf, dueLengths, judged};
-ghost use Rattle.mrd_write_checks.specs.JudgeLaws.{sized, sizedBy, nameSized, textSized};
+ghost use Rattle.mrd_write_checks.specs.Sized.{sized, sizedBy, nameSized, textSized};
 use crate::lengths::Lengths;
 use mrd_acquisition::trajectory_size;
 use mrd_format::Kind;
@@ -52,9 +52,8 @@ fn checked_size(kind: Kind, header: &[u8], name: &[u8], given: Lengths) -> Conte
         Kind::ConfigurationName => checked_name(name),
         Kind::ConfigurationText | Kind::HeaderText | Kind::Text => checked_text(given.text),
         Kind::Close => ContentsJudged::Size(2),
-        Kind::Acquisition => checked_fixed(Kind::Acquisition, header),
+        Kind::Acquisition | Kind::Waveform => checked_fixed(kind, header),
         Kind::Image => checked_fixed(Kind::Image, &image_fixed(header, given.attributes)),
-        Kind::Waveform => checked_fixed(Kind::Waveform, header),
     }
 }
 

@@ -22,15 +22,14 @@ use Rattle.mrd_format.specs.Segments.{nameLength}
 use Rattle.mrd_format.specs.Texts.{textLength}
 use Rattle.mrd_format.specs.Message as message
 use Rattle.mrd_format.specs.Message.{limit, fixedPart, WellFormed}
-use Rattle.mrd_format.specs.Parts.{Contents}
 use Rattle.mrd_format.specs.Content.{extentOf, contentsOf, normalOf, messageOf}
 use Rattle.mrd_format.specs.NormalLaws.{nameBytes, name-short}
 use Rattle.mrd_format.specs.Rewritten.{rewritten-normal}
 use Rattle.mrd_format.specs.Acquisition as acquisition
 use Rattle.mrd_format.specs.Image as image
 use Rattle.mrd_format.specs.Waveform as waveform
-use Rattle.mrd_write_checks.specs.WriteChecks.{nameUnfit, ownChecks, bodySize, sizeOf, partLengths, lengthsOf, dueLengths}
-use Rattle.mrd_write_checks.specs.ImageLaws.{pixels-size, image-size}
+use Rattle.mrd_write_checks.specs.WriteChecks.{nameUnfit, ownChecks, sizeOf, partLengths, dueLengths}
+use Rattle.mrd_write_checks.specs.ImageLaws.{pixels-size}
 use Rattle.mrd_writer.specs.Sound.{Sound}
 
 -- a part that lies in the message has its size
@@ -96,7 +95,7 @@ module _ (m : List ℕ) (bytes : Bytes m) (a p : ℕ) (whole : 208 + (a + p) ≡
 -- what every well-formed message is made of passes every check
 own-sound : (k : Kind) (m : List ℕ) → Bytes m → first (message.ownChecks k (fixedPart k m)) ≡ 0 → message.sizeOf k (fixedPart k m) ≤ limit →
     message.sizeOf k (fixedPart k m) ≡ length m → Sound k (contentsOf k m)
-unfolding contentsOf extentOf fixedPart ownChecks sizeOf bodySize dueLengths message.sizeOf message.bodySize message.ownChecks acquisition.bodySize image.bodySize
+unfolding contentsOf extentOf fixedPart ownChecks sizeOf dueLengths message.sizeOf message.bodySize message.ownChecks
 own-sound ConfigurationName m bytes sound small whole =
     record { header = refl; own = (name-fit m (sym whole) (name-short m sound), tt); small = omega arith; lengths = refl }
 own-sound ConfigurationText m bytes sound small whole =
@@ -115,7 +114,7 @@ own-sound Acquisition m bytes sound small whole =
     record {
       header = part-length m 2 340 (omega (arith, whole));
       own = first-passed (acquisition.checks f) (own-numbered Acquisition f) sound;
-      small = small;
+      small = omega (arith, small);
       lengths = ap₂ (λ (j s : ℕ). partLengths 0 0 j s 0 0 0) trajectory samples;
     }
 own-sound Image m bytes sound small whole =
@@ -135,7 +134,7 @@ own-sound Waveform m bytes sound small whole =
     record {
       header = part-length m 2 32 (omega (arith, whole));
       own = first-passed (waveform.checks f) (own-numbered Waveform f) sound;
-      small = small;
+      small = omega (arith, small);
       lengths = ap (λ (n : ℕ). partLengths 0 0 0 0 0 0 n) (part-length m 34 (waveform.bodySize f) (le-of-eq whole));
     }
 

@@ -2,9 +2,8 @@
 -- Assumes nothing.
 use Prim.Native.Nat.{ℕ, _+_, _≤_}
 use native.Mathlib.Omega.{arith}
-use mathlib.Core.Path.{_≡_, refl, ap, ap₂, _∙_}
-use mathlib.Core.Bool.{true, false}
-use mathlib.Core.List.{List}
+use mathlib.Core.Path.{_≡_, refl, ap}
+use mathlib.Core.Bool.{true}
 use lib.ListN.{length, length-append, length-replicate}
 use lib.Dec.{ltb}
 use borrow.Author.Tests.{eqb-true, ltb-false, not-false}
@@ -21,11 +20,10 @@ use Rattle.mrd_format.specs.Kinds.{fixedSize, headerSize}
 use Rattle.mrd_format.specs.Message.{limit}
 use Rattle.mrd_format.specs.Parts.{Contents}
 use Rattle.mrd_format.specs.Content.{fixedOf, bodyOf, contentOf}
-use Rattle.mrd_format.specs.Acquisition as acquisition
 use Rattle.mrd_write_checks.specs.declared.lengths.Lengths.{Lengths}
-use Rattle.mrd_write_checks.specs.WriteChecks.{nameUnfit, ownChecks, bodySize, sizeOf, lengthsOf, dueLengths, sameLengths, sizedChecks, contentsChecks, judged}
+use Rattle.mrd_write_checks.specs.WriteChecks.{nameUnfit, ownChecks, bodyLength, sizeOf, lengthsOf, dueLengths, sameLengths, sizedChecks, contentsChecks, judged}
 use Rattle.mrd_write_checks.specs.JudgeLaws.{unless-answered, contents-numbered}
-use Rattle.mrd_put.specs.PutLaws.{Ready}
+use Rattle.mrd_put.specs.Room.{Ready}
 use Rattle.mrd_writer.specs.Write.{judgedContents, sizeGiven, givenChecks}
 
 -- what is given passes checks 3 to 10 and 18
@@ -98,20 +96,23 @@ fixed-length Image c s = rw (length-append, s .header)
 fixed-length Waveform c s = s .header
 
 -- the parts that follow are as long as the size says
-pub body-length : (k : Kind) (c : Contents) → Sound k c → length (bodyOf k c) ≡ bodySize k (c .header) (lengthsOf c)
-unfolding bodyOf bodySize dueLengths acquisition.bodySize
+pub body-length : (k : Kind) (c : Contents) → Sound k c → length (bodyOf k c) ≡ bodyLength (dueLengths k (c .header) (lengthsOf c))
+unfolding bodyOf dueLengths
 body-length ConfigurationName c s = refl
-body-length ConfigurationText c s = refl
-body-length HeaderText c s = refl
+body-length ConfigurationText c s = omega arith
+body-length HeaderText c s = omega arith
 body-length Close c s = refl
-body-length Text c s = refl
+body-length Text c s = omega arith
 body-length Acquisition c s =
-    length-append (c .parts .trajectory) (c .parts .samples) ∙
-    ap₂ (λ (a b : ℕ). a + b) (ap (λ (n : Lengths). n .trajectory) (s .lengths)) (ap (λ (n : Lengths). n .samples) (s .lengths))
+    omega (
+      arith,
+      length-append (c .parts .trajectory) (c .parts .samples),
+      ap (λ (n : Lengths). n .trajectory) (s .lengths),
+      ap (λ (n : Lengths). n .samples) (s .lengths),
+    )
 body-length Image c s =
-    length-append (c .parts .attributes) (c .parts .pixels) ∙
-    ap (λ (b : ℕ). length (c .parts .attributes) + b) (ap (λ (n : Lengths). n .pixels) (s .lengths))
-body-length Waveform c s = ap (λ (n : Lengths). n .waveform) (s .lengths)
+    omega (arith, length-append (c .parts .attributes) (c .parts .pixels), ap (λ (n : Lengths). n .pixels) (s .lengths))
+body-length Waveform c s = omega (arith, ap (λ (n : Lengths). n .waveform) (s .lengths))
 
 -- so what follows the id is as long as the message, less the id
 pub content-length : (k : Kind) (c : Contents) → Sound k c → 2 + length (contentOf k c) ≡ sizeGiven k c
@@ -120,7 +121,7 @@ content-length k c s = rw (length-append, fixed-length k c s, body-length k c s)
 
 -- a text is within the limit
 pub text-small : (k : Kind) (c : Contents) → Sound k c → length (c .parts .text) ≤ limit
-unfolding sizeOf bodySize dueLengths
+unfolding sizeOf dueLengths
 text-small ConfigurationName c s = omega (arith, ap (λ (n : Lengths). n .text) (s .lengths))
 text-small ConfigurationText c s = omega (arith, s .small)
 text-small HeaderText c s = omega (arith, s .small)

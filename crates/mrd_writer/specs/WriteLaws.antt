@@ -18,7 +18,7 @@ use Rattle.mrd_format.specs.Parts.{Contents}
 use Rattle.mrd_format.specs.Content.{contentOf, messageOf}
 use Rattle.mrd_write_checks.specs.WriteChecks.{lengthsOf, unless, judged}
 use Rattle.mrd_write_checks.specs.JudgeLaws.{unless-number, unless-passed, contents-numbered}
-use Rattle.mrd_put.specs.PutLaws.{Ready}
+use Rattle.mrd_put.specs.Room.{Ready}
 use Rattle.mrd_writer.specs.Write.{judgedContents, sizeGiven, givenChecks, writeChecks, answerAs, outputAs, writeAnswer, writeOutput}
 use Rattle.mrd_writer.specs.Sound.{passed-sound, judged-answered, content-length, sound-ready}
 

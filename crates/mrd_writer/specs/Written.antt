@@ -3,7 +3,7 @@
 use Prim.Native.Nat.{ℕ, zero, suc, _+_, _-_, _^_, _≤_, _<_}
 use native.Mathlib.Nat.{zero-add, add-zero, suc-add, not-suc-le-zero, le-of-suc-le-suc}
 use native.Mathlib.Omega.{arith}
-use mathlib.Core.Path.{_≡_, refl, sym, ap, _∙_}
+use mathlib.Core.Path.{_≡_, refl, sym, _∙_}
 use mathlib.Core.Bool.{Bool, true, false}
 use mathlib.Core.List.{List, [], _∷_, _++_, append-nil}
 use lib.Dec.{eqb}
@@ -22,13 +22,13 @@ use Rattle.mrd_format.specs.Kinds.{fixedSize, identified}
 use Rattle.mrd_format.specs.Segments.{nameLength}
 use Rattle.mrd_format.specs.Texts.{textLength}
 use Rattle.mrd_format.specs.Message as message
-use Rattle.mrd_format.specs.Message.{limit, idAt, fixedPart, WellFormed}
+use Rattle.mrd_format.specs.Message.{idAt, fixedPart, WellFormed}
 use Rattle.mrd_format.specs.Acquisition as acquisition
 use Rattle.mrd_format.specs.Image as image
 use Rattle.mrd_format.specs.Waveform as waveform
 use Rattle.mrd_format.specs.Parts.{Contents}
 use Rattle.mrd_format.specs.Content.{fixedOf, bodyOf, contentOf, messageOf}
-use Rattle.mrd_write_checks.specs.WriteChecks.{ownChecks, bodySize, sizeOf, lengthsOf}
+use Rattle.mrd_write_checks.specs.WriteChecks.{ownChecks, sizeOf, lengthsOf, dueLengths}
 use Rattle.mrd_write_checks.specs.ImageLaws.{image-size}
 use Rattle.mrd_writer.specs.Write.{sizeGiven}
 use Rattle.mrd_writer.specs.Sound.{Sound, sound-name, fixed-length, content-length, text-small}
@@ -83,7 +83,7 @@ text-length k c s = rw append-nil at (read-after-write 4 (length (c .parts .text
 
 -- an image's attributes are within the limit
 pub attributes-small : (c : Contents) → Sound Image c → length (c .parts .attributes) < 256 ^ 8
-unfolding sizeOf bodySize
+unfolding sizeOf dueLengths
 attributes-small c s = omega (arith, s .small)
 
 -- the checks of the fixed part are those that passed
@@ -106,15 +106,15 @@ written-own Waveform c s = passed-first (waveform.checks (c .header)) (s .own)
 
 -- the size by the fixed part is that by what was given
 pub written-size : (k : Kind) (c : Contents) → Sound k c → message.sizeOf k (fixedOf k c) ≡ sizeGiven k c
-unfolding message.sizeOf message.bodySize sizeOf bodySize fixedOf acquisition.bodySize
+unfolding message.sizeOf message.bodySize sizeOf dueLengths fixedOf
 written-size ConfigurationName c s = refl
-written-size ConfigurationText c s = ap (λ (n : ℕ). 6 + n) (text-length ConfigurationText c s)
-written-size HeaderText c s = ap (λ (n : ℕ). 6 + n) (text-length HeaderText c s)
+written-size ConfigurationText c s = omega (arith, text-length ConfigurationText c s)
+written-size HeaderText c s = omega (arith, text-length HeaderText c s)
 written-size Close c s = refl
-written-size Text c s = ap (λ (n : ℕ). 6 + n) (text-length Text c s)
-written-size Acquisition c s = refl
+written-size Text c s = omega (arith, text-length Text c s)
+written-size Acquisition c s = omega arith
 written-size Image c s = sym (image-size (c .header) (length (c .parts .attributes)) (s .header) (attributes-small c s) (lengthsOf c) refl)
-written-size Waveform c s = refl
+written-size Waveform c s = omega arith
 
 -- the whole, id included
 pub message-length : (k : Kind) (c : Contents) → Sound k c → length (messageOf k c) ≡ sizeGiven k c

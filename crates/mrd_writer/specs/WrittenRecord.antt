@@ -19,11 +19,10 @@ use Rattle.mrd_format.specs.Elements.{Run, width, elementsFrom, values}
 use Rattle.mrd_format.specs.Message.{fixedPart}
 use Rattle.mrd_format.specs.Parts as part
 use Rattle.mrd_format.specs.Parts.{Part, bytesIn, Parts, Contents}
-use Rattle.mrd_format.specs.Content.{extentOf, contentsOf, fieldsOf, Record, recordOf, fixedOf, bodyOf, contentOf, messageOf, contentsRecord}
+use Rattle.mrd_format.specs.Content.{extentOf, contentsOf, fieldsOf, recordOf, fixedOf, bodyOf, contentOf, messageOf, contentsRecord}
 use Rattle.mrd_format.specs.Texts.{textLength}
 use Rattle.mrd_format.specs.Acquisition as acquisition
 use Rattle.mrd_format.specs.Image as image
-use Rattle.mrd_format.specs.Waveform as waveform
 use Rattle.mrd_write_checks.specs.declared.lengths.Lengths.{Lengths}
 use Rattle.mrd_write_checks.specs.WriteChecks.{lengthsOf, dueLengths}
 use Rattle.mrd_write_checks.specs.ImageLaws.{attribute-length, pixels-size}

@@ -86,9 +86,9 @@ fn field_answer(answer: Result<Field, Refused>) -> raw::mrd_field_answer {
         ..raw::mrd_field_answer::default()
     };
     match answer {
-        Ok(Field::Whole(whole)) => (told.r#type, told.whole) = (raw::MRD_WHOLE, whole),
-        Ok(Field::Signed(integer)) => (told.r#type, told.integer) = (raw::MRD_SIGNED, integer),
-        Ok(Field::Float(bits)) => (told.r#type, told.float_bits) = (raw::MRD_FLOAT, bits),
+        Ok(Field::Whole(whole)) => (told.value_type, told.whole) = (raw::MRD_WHOLE, whole),
+        Ok(Field::Signed(integer)) => (told.value_type, told.integer) = (raw::MRD_SIGNED, integer),
+        Ok(Field::Float(bits)) => (told.value_type, told.float_bits) = (raw::MRD_FLOAT, bits),
         Err(_) => {}
     }
     told

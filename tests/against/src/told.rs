@@ -48,7 +48,7 @@ fn detail(kind: Kind) -> Detail {
             length: length as u64,
         },
         Kind::Acquisition {
-            samples,
+            number_of_samples: samples,
             active_channels,
             trajectory_dimensions,
         } => Detail::Acquisition {
@@ -67,7 +67,10 @@ fn detail(kind: Kind) -> Detail {
             data_type,
             attribute_length,
         },
-        Kind::Waveform { samples, channels } => Detail::Waveform { samples, channels },
+        Kind::Waveform {
+            number_of_samples: samples,
+            channels,
+        } => Detail::Waveform { samples, channels },
     }
 }
 

@@ -107,6 +107,19 @@ fn difference(program: &Program, case: &Case) -> Result<i32, String> {
         .ok_or_else(|| format!("the program ended by {}", output.status))
 }
 
+/// What is wrong with the program's run on an input that is over the limit and never ends, if anything.
+fn endless_difference(program: &Program, on: bool) -> Result<(), String> {
+    let limit = second_reader::listing::MOST_INPUT;
+    let output = program
+        .run_endless(&vec![0; limit + 1], on)
+        .map_err(|error| format!("{}: {error}", program.path.display()))?;
+    let expected = second_reader::listing(&vec![0; limit + 1]);
+    match output == expected.as_bytes() {
+        true => Ok(()),
+        false => Err(format!("printed: {}", String::from_utf8_lossy(&output))),
+    }
+}
+
 fn shortened(text: &str) -> String {
     match text.char_indices().nth(1_000) {
         Some((at, _)) => format!("{} ..\n", &text[..at]),
@@ -199,6 +212,13 @@ fn main() -> ExitCode {
                 println!("listing: FAILED after {} runs (seed {seed})", tally.runs);
                 return ExitCode::FAILURE;
             }
+        }
+    }
+    // One byte too many and no end yet; and bytes without end.
+    for on in [false, true] {
+        if let Err(found) = endless_difference(&program, on) {
+            println!("listing: FAILED on an endless input: {found}");
+            return ExitCode::FAILURE;
         }
     }
     tally.print();

@@ -7,8 +7,8 @@ use Rattle.mrd_index_match.specs.CompareLaws.{file-match}
 use Rattle.mrd_index_match.proofs.compare.index_matches.Statement.{statement}
 use Rattle.mrd_index_match.proofs.compare.index_matches.Tie as tie
 
-file-front-same-requires : tie.Need-file-front-same-requires
-file-front-same-requires c κs = search needs
+front-same-requires : tie.Need-front-same-requires
+front-same-requires c κs = search needs
 
 slice-aggregate-compare : tie.Need-slice-aggregate-compare
 slice-aggregate-compare c = search needs
@@ -25,13 +25,13 @@ compare-requires c κs = search needs
 returns : tie.Need-returns
 returns c =
     let a = c .before .before .before .before .before .before .before .args in
-    c .compare .ensures ∙ rw (c .before .before .before .before .file-front-same .ensures) (file-match (now (a .s)) (now (a .file)) _ _ _)
+    c .compare .ensures ∙ rw (c .before .before .before .before .front-same .ensures) (file-match (now (a .s)) (now (a .file)) _ _ _)
 
 pub index-matches-spec : {M : Type 1} → statement M
 index-matches-spec =
     tie.close
     (tie.spec
-    file-front-same-requires
+    front-same-requires
     slice-aggregate-compare
     slice-aggregate-compare-2
     slice-aggregate-compare-3

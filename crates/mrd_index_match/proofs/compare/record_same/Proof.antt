@@ -15,14 +15,14 @@ entry-of-requires c κs = search needs
 enum-told : tie.Need-enum-told
 enum-told c = search needs
 
-mul-field-same : tie.Need-mul-field-same
-mul-field-same c = search needs
+mul-entry-same : tie.Need-mul-entry-same
+mul-entry-same c = search needs
 
-add-field-same : tie.Need-add-field-same
-add-field-same c = search needs
+add-entry-same : tie.Need-add-entry-same
+add-entry-same c = search needs
 
-field-same-requires : tie.Need-field-same-requires
-field-same-requires c κs = search needs
+entry-same-requires : tie.Need-entry-same-requires
+entry-same-requires c κs = search needs
 
 enum-told-2 : tie.Need-enum-told-2
 enum-told-2 c = search needs
@@ -34,7 +34,7 @@ returns : tie.Need-returns
 returns c =
     let a = c .before .before .before .before .before .before .before .before .before .before .before .args in
     rw (c .before .before .enum-told .given .1)
-    (c .field-same .ensures ∙ ap (entryBy File (given File (now (a .file)) (now (a .starts)) (now (a .ids)) (now (a .counters))) (a .here .place .number))
+    (c .entry-same .ensures ∙ ap (entryBy File (given File (now (a .file)) (now (a .starts)) (now (a .ids)) (now (a .counters))) (a .here .place .number))
     (c .before .before .before .before .entry-of .ensures))
 
 returns-2 : tie.Need-returns-2
@@ -51,9 +51,9 @@ record-same-spec =
     (tie.spec
     entry-of-requires
     enum-told
-    mul-field-same
-    add-field-same
-    field-same-requires
+    mul-entry-same
+    add-entry-same
+    entry-same-requires
     enum-told-2
     places-same-requires
     returns

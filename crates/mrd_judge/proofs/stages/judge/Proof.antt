@@ -1,6 +1,6 @@
 -- `mrd_judge::judge` meets its contract: the stage that refuses decides.
 -- Assumes nothing.
-use mathlib.Core.Path.{_≡_, sym, ap, _∙_}
+use mathlib.Core.Path.{sym, ap, _∙_}
 use borrow.Author.Needs.{needs}
 use denote.Ref.{now}
 use Rattle.mrd_format.specs.Kinds.{identified}

@@ -7,7 +7,6 @@ use borrow.Author.Needs.{needs}
 use denote.Ref.{now}
 use lib.ListN.{length, drop}
 use Rattle.mrd_numbers.specs.Stored.{lent-is}
-use Rattle.mrd_cursor.specs.declared.cursor.Cursor.{Cursor}
 use Rattle.mrd_stream.specs.NextLaws as laws
 use Rattle.mrd_stream.specs.Walk.{from, verdict}
 use Rattle.mrd_stream.specs.StepLaws.{kept-next, kept-end, on-less, step-handed}

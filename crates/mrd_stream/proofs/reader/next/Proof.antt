@@ -1,16 +1,15 @@
 -- `mrd_stream::next` meets its contract: the bytes from the cursor's start on are judged, and a whole message is handed out.
 -- Assumes nothing.
-use native.Mathlib.Omega.{arith}
 use Prim.Native.Nat.{ℕ}
 use mathlib.Core.Path.{_≡_, sym, ap, _∙_}
 use mathlib.Core.List.{List}
 use denote.Ref.{now}
 use lib.ListN.{length, drop}
 use Rattle.mrd_format.specs.Message.{fixedPart}
-use Rattle.mrd_numbers.specs.Stored.{lentFrom, lent-is}
+use Rattle.mrd_numbers.specs.Stored.{lent-is}
 use Rattle.mrd_stream.specs.NextLaws as laws
 use Rattle.mrd_stream.specs.Places.{over, handedOut}
-use Rattle.mrd_judge.specs.Judge.{toldJudgement, Judged, judge, whole, faulty}
+use Rattle.mrd_judge.specs.Judge.{toldJudgement, judge, whole, faulty}
 use borrow.Author.Needs.{needs}
 use Rattle.mrd_stream.proofs.reader.next.Statement.{statement}
 use Rattle.mrd_stream.proofs.reader.next.Tie as tie

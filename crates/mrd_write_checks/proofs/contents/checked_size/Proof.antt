@@ -1,13 +1,15 @@
 -- `mrd_write_checks::contents::checked_size` meets its contract: each kind goes by its name, its text, nothing, or its fixed part.
 -- Assumes nothing.
 use native.Mathlib.Omega.{arith}
-use mathlib.Core.Path.{_≡_, sym, ap, _∙_}
+use mathlib.Core.Path.{_≡_, refl, sym, ap, _∙_}
 use mathlib.Core.List.{[], _∷_}
 use denote.Ref.{now}
 use borrow.Author.Needs.{needs}
 use Rattle.mrd_format.specs.declared.kind.Kind.{Kind}
 use Rattle.mrd_format.specs.declared.kind.Kind.the-variants.{Image}
-use Rattle.mrd_write_checks.specs.JudgeLaws.{sized, textSized, sizedBy, sized-name, sized-text, sized-close, sized-acquisition, sized-waveform}
+use Rattle.mrd_format.specs.Kinds.{fixedSize, headerSize}
+use Rattle.mrd_write_checks.specs.Sized.{sized, textSized, sizedBy}
+use Rattle.mrd_write_checks.specs.JudgeLaws.{sized-name, sized-text, sized-close, sized-header}
 use Rattle.mrd_write_checks.specs.ImageLaws.{image-sized}
 use Rattle.mrd_format.proofs.Arms.{arm}
 use Rattle.mrd_write_checks.proofs.contents.checked_size.Statement.{statement}
@@ -25,29 +27,22 @@ checked-text-requires c κs = search needs
 enum-told-2 : tie.Need-enum-told-2
 enum-told-2 c = search needs
 
+checked-fixed-requires : tie.Need-checked-fixed-requires
+checked-fixed-requires c κs =
+    c .before .before .before .pre ∙
+    arm (λ (k : Kind). headerSize k ≡ fixedSize k) (5 ∷ 7 ∷ []) (c .before .before .before .args .kind) (c .match .keys4) (refl, (refl, tt))
+
 enum-told-3 : tie.Need-enum-told-3
 enum-told-3 c = search needs
 
-checked-fixed-requires : tie.Need-checked-fixed-requires
-checked-fixed-requires c κs = rw (c .enum-told3 .given .1) at (c .before .before .before .before .pre)
-
-enum-told-4 : tie.Need-enum-told-4
-enum-told-4 c = search needs
-
 image-fixed-requires : tie.Need-image-fixed-requires
-image-fixed-requires c κs = rw (c .enum-told4 .given .1) at (c .before .before .before .before .pre)
+image-fixed-requires c κs = rw (c .enum-told3 .given .1) at (c .before .before .before .before .pre)
 
 slice-aggregate-checked-fixed : tie.Need-slice-aggregate-checked-fixed
 slice-aggregate-checked-fixed c = search needs
 
 checked-fixed-requires-2 : tie.Need-checked-fixed-requires-2
 checked-fixed-requires-2 c κs = search needs
-
-enum-told-5 : tie.Need-enum-told-5
-enum-told-5 c = search needs
-
-checked-fixed-requires-3 : tie.Need-checked-fixed-requires-3
-checked-fixed-requires-3 c κs = rw (c .enum-told5 .given .1) at (c .before .before .before .before .pre)
 
 returns : tie.Need-returns
 returns c = rw (c .before .enum-told .given .1) (c .checked-name .ensures ∙ sym (sized-name _ _ _))
@@ -65,19 +60,21 @@ returns-3 : tie.Need-returns-3
 returns-3 c = rw (c .enum-told2 .given .1) (sym (sized-close _ _ _))
 
 returns-4 : tie.Need-returns-4
-returns-4 c = rw (c .before .enum-told3 .given .1) (c .checked-fixed .ensures ∙ sym (sized-acquisition _ _ _))
+returns-4 c =
+    let a = c .before .before .before .before .args in
+    let h = now (a .header) in
+    let n = now (a .name) in
+    c .checked-fixed .ensures ∙ sym
+    (arm (λ (k : Kind). sized k h n (a .given) ≡ sizedBy k h) (5 ∷ 7 ∷ []) (a .kind) (c .before .match .keys4) (sized-header h n (a .given)))
 
 returns-5 : tie.Need-returns-5
 returns-5 c =
     let a = c .before .before .before .before .before .before .before .args in
-    let is = c .before .before .before .enum-told4 .given .1 in
+    let is = c .before .before .before .enum-told3 .given .1 in
     let long = rw is at (c .before .before .before .before .before .before .before .pre) in
     rw is
     (c .checked-fixed2 .ensures ∙ ap (sizedBy Image) (c .before .before .image-fixed .ensures) ∙
     sym (image-sized (now (a .header)) (now (a .name)) (a .given) long (omega arith)))
-
-returns-6 : tie.Need-returns-6
-returns-6 c = rw (c .before .enum-told5 .given .1) (c .checked-fixed3 .ensures ∙ sym (sized-waveform _ _ _))
 
 pub checked-size-spec : {M : Type 1} → statement M
 checked-size-spec =
@@ -87,17 +84,13 @@ checked-size-spec =
     checked-name-requires
     checked-text-requires
     enum-told-2
-    enum-told-3
     checked-fixed-requires
-    enum-told-4
+    enum-told-3
     image-fixed-requires
     slice-aggregate-checked-fixed
     checked-fixed-requires-2
-    enum-told-5
-    checked-fixed-requires-3
     returns
     returns-2
     returns-3
     returns-4
-    returns-5
-    returns-6)
+    returns-5)

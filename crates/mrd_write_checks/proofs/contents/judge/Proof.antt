@@ -1,10 +1,9 @@
 -- `mrd_write_checks::contents::judge` meets its contract: check 3, then what checks 4 to 10 leave, then check 18.
 -- Assumes nothing.
-use mathlib.Core.Path.{_≡_, sym, ap, _∙_}
-use mathlib.Core.Bool.{Bool}
+use mathlib.Core.Path.{sym, ap, _∙_}
 use denote.Ref.{now}
 use borrow.Author.Needs.{needs}
-use Rattle.mrd_write_checks.specs.WriteChecks.{judgedMeaning, sameLengths, dueLengths}
+use Rattle.mrd_write_checks.specs.WriteChecks.{judgedMeaning, sameLengths}
 use Rattle.mrd_write_checks.specs.JudgeLaws.{judged-header, judged-refused, judged-same, judged-differ, sized-size}
 use Rattle.mrd_write_checks.proofs.contents.judge.Statement.{statement}
 use Rattle.mrd_write_checks.proofs.contents.judge.Tie as tie

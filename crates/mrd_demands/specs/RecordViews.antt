@@ -1,0 +1,120 @@
+-- The views of a record of a stream are the parts of that record, and the record is the record list's.
+-- Assumes nothing.
+use Prim.Native.Nat.{ℕ, zero, suc, _+_, _*_, _≤_}
+use native.Mathlib.Omega.{arith}
+use mathlib.Core.Path.{_≡_, refl, sym, ap, ap₂, _∙_}
+use mathlib.Core.List.{List, [], _∷_, _++_, map, append-assoc}
+use lib.ListN.{length, take, drop, length-append}
+use lib.Seq.{drop-drop, take-append-seam, drop-at}
+use Rattle.mrd_logic.specs.Answer.{Verdict, accepted, refused, Answer, answered, unlessRefused}
+use Rattle.mrd_numbers.specs.Laws.{part-take}
+use Rattle.mrd_format.specs.Message.{fixedPart, sizeOf}
+use Rattle.mrd_format.specs.Parts as part
+use Rattle.mrd_format.specs.Parts.{Part, Extent, Reach, lies, lacks, bytesAt, bytesIn}
+use Rattle.mrd_format.specs.Content.{extentOf, contentsOf, Record, recordOf}
+use Rattle.mrd_format.specs.ReachLaws.{part-within, channel-is-share}
+use Rattle.mrd_parts.specs.declared.parts.Part.the-variants as asked
+use Rattle.mrd_parts.specs.Sought.{partMeaning}
+use Rattle.mrd_cursor.specs.declared.cursor.Cursor.{Cursor}
+use Rattle.mrd_stream.specs.Walk.{Trace, trace, answer}
+use Rattle.mrd_stream.specs.Places.{Located, located, places, nth, place}
+use Rattle.mrd_demands.specs.Records.{recordsOf, records}
+use Rattle.mrd_cut.specs.Walked.{Walks, ends, faults, meets, walks}
+use Rattle.mrd_cut.specs.Places.{partAt}
+use Rattle.mrd_cut.specs.Inside.{Inside, place-inside}
+use Rattle.mrd_record.specs.RecordLaws.{fixed-long}
+use Rattle.mrd_views.specs.declared.views.Span.{Span}
+use Rattle.mrd_views.specs.Views.{span, shownAt, viewOf, shown}
+
+-- element n of a list is x
+abbrev pub Nth : {A : Type 0} → List A → ℕ → A → Type 0
+Nth [] n x = ⊥
+Nth (y ∷ ys) zero x = y ≡ x
+Nth (y ∷ ys) (suc n) x = Nth ys n x
+
+-- the views of record n of s are the parts of the record r; a channel's samples are its share of all of them
+pub record ViewsOf (s : List ℕ) (n : ℕ) (r : Record) : Type 0 where
+  pub name : shown (viewOf s n asked.Name) s ≡ r .parts .name
+  pub text : shown (viewOf s n asked.Text) s ≡ r .parts .text
+  pub trajectory : shown (viewOf s n asked.Trajectory) s ≡ r .parts .trajectory
+  pub attributes : shown (viewOf s n asked.Attributes) s ≡ r .parts .attributes
+  pub pixels : shown (viewOf s n asked.Pixels) s ≡ r .parts .pixels
+  pub waveform : shown (viewOf s n asked.Waveform) s ≡ r .parts .waveform
+  pub channel : (c : ℕ) {x : Span} → viewOf s n (asked.Channel c) ≡ answered x →
+      shown (answered x) s ≡ take (x .length) (drop (c * x .length) (r .parts .samples))
+
+-- the record that lies at a place
+abbrev recordAt : List ℕ → Located → Record
+recordAt s l = recordOf (l .kind) (partAt s l)
+
+records-placed : {c : Cursor} {s : List ℕ} {r : Trace} → Walks c s r → (before : List ℕ) → length before ≡ c .start →
+    recordsOf r ≡ map (recordAt (before ++ s)) (places r)
+records-placed ends before h = refl
+records-placed (faults e) before h = refl
+records-placed (meets {c} {m} {rest} {r} w a n v) before h =
+    let here : partAt (before ++ (m ++ rest)) (located c (w .kind) m) ≡ m = rw (drop-at before (m ++ rest) (c .start) h, take-append-seam) in
+    let far : length (before ++ m) ≡ c .start + length m = simp (length-append, h) in
+    let later : recordsOf r ≡ map (recordAt (before ++ (m ++ rest))) (places r) = rw append-assoc at (records-placed v (before ++ m) far) in
+    ap₂ (λ (x : Record) (xs : List Record). x ∷ xs) (ap (recordOf (w .kind)) (sym here)) later
+
+nth-of : (s : List ℕ) (ls : List Located) (n : ℕ) {l : Located} → nth ls n ≡ answered l → Nth (map (recordAt s) ls) n (recordAt s l)
+nth-of s [] n e = let z : _≡_ {A = ℕ} 0 1 = cc in absurd (omega arith)
+nth-of s (k ∷ ls) zero {l} e = let same : k ≡ l = cc in ap (recordAt s) same
+nth-of s (k ∷ ls) (suc n) e = nth-of s ls n e
+
+-- the record at the place of record n is the record list's
+pub place-record : (s : List ℕ) (n : ℕ) {l : Located} → place s n ≡ answered l → Nth (records s) n (recordAt s l)
+unfolding place records
+place-record s n {l} e = rw (records-placed (walks s) [] refl) (by (answer s) e)
+  where
+    by : (v : Verdict) → unlessRefused v (nth (places (trace s)) n) ≡ answered l → Nth (map (recordAt s) (places (trace s))) n (recordAt s l)
+    by (accepted k) q = nth-of s (places (trace s)) n q
+    by (refused f r b) q = let z : _≡_ {A = ℕ} 0 1 = cc in absurd (omega arith)
+
+-- what a view shows of a record that lies in s are the bytes of that part of its message
+module _ (s : List ℕ) (l : Located) (i : Inside s l) (p : Part) where
+  abbrev m : List ℕ
+  m = partAt s l
+
+  reach-shown : (r : Reach) → extentOf p (l .kind) (fixedPart (l .kind) m) ≡ r → shown (shownAt r (l .start)) s ≡ bytesIn m r
+  reach-shown lacks q = refl
+  reach-shown (lies e) q =
+      let size : sizeOf (l .kind) (fixedPart (l .kind) m) ≡ l .size = rw (← i .kind) (i .well .whole ∙ i .long) in
+      let within : e .offset + e .size ≤ l .size = omega (arith, part-within (l .kind) (fixedPart (l .kind) m) (fixed-long s l i) p q, size) in
+      rw (part-take (e .size) (l .size) (drop (l .start) s) (e .offset) within, drop-drop)
+
+  part-shown : shown (shownAt (extentOf p (l .kind) (fixedPart (l .kind) m)) (l .start)) s ≡ bytesIn m (extentOf p (l .kind) (fixedPart (l .kind) m))
+  part-shown = reach-shown (extentOf p (l .kind) (fixedPart (l .kind) m)) refl
+
+-- one channel
+channel-shown : (s : List ℕ) (l : Located) → Inside s l → (c : ℕ) {x : Span} →
+    shownAt (extentOf (part.channel c) (l .kind) (fixedPart (l .kind) (partAt s l))) (l .start) ≡ answered x →
+    shown (answered x) s ≡ take (x .length) (drop (c * x .length) (recordAt s l .parts .samples))
+channel-shown s l i c {x} q = by (extentOf (part.channel c) (l .kind) (fixedPart (l .kind) (partAt s l))) refl q
+  where
+    by : (r : Reach) → extentOf (part.channel c) (l .kind) (fixedPart (l .kind) (partAt s l)) ≡ r → shownAt r (l .start) ≡ answered x →
+        shown (answered x) s ≡ take (x .length) (drop (c * x .length) (recordAt s l .parts .samples))
+    by lacks e q = let z : _≡_ {A = ℕ} 0 1 = cc in absurd (omega arith)
+    by (lies d) e q =
+        let y : span (l .start + d .offset) (d .size) ≡ x = cc in
+        rw (← y) (reach-shown s l i (part.channel c) (lies d) e ∙ channel-is-share (l .kind) (partAt s l) c e)
+
+-- each view of a record is that part of it
+pub views-are-parts : (s : List ℕ) (n : ℕ) {l : Located} → place s n ≡ answered l → (r : Record) × (Nth (records s) n r × ViewsOf s n r)
+unfolding viewOf recordOf contentsOf
+views-are-parts s n {l} e =
+    let i = place-inside s n e in (
+      recordAt s l,
+      (
+        place-record s n e,
+        record {
+          name = rw e (part-shown s l i part.name);
+          text = rw e (part-shown s l i part.text);
+          trajectory = rw e (part-shown s l i part.trajectory);
+          attributes = rw e (part-shown s l i part.attributes);
+          pixels = rw e (part-shown s l i part.pixels);
+          waveform = rw e (part-shown s l i part.waveform);
+          channel = λ c q. channel-shown s l i c (rw e at q);
+        },
+      ),
+    )

@@ -1,0 +1,40 @@
+-- A refusal leaves every output as it was.
+-- Assumes nothing.
+use Prim.Native.Nat.{ℕ}
+use mathlib.Core.Path.{_≡_, refl}
+use mathlib.Core.List.{List}
+use Rattle.mrd_logic.specs.Answer.{Answer, answered, stream, number}
+use Rattle.mrd_format.specs.declared.kind.Identified.{Identified}
+use Rattle.mrd_format.specs.declared.kind.Identified.the-variants.{Known, Unknown}
+use Rattle.mrd_format.specs.Kinds.{identified}
+use Rattle.mrd_format.specs.Parts.{Contents}
+use Rattle.mrd_format.specs.Content.{messageOf}
+use Rattle.mrd_stream.specs.Output as front
+use Rattle.mrd_writer.specs.Write as writer
+use Rattle.mrd_writer.specs.Write.{answerAs, outputAs, writeAnswer, writeOutput}
+
+-- a refusal: the stream's, or a number alone
+abbrev pub Refusal : Answer ℕ → Type 0
+Refusal (answered n) = ⊥
+Refusal (stream f r b) = Unit {0}
+Refusal (number n) = Unit {0}
+
+-- of a tool that writes w to the front of the output o
+pub output-kept : (a : Answer ℕ) → Refusal a → (w o : List ℕ) → front.outputBy a w o ≡ o
+output-kept (answered n) r w o = absurd r
+output-kept (stream f n b) r w o = refl
+output-kept (number n) r w o = refl
+
+message-kept : (a : Answer ℕ) → Refusal a → (m : List ℕ) (at : ℕ) (o : List ℕ) → writer.outputBy a m at o ≡ o
+message-kept (answered n) r m at o = absurd r
+message-kept (stream f n b) r m at o = refl
+message-kept (number n) r m at o = refl
+
+-- of the writer
+pub written-kept : (id : ℕ) (c : Contents) (at : ℕ) (o : List ℕ) → Refusal (writeAnswer id c at o) → writeOutput id c at o ≡ o
+unfolding writeAnswer writeOutput outputAs
+written-kept id c at o r = by (identified id) r
+  where
+    by : (i : Identified) → Refusal (answerAs i c at o) → outputAs i c at o ≡ o
+    by Unknown r = refl
+    by (Known k) r = message-kept (answerAs (Known k) c at o) r (messageOf k c) at o

@@ -1,0 +1,36 @@
+-- `mrd_index_fields::put_end` meets its contract: the count is stored right after its tag.
+-- Assumes nothing.
+use Prim.Native.Nat.{_+_}
+use native.Mathlib.Omega.{arith}
+use mathlib.Core.Path.{refl}
+use borrow.Author.Needs.{needs}
+use denote.Ref.{now}
+use Rattle.mrd_numbers.specs.Little.{toBytes}
+use Rattle.mrd_tagged.specs.Tagged.{heading}
+use Rattle.mrd_tagged.specs.TaggedLaws.{two-stored}
+use Rattle.mrd_index_fields.proofs.put.put_end.Statement.{statement}
+use Rattle.mrd_index_fields.proofs.put.put_end.Tie as tie
+
+put-tag-requires : tie.Need-put-tag-requires
+put-tag-requires c κs = search needs
+
+add-put-u32-at : tie.Need-add-put-u32-at
+add-put-u32-at c = search needs
+
+put-u32-at-requires : tie.Need-put-u32-at-requires
+put-u32-at-requires c κs = search needs
+
+same-length : tie.Need-same-length
+same-length c = search needs
+
+returns : tie.Need-returns
+returns c =
+    let tag = c .before .before .before .before .before .before in
+    let start = tag .before .before .before in
+    let a = start .args in
+    two-stored (now (a .out)) (heading 4 4) (toBytes 4 (a .count)) (a .at) (a .at + 3) (tag .put-tag .ensures)
+    (c .before .before .put-u32-at .ensures) refl (omega (arith, start .pre))
+
+pub put-end-spec : {M : Type 1} → statement M
+put-end-spec =
+    tie.close (tie.spec put-tag-requires add-put-u32-at put-u32-at-requires same-length returns)

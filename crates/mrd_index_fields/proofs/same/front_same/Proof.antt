@@ -1,0 +1,47 @@
+-- `mrd_index_fields::front_same` meets its contract: the fields stand one after the other.
+-- Assumes nothing.
+use native.Mathlib.Omega.{arith}
+use mathlib.Core.Path.{refl, sym}
+use borrow.Author.Needs.{needs}
+use denote.Ref.{now}
+use Rattle.mrd_logic.specs.ListLaws.{rest-short}
+use Rattle.mrd_numbers.specs.Little.{toBytes}
+use Rattle.mrd_tagged.specs.Tagged.{heading}
+use Rattle.mrd_tagged.specs.TaggedLaws.{four-same}
+use Rattle.mrd_stream.specs.Index.{frontField}
+use Rattle.mrd_index_fields.proofs.same.front_same.Statement.{statement}
+use Rattle.mrd_index_fields.proofs.same.front_same.Tie as tie
+
+returns : tie.Need-returns
+returns c =
+    let a = c .before .before .args in
+    sym (rest-short (now (a .file)) (frontField (a .total)) 0 (omega arith) (c .if1 .taken))
+
+tag-same-requires : tie.Need-tag-same-requires
+tag-same-requires c κs = search needs
+
+u64-same-requires : tie.Need-u64-same-requires
+u64-same-requires c κs = search needs
+
+tag-same-requires-2 : tie.Need-tag-same-requires-2
+tag-same-requires-2 c κs = search needs
+
+u16-same-requires : tie.Need-u16-same-requires
+u16-same-requires c κs = search needs
+
+returns-2 : tie.Need-returns-2
+returns-2 c =
+    let a = c .before .before .before .before .before .before .args in
+    rw (c .before .tag-same2 .ensures, c .u16-same .ensures, c .before .before .before .tag-same .ensures, c .before .before .u64-same .ensures)
+    (four-same (now (a .file)) (heading 1 2) (toBytes 2 1) (heading 2 8) (toBytes 8 (a .total)) 0 3 5 8 refl refl refl)
+
+pub front-same-spec : {M : Type 1} → statement M
+front-same-spec =
+    tie.close
+    (tie.spec
+    returns
+    tag-same-requires
+    u64-same-requires
+    tag-same-requires-2
+    u16-same-requires
+    returns-2)

@@ -1,0 +1,19 @@
+-- What the bytes after a message's id need, to be put: a whole fixed part, a text's length that fits, and room.
+-- Assumes nothing.
+use Prim.Native.Nat.{ℕ, _^_, _≤_, _<_}
+use mathlib.Core.Path.{_≡_}
+use mathlib.Core.List.{List}
+use lib.ListN.{length}
+use Rattle.mrd_format.specs.declared.kind.Kind.{Kind}
+use Rattle.mrd_format.specs.Kinds.{fixedSize}
+use Rattle.mrd_format.specs.Parts.{Contents}
+use Rattle.mrd_format.specs.Content.{fixedOf, contentOf}
+
+-- what is given makes a whole fixed part, and a text's length fits its four bytes
+pub record Ready (k : Kind) (c : Contents) : Type 0 where
+  pub fixed : length (fixedOf k c) ≡ fixedSize k
+  pub text : length (c .parts .text) < 2 ^ 32
+
+-- what is given is ready, and the part o of the output has room for what follows the id
+abbrev pub Roomy : Kind → Contents → List ℕ → Type 0
+Roomy k c o = Ready k c × (length (contentOf k c) ≤ length o)

@@ -1,0 +1,254 @@
+/* Names and numbers of MRD message streams, for C. Included by cotterleaf.h.
+ * Written by tests/names from the definitions in crates/: change those, not this file. */
+#ifndef COTTERLEAF_NAMES_H
+#define COTTERLEAF_NAMES_H
+
+#include <stdint.h>
+
+#define COTTERLEAF_VERSION_MAJOR 0
+#define COTTERLEAF_VERSION_MINOR 2
+#define COTTERLEAF_VERSION_PATCH 0
+#define COTTERLEAF_VERSION "0.2.0"
+
+/* The numbers of refusal, and 0 where nothing is refused. mrd_refusal_text says what to do about each. */
+typedef enum mrd_refusal {
+    MRD_OK = 0,
+    MRD_REFUSED_ID_CUT = 1,           /* One byte remains where an id is due. */
+    MRD_REFUSED_UNKNOWN_ID = 2,       /* The id is not in the table of kinds. */
+    MRD_REFUSED_FIXED_PART_CUT = 3,   /* The fixed part doesn't fit in what remains; of the writer: the header bytes are not as long as the kind's fixed header. */
+    MRD_REFUSED_VERSION = 4,          /* The version is not 1. */
+    MRD_REFUSED_NAME = 5,             /* No zero among the name's 1,024 bytes; of the writer: a name over 1,023 bytes or holding a zero. */
+    MRD_REFUSED_CHANNELS = 6,         /* Active channels above available, or a mask that isn't all zero whose count of ones differs from them. */
+    MRD_REFUSED_DISCARD = 7,          /* Discard pre plus discard post above the number of samples. */
+    MRD_REFUSED_DATA_TYPE = 8,        /* An image's data type is not 1 to 8. */
+    MRD_REFUSED_ATTRIBUTE_LENGTH = 9, /* The two attribute lengths differ. */
+    MRD_REFUSED_TOO_LARGE = 10,       /* The whole message, id included, is over 268,435,456 bytes. */
+    MRD_REFUSED_MESSAGE_CUT = 11,     /* The whole message doesn't fit in what remains. */
+    MRD_REFUSED_ORDER = 12,           /* The order of messages is broken. */
+    MRD_REFUSED_NO_CLOSE = 13,        /* The stream ends without a close. */
+    MRD_REFUSED_OUTPUT_SHORT = 14,    /* The output is too short, or the start position is past its end. */
+    MRD_REFUSED_INDEX_DIFFERS = 15,   /* The index differs from the one the stream yields. */
+    MRD_REFUSED_NO_RECORD = 16,       /* There is no such record. */
+    MRD_REFUSED_NO_PART = 17,         /* The record has no such part or channel. */
+    MRD_REFUSED_BODY_LENGTH = 18,     /* Of the writer: a body's length isn't what its header says, or a part its kind lacks isn't empty. */
+    MRD_REFUSED_TOO_MANY = 19,        /* A message begins after 1,000,000 messages. */
+    MRD_REFUSED_NO_FIELD = 20         /* No header element starts at that offset, or the record has no header. */
+} mrd_refusal;
+
+/* What is wrong and what to do, as one sentence, for any number: never NULL. */
+static inline const char *mrd_refusal_text(uint32_t refusal)
+{
+    static const char *const texts[] = {
+        "nothing is refused",
+        "one byte remains where an id is due; have the rest of the recording sent again, or cut this byte off",
+        "the id names no kind of message; check that this is an MRD stream and that nothing was lost before this message",
+        "the stream ends inside the fixed part of the message, or a header to be written has another length than its kind's; have the message sent again whole, or give 340, 198, 32 or no header bytes as the kind asks",
+        "the version in the header is not 1; have the sender write version 1 of the header",
+        "a configuration name has no zero in its 1,024 bytes, or one to be written is too long or holds a zero; give a name of at most 1,023 bytes without a zero",
+        "more channels are active than available, or the channel mask has another count of ones; correct the channel numbers, or leave the mask all zero",
+        "discard_pre and discard_post together exceed the number of samples; correct these numbers of the acquisition header",
+        "the image data type is not 1 to 8; correct the data type of the image header",
+        "the image's two attribute lengths differ; write the same length in the header and in the 8 bytes after it",
+        "the message has over 268,435,456 bytes; check the sizes in its header, or send the data in several messages",
+        "the stream ends inside the message; have the message sent again whole, or cut the stream before it and add a close (04 00)",
+        "the order of messages is broken; send at most one configuration, then one header text, then the data, and nothing after the close",
+        "the stream ends without a close; wait for the rest, or add a close (04 00) if the recording is over",
+        "the output is too short, or the position is past its end; give a longer output",
+        "the index that was given is not the one that this stream yields; write the index again, or ask without one",
+        "there is no such record; ask for a record number below the count, or for counters that an acquisition has",
+        "the record has no such part or channel; ask for a part of the record's kind, or a channel below its number of active channels",
+        "a part to be written has another length than its header says, or its kind lacks it; give the kind's own parts in their lengths, and leave the others empty",
+        "a message begins after 1,000,000 messages; close the stream before it, and begin another",
+        "no header element starts at that offset, or the record has no header; take an offset from the table of the record's header"
+    };
+    if (refusal >= sizeof texts / sizeof texts[0])
+        return "no refusal has this number; the library and its header may be of different versions";
+    return texts[refusal];
+}
+
+/* The limits of a stream. */
+enum {
+    MRD_MAX_MESSAGE_SIZE = 268435456, /* bytes of one message, its id included */
+    MRD_MAX_MESSAGES = 1000000        /* messages of one stream */
+};
+
+/* The kinds of message, by id. */
+enum {
+    MRD_ID_CONFIGURATION_NAME = 1,
+    MRD_ID_CONFIGURATION_TEXT = 2,
+    MRD_ID_HEADER_TEXT = 3,
+    MRD_ID_CLOSE = 4,
+    MRD_ID_TEXT = 5,
+    MRD_ID_ACQUISITION = 1008,
+    MRD_ID_IMAGE = 1022,
+    MRD_ID_WAVEFORM = 1026
+};
+
+/* Where each element of the acquisition header (id 1008) starts, counted from the header's first byte.
+ * Element i of an array lies i times its type's size further. */
+enum {
+    MRD_ACQUISITION_VERSION = 0,                  /* uint16_t */
+    MRD_ACQUISITION_FLAGS = 2,                    /* uint64_t */
+    MRD_ACQUISITION_MEASUREMENT_UID = 10,         /* uint32_t */
+    MRD_ACQUISITION_SCAN_COUNTER = 14,            /* uint32_t */
+    MRD_ACQUISITION_ACQUISITION_TIME_STAMP = 18,  /* uint32_t */
+    MRD_ACQUISITION_PHYSIOLOGY_TIME_STAMP = 22,   /* uint32_t[3] */
+    MRD_ACQUISITION_NUMBER_OF_SAMPLES = 34,       /* uint16_t */
+    MRD_ACQUISITION_AVAILABLE_CHANNELS = 36,      /* uint16_t */
+    MRD_ACQUISITION_ACTIVE_CHANNELS = 38,         /* uint16_t */
+    MRD_ACQUISITION_CHANNEL_MASK = 40,            /* uint64_t[16] */
+    MRD_ACQUISITION_DISCARD_PRE = 168,            /* uint16_t */
+    MRD_ACQUISITION_DISCARD_POST = 170,           /* uint16_t */
+    MRD_ACQUISITION_CENTER_SAMPLE = 172,          /* uint16_t */
+    MRD_ACQUISITION_ENCODING_SPACE_REF = 174,     /* uint16_t */
+    MRD_ACQUISITION_TRAJECTORY_DIMENSIONS = 176,  /* uint16_t */
+    MRD_ACQUISITION_SAMPLE_TIME_US = 178,         /* float */
+    MRD_ACQUISITION_POSITION = 182,               /* float[3] */
+    MRD_ACQUISITION_READ_DIR = 194,               /* float[3] */
+    MRD_ACQUISITION_PHASE_DIR = 206,              /* float[3] */
+    MRD_ACQUISITION_SLICE_DIR = 218,              /* float[3] */
+    MRD_ACQUISITION_PATIENT_TABLE_POSITION = 230, /* float[3] */
+    MRD_ACQUISITION_COUNTERS = 242,               /* uint16_t[17] */
+    MRD_ACQUISITION_USER_INT = 276,               /* int32_t[8] */
+    MRD_ACQUISITION_USER_FLOAT = 308,             /* float[8] */
+    MRD_ACQUISITION_HEADER_SIZE = 340             /* bytes */
+};
+
+/* Where each element of the image header (id 1022) starts, counted from the header's first byte.
+ * Element i of an array lies i times its type's size further. */
+enum {
+    MRD_IMAGE_VERSION = 0,                  /* uint16_t */
+    MRD_IMAGE_DATA_TYPE = 2,                /* uint16_t */
+    MRD_IMAGE_FLAGS = 4,                    /* uint64_t */
+    MRD_IMAGE_MEASUREMENT_UID = 12,         /* uint32_t */
+    MRD_IMAGE_MATRIX_SIZE = 16,             /* uint16_t[3] */
+    MRD_IMAGE_FIELD_OF_VIEW = 22,           /* float[3] */
+    MRD_IMAGE_CHANNELS = 34,                /* uint16_t */
+    MRD_IMAGE_POSITION = 36,                /* float[3] */
+    MRD_IMAGE_READ_DIR = 48,                /* float[3] */
+    MRD_IMAGE_PHASE_DIR = 60,               /* float[3] */
+    MRD_IMAGE_SLICE_DIR = 72,               /* float[3] */
+    MRD_IMAGE_PATIENT_TABLE_POSITION = 84,  /* float[3] */
+    MRD_IMAGE_AVERAGE = 96,                 /* uint16_t */
+    MRD_IMAGE_SLICE = 98,                   /* uint16_t */
+    MRD_IMAGE_CONTRAST = 100,               /* uint16_t */
+    MRD_IMAGE_PHASE = 102,                  /* uint16_t */
+    MRD_IMAGE_REPETITION = 104,             /* uint16_t */
+    MRD_IMAGE_SET = 106,                    /* uint16_t */
+    MRD_IMAGE_ACQUISITION_TIME_STAMP = 108, /* uint32_t */
+    MRD_IMAGE_PHYSIOLOGY_TIME_STAMP = 112,  /* uint32_t[3] */
+    MRD_IMAGE_IMAGE_TYPE = 124,             /* uint16_t */
+    MRD_IMAGE_IMAGE_INDEX = 126,            /* uint16_t */
+    MRD_IMAGE_IMAGE_SERIES_INDEX = 128,     /* uint16_t */
+    MRD_IMAGE_USER_INT = 130,               /* int32_t[8] */
+    MRD_IMAGE_USER_FLOAT = 162,             /* float[8] */
+    MRD_IMAGE_ATTRIBUTE_STRING_LEN = 194,   /* uint32_t */
+    MRD_IMAGE_HEADER_SIZE = 198             /* bytes */
+};
+
+/* Where each element of the waveform header (id 1026) starts, counted from the header's first byte.
+ * Element i of an array lies i times its type's size further. */
+enum {
+    MRD_WAVEFORM_VERSION = 0,            /* uint16_t */
+    MRD_WAVEFORM_FLAGS = 2,              /* uint64_t */
+    MRD_WAVEFORM_MEASUREMENT_UID = 10,   /* uint32_t */
+    MRD_WAVEFORM_SCAN_COUNTER = 14,      /* uint32_t */
+    MRD_WAVEFORM_TIME_STAMP = 18,        /* uint32_t */
+    MRD_WAVEFORM_NUMBER_OF_SAMPLES = 22, /* uint16_t */
+    MRD_WAVEFORM_CHANNELS = 24,          /* uint16_t */
+    MRD_WAVEFORM_SAMPLE_TIME_US = 26,    /* float */
+    MRD_WAVEFORM_WAVEFORM_ID = 30,       /* uint16_t */
+    MRD_WAVEFORM_HEADER_SIZE = 32        /* bytes */
+};
+
+/* The seventeen counters of an acquisition (ISMRMRD's idx), by their place in mrd_find's array; in the
+ * header counter i starts at MRD_ACQUISITION_COUNTERS + 2 * i. */
+enum {
+    MRD_COUNTER_KSPACE_ENCODE_STEP_1 = 0,
+    MRD_COUNTER_KSPACE_ENCODE_STEP_2 = 1,
+    MRD_COUNTER_AVERAGE = 2,
+    MRD_COUNTER_SLICE = 3,
+    MRD_COUNTER_CONTRAST = 4,
+    MRD_COUNTER_PHASE = 5,
+    MRD_COUNTER_REPETITION = 6,
+    MRD_COUNTER_SET = 7,
+    MRD_COUNTER_SEGMENT = 8,
+    MRD_COUNTER_USER_0 = 9,
+    MRD_COUNTER_USER_1 = 10,
+    MRD_COUNTER_USER_2 = 11,
+    MRD_COUNTER_USER_3 = 12,
+    MRD_COUNTER_USER_4 = 13,
+    MRD_COUNTER_USER_5 = 14,
+    MRD_COUNTER_USER_6 = 15,
+    MRD_COUNTER_USER_7 = 16,
+    MRD_COUNTERS = 17                     /* how many there are */
+};
+
+/* The acquisition flags, for mrd_flag_test and its like. Flag n is bit n - 1. */
+enum {
+    MRD_FLAG_FIRST_IN_ENCODE_STEP1 = 1,
+    MRD_FLAG_LAST_IN_ENCODE_STEP1 = 2,
+    MRD_FLAG_FIRST_IN_ENCODE_STEP2 = 3,
+    MRD_FLAG_LAST_IN_ENCODE_STEP2 = 4,
+    MRD_FLAG_FIRST_IN_AVERAGE = 5,
+    MRD_FLAG_LAST_IN_AVERAGE = 6,
+    MRD_FLAG_FIRST_IN_SLICE = 7,
+    MRD_FLAG_LAST_IN_SLICE = 8,
+    MRD_FLAG_FIRST_IN_CONTRAST = 9,
+    MRD_FLAG_LAST_IN_CONTRAST = 10,
+    MRD_FLAG_FIRST_IN_PHASE = 11,
+    MRD_FLAG_LAST_IN_PHASE = 12,
+    MRD_FLAG_FIRST_IN_REPETITION = 13,
+    MRD_FLAG_LAST_IN_REPETITION = 14,
+    MRD_FLAG_FIRST_IN_SET = 15,
+    MRD_FLAG_LAST_IN_SET = 16,
+    MRD_FLAG_FIRST_IN_SEGMENT = 17,
+    MRD_FLAG_LAST_IN_SEGMENT = 18,
+    MRD_FLAG_IS_NOISE_MEASUREMENT = 19,
+    MRD_FLAG_IS_PARALLEL_CALIBRATION = 20,
+    MRD_FLAG_IS_PARALLEL_CALIBRATION_AND_IMAGING = 21,
+    MRD_FLAG_IS_REVERSE = 22,
+    MRD_FLAG_IS_NAVIGATION_DATA = 23,
+    MRD_FLAG_IS_PHASECORR_DATA = 24,
+    MRD_FLAG_LAST_IN_MEASUREMENT = 25,
+    MRD_FLAG_IS_HPFEEDBACK_DATA = 26,
+    MRD_FLAG_IS_DUMMYSCAN_DATA = 27,
+    MRD_FLAG_IS_RTFEEDBACK_DATA = 28,
+    MRD_FLAG_IS_SURFACECOILCORRECTIONSCAN_DATA = 29,
+    MRD_FLAG_COMPRESSION1 = 53,
+    MRD_FLAG_COMPRESSION2 = 54,
+    MRD_FLAG_COMPRESSION3 = 55,
+    MRD_FLAG_COMPRESSION4 = 56,
+    MRD_FLAG_USER1 = 57,
+    MRD_FLAG_USER2 = 58,
+    MRD_FLAG_USER3 = 59,
+    MRD_FLAG_USER4 = 60,
+    MRD_FLAG_USER5 = 61,
+    MRD_FLAG_USER6 = 62,
+    MRD_FLAG_USER7 = 63,
+    MRD_FLAG_USER8 = 64
+};
+
+/* The data types of an image's pixels. */
+enum {
+    MRD_DATA_TYPE_USHORT = 1,   /* uint16_t, 2 bytes */
+    MRD_DATA_TYPE_SHORT = 2,    /* int16_t, 2 bytes */
+    MRD_DATA_TYPE_UINT = 3,     /* uint32_t, 4 bytes */
+    MRD_DATA_TYPE_INT = 4,      /* int32_t, 4 bytes */
+    MRD_DATA_TYPE_FLOAT = 5,    /* float, 4 bytes */
+    MRD_DATA_TYPE_DOUBLE = 6,   /* double, 8 bytes */
+    MRD_DATA_TYPE_CXFLOAT = 7,  /* a pair of floats, 8 bytes */
+    MRD_DATA_TYPE_CXDOUBLE = 8  /* a pair of doubles, 16 bytes */
+};
+
+/* What an image shows, in its header's image_type; it is not checked. */
+enum {
+    MRD_IMAGE_TYPE_MAGNITUDE = 1,
+    MRD_IMAGE_TYPE_PHASE = 2,
+    MRD_IMAGE_TYPE_REAL = 3,
+    MRD_IMAGE_TYPE_IMAG = 4,
+    MRD_IMAGE_TYPE_COMPLEX = 5,
+    MRD_IMAGE_TYPE_RGB = 6
+};
+
+#endif

@@ -1,0 +1,447 @@
+//! Names and numbers of MRD message streams.
+//! Written by tests/names from the definitions in crates/: change those, not this file.
+
+/// The numbers of refusal.
+pub mod refused {
+    /// One byte remains where an id is due.
+    pub const ID_CUT: u32 = 1;
+    /// The id is not in the table of kinds.
+    pub const UNKNOWN_ID: u32 = 2;
+    /// The fixed part doesn't fit in what remains; of the writer: the header bytes are not as long as the kind's fixed header.
+    pub const FIXED_PART_CUT: u32 = 3;
+    /// The version is not 1.
+    pub const VERSION: u32 = 4;
+    /// No zero among the name's 1,024 bytes; of the writer: a name over 1,023 bytes or holding a zero.
+    pub const NAME: u32 = 5;
+    /// Active channels above available, or a mask that isn't all zero whose count of ones differs from them.
+    pub const CHANNELS: u32 = 6;
+    /// Discard pre plus discard post above the number of samples.
+    pub const DISCARD: u32 = 7;
+    /// An image's data type is not 1 to 8.
+    pub const DATA_TYPE: u32 = 8;
+    /// The two attribute lengths differ.
+    pub const ATTRIBUTE_LENGTH: u32 = 9;
+    /// The whole message, id included, is over 268,435,456 bytes.
+    pub const TOO_LARGE: u32 = 10;
+    /// The whole message doesn't fit in what remains.
+    pub const MESSAGE_CUT: u32 = 11;
+    /// The order of messages is broken.
+    pub const ORDER: u32 = 12;
+    /// The stream ends without a close.
+    pub const NO_CLOSE: u32 = 13;
+    /// The output is too short, or the start position is past its end.
+    pub const OUTPUT_SHORT: u32 = 14;
+    /// The index differs from the one the stream yields.
+    pub const INDEX_DIFFERS: u32 = 15;
+    /// There is no such record.
+    pub const NO_RECORD: u32 = 16;
+    /// The record has no such part or channel.
+    pub const NO_PART: u32 = 17;
+    /// Of the writer: a body's length isn't what its header says, or a part its kind lacks isn't empty.
+    pub const BODY_LENGTH: u32 = 18;
+    /// A message begins after 1,000,000 messages.
+    pub const TOO_MANY: u32 = 19;
+    /// No header element starts at that offset, or the record has no header.
+    pub const NO_FIELD: u32 = 20;
+}
+
+/// What is wrong and what to do, for each number of refusal from 1 on.
+pub(crate) const SENTENCES: [(&str, &str); 20] = [
+    (
+        "one byte remains where an id is due",
+        "have the rest of the recording sent again, or cut this byte off",
+    ),
+    (
+        "the id names no kind of message",
+        "check that this is an MRD stream and that nothing was lost before this message",
+    ),
+    (
+        "the stream ends inside the fixed part of the message, or a header to be written has another length than its kind's",
+        "have the message sent again whole, or give 340, 198, 32 or no header bytes as the kind asks",
+    ),
+    (
+        "the version in the header is not 1",
+        "have the sender write version 1 of the header",
+    ),
+    (
+        "a configuration name has no zero in its 1,024 bytes, or one to be written is too long or holds a zero",
+        "give a name of at most 1,023 bytes without a zero",
+    ),
+    (
+        "more channels are active than available, or the channel mask has another count of ones",
+        "correct the channel numbers, or leave the mask all zero",
+    ),
+    (
+        "discard_pre and discard_post together exceed the number of samples",
+        "correct these numbers of the acquisition header",
+    ),
+    (
+        "the image data type is not 1 to 8",
+        "correct the data type of the image header",
+    ),
+    (
+        "the image's two attribute lengths differ",
+        "write the same length in the header and in the 8 bytes after it",
+    ),
+    (
+        "the message has over 268,435,456 bytes",
+        "check the sizes in its header, or send the data in several messages",
+    ),
+    (
+        "the stream ends inside the message",
+        "have the message sent again whole, or cut the stream before it and add a close (04 00)",
+    ),
+    (
+        "the order of messages is broken",
+        "send at most one configuration, then one header text, then the data, and nothing after the close",
+    ),
+    (
+        "the stream ends without a close",
+        "wait for the rest, or add a close (04 00) if the recording is over",
+    ),
+    (
+        "the output is too short, or the position is past its end",
+        "give a longer output",
+    ),
+    (
+        "the index that was given is not the one that this stream yields",
+        "write the index again, or ask without one",
+    ),
+    (
+        "there is no such record",
+        "ask for a record number below the count, or for counters that an acquisition has",
+    ),
+    (
+        "the record has no such part or channel",
+        "ask for a part of the record's kind, or a channel below its number of active channels",
+    ),
+    (
+        "a part to be written has another length than its header says, or its kind lacks it",
+        "give the kind's own parts in their lengths, and leave the others empty",
+    ),
+    (
+        "a message begins after 1,000,000 messages",
+        "close the stream before it, and begin another",
+    ),
+    (
+        "no header element starts at that offset, or the record has no header",
+        "take an offset from the table of the record's header",
+    ),
+];
+
+/// The largest message, in bytes, its id included.
+pub const MAX_MESSAGE_SIZE: usize = 268435456;
+
+/// The most messages of one stream.
+pub const MAX_MESSAGES: usize = 1000000;
+
+/// The ids of the eight kinds of message.
+pub mod id {
+    /// A configuration name.
+    pub const CONFIGURATION_NAME: u16 = 1;
+    /// A configuration text.
+    pub const CONFIGURATION_TEXT: u16 = 2;
+    /// A header text.
+    pub const HEADER_TEXT: u16 = 3;
+    /// The close.
+    pub const CLOSE: u16 = 4;
+    /// A text.
+    pub const TEXT: u16 = 5;
+    /// An acquisition.
+    pub const ACQUISITION: u16 = 1008;
+    /// An image.
+    pub const IMAGE: u16 = 1022;
+    /// A waveform.
+    pub const WAVEFORM: u16 = 1026;
+}
+
+/// Where each header element starts, counted from the header's first byte: the offsets that [`field`](crate::Stream::field) takes. Element i of an array lies i times its type's size further.
+pub mod offset {
+    /// In the header of an acquisition, 340 bytes.
+    pub mod acquisition {
+        /// `u16`.
+        pub const VERSION: usize = 0;
+        /// `u64`.
+        pub const FLAGS: usize = 2;
+        /// `u32`.
+        pub const MEASUREMENT_UID: usize = 10;
+        /// `u32`.
+        pub const SCAN_COUNTER: usize = 14;
+        /// `u32`.
+        pub const ACQUISITION_TIME_STAMP: usize = 18;
+        /// `[u32; 3]`.
+        pub const PHYSIOLOGY_TIME_STAMP: usize = 22;
+        /// `u16`.
+        pub const NUMBER_OF_SAMPLES: usize = 34;
+        /// `u16`.
+        pub const AVAILABLE_CHANNELS: usize = 36;
+        /// `u16`.
+        pub const ACTIVE_CHANNELS: usize = 38;
+        /// `[u64; 16]`.
+        pub const CHANNEL_MASK: usize = 40;
+        /// `u16`.
+        pub const DISCARD_PRE: usize = 168;
+        /// `u16`.
+        pub const DISCARD_POST: usize = 170;
+        /// `u16`.
+        pub const CENTER_SAMPLE: usize = 172;
+        /// `u16`.
+        pub const ENCODING_SPACE_REF: usize = 174;
+        /// `u16`.
+        pub const TRAJECTORY_DIMENSIONS: usize = 176;
+        /// `f32`.
+        pub const SAMPLE_TIME_US: usize = 178;
+        /// `[f32; 3]`.
+        pub const POSITION: usize = 182;
+        /// `[f32; 3]`.
+        pub const READ_DIR: usize = 194;
+        /// `[f32; 3]`.
+        pub const PHASE_DIR: usize = 206;
+        /// `[f32; 3]`.
+        pub const SLICE_DIR: usize = 218;
+        /// `[f32; 3]`.
+        pub const PATIENT_TABLE_POSITION: usize = 230;
+        /// `[u16; 17]`.
+        pub const COUNTERS: usize = 242;
+        /// `[i32; 8]`.
+        pub const USER_INT: usize = 276;
+        /// `[f32; 8]`.
+        pub const USER_FLOAT: usize = 308;
+    }
+    /// In the header of an image, 198 bytes.
+    pub mod image {
+        /// `u16`.
+        pub const VERSION: usize = 0;
+        /// `u16`.
+        pub const DATA_TYPE: usize = 2;
+        /// `u64`.
+        pub const FLAGS: usize = 4;
+        /// `u32`.
+        pub const MEASUREMENT_UID: usize = 12;
+        /// `[u16; 3]`.
+        pub const MATRIX_SIZE: usize = 16;
+        /// `[f32; 3]`.
+        pub const FIELD_OF_VIEW: usize = 22;
+        /// `u16`.
+        pub const CHANNELS: usize = 34;
+        /// `[f32; 3]`.
+        pub const POSITION: usize = 36;
+        /// `[f32; 3]`.
+        pub const READ_DIR: usize = 48;
+        /// `[f32; 3]`.
+        pub const PHASE_DIR: usize = 60;
+        /// `[f32; 3]`.
+        pub const SLICE_DIR: usize = 72;
+        /// `[f32; 3]`.
+        pub const PATIENT_TABLE_POSITION: usize = 84;
+        /// `u16`.
+        pub const AVERAGE: usize = 96;
+        /// `u16`.
+        pub const SLICE: usize = 98;
+        /// `u16`.
+        pub const CONTRAST: usize = 100;
+        /// `u16`.
+        pub const PHASE: usize = 102;
+        /// `u16`.
+        pub const REPETITION: usize = 104;
+        /// `u16`.
+        pub const SET: usize = 106;
+        /// `u32`.
+        pub const ACQUISITION_TIME_STAMP: usize = 108;
+        /// `[u32; 3]`.
+        pub const PHYSIOLOGY_TIME_STAMP: usize = 112;
+        /// `u16`.
+        pub const IMAGE_TYPE: usize = 124;
+        /// `u16`.
+        pub const IMAGE_INDEX: usize = 126;
+        /// `u16`.
+        pub const IMAGE_SERIES_INDEX: usize = 128;
+        /// `[i32; 8]`.
+        pub const USER_INT: usize = 130;
+        /// `[f32; 8]`.
+        pub const USER_FLOAT: usize = 162;
+        /// `u32`.
+        pub const ATTRIBUTE_STRING_LEN: usize = 194;
+    }
+    /// In the header of a waveform, 32 bytes.
+    pub mod waveform {
+        /// `u16`.
+        pub const VERSION: usize = 0;
+        /// `u64`.
+        pub const FLAGS: usize = 2;
+        /// `u32`.
+        pub const MEASUREMENT_UID: usize = 10;
+        /// `u32`.
+        pub const SCAN_COUNTER: usize = 14;
+        /// `u32`.
+        pub const TIME_STAMP: usize = 18;
+        /// `u16`.
+        pub const NUMBER_OF_SAMPLES: usize = 22;
+        /// `u16`.
+        pub const CHANNELS: usize = 24;
+        /// `f32`.
+        pub const SAMPLE_TIME_US: usize = 26;
+        /// `u16`.
+        pub const WAVEFORM_ID: usize = 30;
+    }
+}
+
+/// The seventeen counters of an acquisition (ISMRMRD's `idx`), by their place in the array.
+pub mod counter {
+    /// `kspace_encode_step_1`.
+    pub const KSPACE_ENCODE_STEP_1: usize = 0;
+    /// `kspace_encode_step_2`.
+    pub const KSPACE_ENCODE_STEP_2: usize = 1;
+    /// `average`.
+    pub const AVERAGE: usize = 2;
+    /// `slice`.
+    pub const SLICE: usize = 3;
+    /// `contrast`.
+    pub const CONTRAST: usize = 4;
+    /// `phase`.
+    pub const PHASE: usize = 5;
+    /// `repetition`.
+    pub const REPETITION: usize = 6;
+    /// `set`.
+    pub const SET: usize = 7;
+    /// `segment`.
+    pub const SEGMENT: usize = 8;
+    /// `user_0`.
+    pub const USER_0: usize = 9;
+    /// `user_1`.
+    pub const USER_1: usize = 10;
+    /// `user_2`.
+    pub const USER_2: usize = 11;
+    /// `user_3`.
+    pub const USER_3: usize = 12;
+    /// `user_4`.
+    pub const USER_4: usize = 13;
+    /// `user_5`.
+    pub const USER_5: usize = 14;
+    /// `user_6`.
+    pub const USER_6: usize = 15;
+    /// `user_7`.
+    pub const USER_7: usize = 16;
+}
+
+/// The acquisition flags by name, for [`flag_test`](crate::flag_test) and its like. Numbers that are not here have none.
+pub mod acquisition_flag {
+    /// Flag 1.
+    pub const FIRST_IN_ENCODE_STEP1: u32 = 1;
+    /// Flag 2.
+    pub const LAST_IN_ENCODE_STEP1: u32 = 2;
+    /// Flag 3.
+    pub const FIRST_IN_ENCODE_STEP2: u32 = 3;
+    /// Flag 4.
+    pub const LAST_IN_ENCODE_STEP2: u32 = 4;
+    /// Flag 5.
+    pub const FIRST_IN_AVERAGE: u32 = 5;
+    /// Flag 6.
+    pub const LAST_IN_AVERAGE: u32 = 6;
+    /// Flag 7.
+    pub const FIRST_IN_SLICE: u32 = 7;
+    /// Flag 8.
+    pub const LAST_IN_SLICE: u32 = 8;
+    /// Flag 9.
+    pub const FIRST_IN_CONTRAST: u32 = 9;
+    /// Flag 10.
+    pub const LAST_IN_CONTRAST: u32 = 10;
+    /// Flag 11.
+    pub const FIRST_IN_PHASE: u32 = 11;
+    /// Flag 12.
+    pub const LAST_IN_PHASE: u32 = 12;
+    /// Flag 13.
+    pub const FIRST_IN_REPETITION: u32 = 13;
+    /// Flag 14.
+    pub const LAST_IN_REPETITION: u32 = 14;
+    /// Flag 15.
+    pub const FIRST_IN_SET: u32 = 15;
+    /// Flag 16.
+    pub const LAST_IN_SET: u32 = 16;
+    /// Flag 17.
+    pub const FIRST_IN_SEGMENT: u32 = 17;
+    /// Flag 18.
+    pub const LAST_IN_SEGMENT: u32 = 18;
+    /// Flag 19.
+    pub const IS_NOISE_MEASUREMENT: u32 = 19;
+    /// Flag 20.
+    pub const IS_PARALLEL_CALIBRATION: u32 = 20;
+    /// Flag 21.
+    pub const IS_PARALLEL_CALIBRATION_AND_IMAGING: u32 = 21;
+    /// Flag 22.
+    pub const IS_REVERSE: u32 = 22;
+    /// Flag 23.
+    pub const IS_NAVIGATION_DATA: u32 = 23;
+    /// Flag 24.
+    pub const IS_PHASECORR_DATA: u32 = 24;
+    /// Flag 25.
+    pub const LAST_IN_MEASUREMENT: u32 = 25;
+    /// Flag 26.
+    pub const IS_HPFEEDBACK_DATA: u32 = 26;
+    /// Flag 27.
+    pub const IS_DUMMYSCAN_DATA: u32 = 27;
+    /// Flag 28.
+    pub const IS_RTFEEDBACK_DATA: u32 = 28;
+    /// Flag 29.
+    pub const IS_SURFACECOILCORRECTIONSCAN_DATA: u32 = 29;
+    /// Flag 53.
+    pub const COMPRESSION1: u32 = 53;
+    /// Flag 54.
+    pub const COMPRESSION2: u32 = 54;
+    /// Flag 55.
+    pub const COMPRESSION3: u32 = 55;
+    /// Flag 56.
+    pub const COMPRESSION4: u32 = 56;
+    /// Flag 57.
+    pub const USER1: u32 = 57;
+    /// Flag 58.
+    pub const USER2: u32 = 58;
+    /// Flag 59.
+    pub const USER3: u32 = 59;
+    /// Flag 60.
+    pub const USER4: u32 = 60;
+    /// Flag 61.
+    pub const USER5: u32 = 61;
+    /// Flag 62.
+    pub const USER6: u32 = 62;
+    /// Flag 63.
+    pub const USER7: u32 = 63;
+    /// Flag 64.
+    pub const USER8: u32 = 64;
+}
+
+/// The data types of an image's pixels.
+pub mod data_type {
+    /// `uint16_t`, 2 bytes.
+    pub const USHORT: u16 = 1;
+    /// `int16_t`, 2 bytes.
+    pub const SHORT: u16 = 2;
+    /// `uint32_t`, 4 bytes.
+    pub const UINT: u16 = 3;
+    /// `int32_t`, 4 bytes.
+    pub const INT: u16 = 4;
+    /// `float`, 4 bytes.
+    pub const FLOAT: u16 = 5;
+    /// `double`, 8 bytes.
+    pub const DOUBLE: u16 = 6;
+    /// `a pair of floats`, 8 bytes.
+    pub const CXFLOAT: u16 = 7;
+    /// `a pair of doubles`, 16 bytes.
+    pub const CXDOUBLE: u16 = 8;
+}
+
+/// What an image shows; it is not checked.
+pub mod image_type {
+    /// Number 1.
+    pub const MAGNITUDE: u16 = 1;
+    /// Number 2.
+    pub const PHASE: u16 = 2;
+    /// Number 3.
+    pub const REAL: u16 = 3;
+    /// Number 4.
+    pub const IMAG: u16 = 4;
+    /// Number 5.
+    pub const COMPLEX: u16 = 5;
+    /// Number 6.
+    pub const RGB: u16 = 6;
+}

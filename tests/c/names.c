@@ -1,0 +1,113 @@
+/* The names of the header at work: every refusal has a sentence, header elements are asked for by name, and samples
+ * are read from a view that is not aligned.
+ *
+ *     names samples/all_kinds.mrd */
+#include <cotterleaf.h>
+
+#include <stdio.h>
+#include <string.h>
+
+static unsigned checks;
+
+#define CHECK(test)                                                  \
+    do {                                                             \
+        checks++;                                                    \
+        if (!(test)) {                                               \
+            printf("names.c: line %d: %s\n", __LINE__, #test);       \
+            return 1;                                                \
+        }                                                            \
+    } while (0)
+
+/* Compiled with -Werror=switch: a refusal without a case is an error. */
+static int of_the_stream(mrd_refusal refusal)
+{
+    switch (refusal) {
+    case MRD_REFUSED_ID_CUT:
+    case MRD_REFUSED_UNKNOWN_ID:
+    case MRD_REFUSED_FIXED_PART_CUT:
+    case MRD_REFUSED_VERSION:
+    case MRD_REFUSED_NAME:
+    case MRD_REFUSED_CHANNELS:
+    case MRD_REFUSED_DISCARD:
+    case MRD_REFUSED_DATA_TYPE:
+    case MRD_REFUSED_ATTRIBUTE_LENGTH:
+    case MRD_REFUSED_TOO_LARGE:
+    case MRD_REFUSED_MESSAGE_CUT:
+    case MRD_REFUSED_ORDER:
+    case MRD_REFUSED_NO_CLOSE:
+    case MRD_REFUSED_TOO_MANY:
+        return 1;
+    case MRD_OK:
+    case MRD_REFUSED_OUTPUT_SHORT:
+    case MRD_REFUSED_INDEX_DIFFERS:
+    case MRD_REFUSED_NO_RECORD:
+    case MRD_REFUSED_NO_PART:
+    case MRD_REFUSED_BODY_LENGTH:
+    case MRD_REFUSED_NO_FIELD:
+        return 0;
+    }
+    return 0;
+}
+
+/* Each number has a sentence of its own, that says what to do; any other number has one too. */
+static int sentences(void)
+{
+    for (uint32_t i = 1; i <= 20; i++) {
+        CHECK(strchr(mrd_refusal_text(i), ';') != NULL);
+        for (uint32_t j = 0; j < i; j++)
+            CHECK(strcmp(mrd_refusal_text(i), mrd_refusal_text(j)) != 0);
+    }
+    CHECK(strcmp(mrd_refusal_text(MRD_OK), "nothing is refused") == 0);
+    CHECK(strncmp(mrd_refusal_text(21), "no refusal", 10) == 0);
+    CHECK(mrd_refusal_text(21) == mrd_refusal_text(UINT32_MAX));
+    CHECK(of_the_stream(MRD_REFUSED_NO_CLOSE) && !of_the_stream(MRD_REFUSED_NO_FIELD));
+    CHECK(strcmp(COTTERLEAF_VERSION, "") != 0 && COTTERLEAF_VERSION_MAJOR >= 0);
+    return 0;
+}
+
+/* Header elements of the sample's acquisition 4, image 6 and waveform 7, by name. */
+static int elements(const uint8_t *s, size_t n)
+{
+    CHECK(mrd_field(s, n, 4, MRD_ACQUISITION_NUMBER_OF_SAMPLES).whole == 32);
+    CHECK(mrd_field(s, n, 4, MRD_ACQUISITION_SCAN_COUNTER).whole == 1);
+    CHECK(mrd_field(s, n, 4, MRD_ACQUISITION_COUNTERS + 2 * MRD_COUNTER_KSPACE_ENCODE_STEP_1).whole == 1);
+    CHECK(mrd_field(s, n, 4, MRD_ACQUISITION_USER_INT).integer == -2);
+    CHECK(mrd_float_of(mrd_field(s, n, 4, MRD_ACQUISITION_SAMPLE_TIME_US).float_bits) == 15.0F);
+    CHECK(mrd_flag_test(mrd_field(s, n, 3, MRD_ACQUISITION_FLAGS).whole, MRD_FLAG_FIRST_IN_SLICE));
+    CHECK(mrd_field(s, n, 6, MRD_IMAGE_DATA_TYPE).whole == MRD_DATA_TYPE_FLOAT);
+    CHECK(mrd_field(s, n, 6, MRD_IMAGE_ATTRIBUTE_STRING_LEN).whole == 134);
+    CHECK(mrd_field(s, n, 7, MRD_WAVEFORM_NUMBER_OF_SAMPLES).whole == 20);
+    CHECK(mrd_field(s, n, 7, MRD_WAVEFORM_HEADER_SIZE).refusal == MRD_REFUSED_NO_FIELD);
+    return 0;
+}
+
+/* The samples of a channel whose view starts at an odd address. */
+static int samples(const uint8_t *s, size_t n)
+{
+    mrd_view_place place = mrd_view(s, n, 3, MRD_PART_CHANNEL, 1);
+    CHECK(place.refusal == MRD_OK && place.length == 32 * 8);
+    CHECK((place.start & 1) == 1);
+    for (size_t i = 0; i < 32; i++) {
+        float pair[2];
+        memcpy(pair, s + place.start + 8 * i, sizeof pair);
+        mrd_complex sample = mrd_load_complex(s + place.start, i);
+        CHECK(sample.re == pair[0] && sample.im == pair[1]);
+    }
+    return 0;
+}
+
+int main(int count, char **arguments)
+{
+    static uint8_t stream[65536];
+    FILE *file = count == 2 ? fopen(arguments[1], "rb") : NULL;
+    if (file == NULL) {
+        printf("names.c: no stream\n");
+        return 1;
+    }
+    size_t length = fread(stream, 1, sizeof stream, file);
+    fclose(file);
+    if (sentences() || elements(stream, length) || samples(stream, length))
+        return 1;
+    printf("names.c: ok, %u checks\n", checks);
+    return 0;
+}

@@ -1,0 +1,85 @@
+//! The names that the field's own library has, from its description of itself in field_data/phantom.txt.
+
+use crate::definitions::Header;
+
+/// A member of one of the library's structs.
+struct Member<'a> {
+    name: &'a str,
+    element: &'a str,
+    count: usize,
+    offset: usize,
+}
+
+/// The members of a struct, from the `table` line with its name on.
+fn members<'a>(description: &'a str, table: &str) -> Vec<Member<'a>> {
+    let start = format!("table {table} ");
+    let lines = description
+        .lines()
+        .skip_while(|line| !line.starts_with(&start));
+    let rows = lines.skip(1).map_while(|line| line.strip_prefix("member "));
+    rows.map(|row| match row.split(' ').collect::<Vec<&str>>()[..] {
+        [name, element, count, offset] => Member {
+            name,
+            element,
+            count: count.parse().expect("a count"),
+            offset: offset.parse().expect("an offset"),
+        },
+        _ => panic!("a member line of another form: {row}"),
+    })
+    .collect()
+}
+
+/// The names of the seventeen counters, in their order; those of an array with their number from 0.
+pub fn counters(description: &str) -> Vec<String> {
+    let mut names = Vec::new();
+    for member in members(description, "counters") {
+        assert_eq!(
+            member.offset,
+            2 * names.len(),
+            "counters of two bytes adjoin"
+        );
+        match member.count {
+            1 => names.push(member.name.to_string()),
+            count => names.extend((0..count).map(|i| format!("{}_{i}", member.name))),
+        }
+    }
+    assert_eq!(names.len(), 17, "seventeen counters");
+    names
+}
+
+/// Where a header of ours and the library's struct differ in a name, type or count; in an offset too, but for
+/// the waveform, whose struct is aligned there and packed here. Our `counters` are a struct of the library.
+pub fn differences(description: &str, header: &Header) -> Vec<String> {
+    let theirs = members(description, &header.kind.to_lowercase());
+    let ours = header
+        .fields
+        .iter()
+        .filter(|field| field.name != "counters");
+    let ours: Vec<_> = ours.collect();
+    assert_eq!(
+        ours.len(),
+        theirs.len(),
+        "{}: another number of fields",
+        header.kind
+    );
+    let mut found = Vec::new();
+    for (ours, theirs) in ours.into_iter().zip(theirs) {
+        let alike = (ours.name.as_str(), ours.element.in_rust(), ours.count)
+            == (theirs.name, theirs.element, theirs.count);
+        if !alike || (header.kind != "Waveform" && ours.offset != theirs.offset) {
+            found.push(format!(
+                "{}: {} {} x {} at {}, there {} {} x {} at {}",
+                header.kind,
+                ours.name,
+                ours.element.in_rust(),
+                ours.count,
+                ours.offset,
+                theirs.name,
+                theirs.element,
+                theirs.count,
+                theirs.offset
+            ));
+        }
+    }
+    found
+}

@@ -1,0 +1,229 @@
+//! rust/src/names.rs and rust/src/headers.rs: the same names for Rust, and an accessor for each header field.
+
+use crate::c::{quoted, upper};
+use crate::definitions::{Element, Field, Header};
+use crate::{Format, DATA_TYPES, IMAGE_TYPES};
+
+const FROM: &str =
+    "//! Written by tests/names from the definitions in crates/: change those, not this file.\n\n";
+
+/// A constant with its comment.
+fn constant(indent: &str, comment: &str, name: &str, of: &str, number: usize) -> String {
+    let comment = if comment.is_empty() {
+        String::new()
+    } else {
+        format!("{indent}/// {comment}\n")
+    };
+    format!("{comment}{indent}pub const {name}: {of} = {number};\n")
+}
+
+fn module(comment: &str, name: &str, lines: &str) -> String {
+    format!("/// {comment}\npub mod {name} {{\n{lines}}}\n\n")
+}
+
+fn type_of(element: Element, count: usize) -> String {
+    match count {
+        1 => element.in_rust().to_string(),
+        _ => format!("[{}; {count}]", element.in_rust()),
+    }
+}
+
+fn refused(format: &Format) -> String {
+    let lines = format.refusals.iter();
+    let lines = lines.map(|r| constant("    ", &r.comment, &r.name, "u32", r.number));
+    let rows = format.sentences.iter().map(|(wrong, remedy)| {
+        format!(
+            "    (\n        {},\n        {},\n    ),\n",
+            quoted(wrong),
+            quoted(remedy)
+        )
+    });
+    module(
+        "The numbers of refusal.",
+        "refused",
+        &lines.collect::<String>(),
+    ) + &format!(
+        "/// What is wrong and what to do, for each number of refusal from 1 on.\n\
+             pub(crate) const SENTENCES: [(&str, &str); {}] = [\n{}];\n\n",
+        format.sentences.len(),
+        rows.collect::<String>()
+    )
+}
+
+fn ids(format: &Format) -> String {
+    let lines = format.kinds.iter().map(|kind| {
+        let name = upper(&kind.name);
+        let comment = format!("A {}.", words(&kind.name));
+        let comment = comment
+            .replace("A acq", "An acq")
+            .replace("A ima", "An ima");
+        constant(
+            "    ",
+            &comment.replace("A close", "The close"),
+            &name,
+            "u16",
+            kind.id,
+        )
+    });
+    module(
+        "The ids of the eight kinds of message.",
+        "id",
+        &lines.collect::<String>(),
+    )
+}
+
+/// `ConfigurationName` as `configuration name`.
+pub fn words(name: &str) -> String {
+    upper(name).to_lowercase().replace('_', " ")
+}
+
+fn flags(format: &Format) -> String {
+    let lines = format.flags.iter();
+    let lines = lines.map(|flag| {
+        constant(
+            "    ",
+            &format!("Flag {}.", flag.number),
+            &flag.name,
+            "u32",
+            flag.number,
+        )
+    });
+    let comment = "The acquisition flags by name, for [`flag_test`](crate::flag_test) and its like. Numbers that are not here have none.";
+    module(comment, "acquisition_flag", &lines.collect::<String>())
+}
+
+fn counters(format: &Format) -> String {
+    let lines = format.counters.iter().enumerate();
+    let lines = lines.map(|(i, name)| {
+        constant(
+            "    ",
+            &format!("`{name}`."),
+            &name.to_uppercase(),
+            "usize",
+            i,
+        )
+    });
+    let comment =
+        "The seventeen counters of an acquisition (ISMRMRD's `idx`), by their place in the array.";
+    module(comment, "counter", &lines.collect::<String>())
+}
+
+fn image_names(format: &Format) -> String {
+    let types = DATA_TYPES.iter().zip(&format.element_sizes).enumerate();
+    let types = types.map(|(i, ((name, of), size))| {
+        constant(
+            "    ",
+            &format!("`{of}`, {size} bytes."),
+            name,
+            "u16",
+            i + 1,
+        )
+    });
+    let images = IMAGE_TYPES.iter().enumerate();
+    let images =
+        images.map(|(i, name)| constant("    ", &format!("Number {}.", i + 1), name, "u16", i + 1));
+    module(
+        "The data types of an image's pixels.",
+        "data_type",
+        &types.collect::<String>(),
+    ) + &module(
+        "What an image shows; it is not checked.",
+        "image_type",
+        &images.collect::<String>(),
+    )
+}
+
+fn offsets(format: &Format) -> String {
+    let mut lines = String::new();
+    for header in &format.headers {
+        let kind = header.kind.to_lowercase();
+        let rows = header.fields.iter().map(|field| {
+            let comment = format!("`{}`.", type_of(field.element, field.count));
+            constant(
+                "        ",
+                &comment,
+                &field.name.to_uppercase(),
+                "usize",
+                field.offset,
+            )
+        });
+        let an = if kind == "waveform" { "a" } else { "an" };
+        lines += &format!(
+            "    /// In the header of {an} {kind}, {} bytes.\n    pub mod {kind} {{\n{}    }}\n",
+            header.size,
+            rows.collect::<String>()
+        );
+    }
+    let comment = "Where each header element starts, counted from the header's first byte: the offsets that \
+                   [`field`](crate::Stream::field) takes. Element i of an array lies i times its type's size further.";
+    module(comment, "offset", &lines)
+}
+
+pub fn names_file(format: &Format) -> String {
+    let mut out = String::from("//! Names and numbers of MRD message streams.\n");
+    out += FROM;
+    out += &refused(format);
+    for (comment, name, number) in [
+        (
+            "The largest message, in bytes, its id included.",
+            "MAX_MESSAGE_SIZE",
+            format.message_size,
+        ),
+        (
+            "The most messages of one stream.",
+            "MAX_MESSAGES",
+            format.messages,
+        ),
+    ] {
+        out += &constant("", comment, name, "usize", number);
+        out.push('\n');
+    }
+    out += &ids(format);
+    out += &offsets(format);
+    out += &counters(format);
+    out += &flags(format);
+    out += &image_names(format);
+    out.truncate(out.len() - 1);
+    out
+}
+
+fn accessor(field: &Field) -> String {
+    let of = type_of(field.element, field.count);
+    let read = if field.count == 1 {
+        "element"
+    } else {
+        "elements"
+    };
+    format!(
+        "\n    /// `{}`, at offset {}.\n    pub fn {}(&self) -> {of} {{\n        {read}(self.bytes, {})\n    }}\n",
+        field.name, field.offset, field.name, field.offset
+    )
+}
+
+fn header(header: &Header, id: usize) -> String {
+    let (kind, size) = (&header.kind, header.size);
+    let an = if kind == "Waveform" { "a" } else { "an" };
+    let accessors: String = header.fields.iter().map(accessor).collect();
+    format!(
+        "/// The header of {an} {} (id {id}): its {size} bytes as they lie in the stream, and each field by name.\n\
+         #[derive(Clone, Copy, Debug, PartialEq, Eq, Hash)]\n\
+         pub struct {kind}Header<'a> {{\n    bytes: &'a [u8; {size}],\n}}\n\n\
+         impl<'a> {kind}Header<'a> {{\n    \
+         /// How many bytes the header has.\n    pub const SIZE: usize = {size};\n\n    \
+         /// A header from its bytes.\n    \
+         pub fn new(bytes: &'a [u8; {size}]) -> {kind}Header<'a> {{\n        {kind}Header {{ bytes }}\n    }}\n\n    \
+         /// The bytes.\n    pub fn bytes(&self) -> &'a [u8; {size}] {{\n        self.bytes\n    }}\n{accessors}}}\n\n",
+        kind.to_lowercase()
+    )
+}
+
+pub fn headers_file(format: &Format) -> String {
+    let mut out = String::from("//! The three headers, each field by its name.\n");
+    out += FROM;
+    out += "use crate::element::{element, elements};\n\n";
+    for of in &format.headers {
+        out += &header(of, format.id(&of.kind));
+    }
+    out.truncate(out.len() - 1);
+    out
+}

@@ -27,7 +27,7 @@ unfolding step
 step-after c before t h = rw (drop-at before t (c .start) h)
 
 -- the step at a well-formed message that the order and the count allow
-step-well : (c : Cursor) (m rest : List ℕ) (w : WellFormed m) → allowed (w .kind) (c .phase) ≡ true → c .number < maxMessages →
+pub step-well : (c : Cursor) (m rest : List ℕ) (w : WellFormed m) → allowed (w .kind) (c .phase) ≡ true → c .number < maxMessages →
     stepAt c (m ++ rest) ≡ handed (located c (w .kind) m) (after c (w .kind) (length m))
 unfolding stepAt
 step-well c [] rest w a n = absurd (not-empty [] [] w refl)

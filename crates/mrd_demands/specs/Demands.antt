@@ -31,6 +31,8 @@ use Rattle.mrd_record.specs.AtCursor.{Reached, placeAt}
 use Rattle.mrd_record.specs.RecordLaws as records-at
 use Rattle.mrd_index_match.specs.Compare.{fileMatch, columnsMatch}
 use Rattle.mrd_index_match.specs.Exactly.{Held}
+use Rattle.mrd_index_cursor.specs.IndexCursor.{cursorFor}
+use Rattle.mrd_index_cursor.specs.Indexed.{AtRecord, believed-cursor}
 use Rattle.mrd_ask.specs.declared.question.Question.{Question}
 use Rattle.mrd_ask.specs.Questions.{askOf}
 use Rattle.mrd_ask.specs.Belief.{Believed}
@@ -85,6 +87,11 @@ steps-are-the-messages = steps.steps-follow
 pub walk-stands-at-record : (s : List ℕ) {k : ℕ} → answer s ≡ accepted k → (n : ℕ) (c : Cursor) → Reached s beginning n c →
     placeAt c s ≡ place s n
 walk-stands-at-record = records-at.walked-place
+
+-- from columns that were found to be the stream's own, the cursor for a record is at that record: so are its views and fields
+pub index-leads-to-record : (s starts ids counters : List ℕ) → columnsMatch s starts ids counters ≡ answered tt → (n : ℕ) {l : Located} →
+    place s n ≡ answered l → (c : Cursor) × ((cursorFor starts ids n ≡ answered c) × AtRecord s n c)
+index-leads-to-record = believed-cursor
 
 -- each view of a record is that part of it, and the record is the record list's
 pub views-are-the-records-parts : (s : List ℕ) (n : ℕ) {l : Located} → place s n ≡ answered l →

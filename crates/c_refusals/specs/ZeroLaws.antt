@@ -1,6 +1,6 @@
 -- For every function of C: the `refusal` of its answer is 0 only where there is an answer, so C may go by that member alone.
 -- Assumes nothing.
-use Prim.Native.Nat.{ℕ, zero, suc, _+_, _<_, _≤_}
+use Prim.Native.Nat.{ℕ, zero, suc, _+_, _<_}
 use native.Mathlib.Omega.{arith}
 use mathlib.Core.Path.{_≡_, refl}
 use mathlib.Core.Bool.{Bool, true, false, _&&_, _||_}
@@ -19,10 +19,10 @@ use Rattle.mrd_format.specs.Message.{fixedPart}
 use Rattle.mrd_format.specs.Parts.{Contents}
 use Rattle.mrd_cursor.specs.declared.cursor.Cursor as walk
 use Rattle.mrd_stream.specs.Walk.{from, verdict, answer}
-use Rattle.mrd_stream.specs.Places.{Located, place, Stepped, handed, over, step}
+use Rattle.mrd_stream.specs.Places.{Located, place, Stepped, yields, over, step}
 use Rattle.mrd_stream.specs.Index.{index, entries, startColumn, idColumn, counterColumn}
 use Rattle.mrd_stream.specs.Output.{answerBy, answerFor}
-use Rattle.mrd_cut.specs.Places.{partAt}
+use Rattle.mrd_cut.specs.CutPlaces.{partAt}
 use Rattle.mrd_record.specs.AtCursor.{placeAt}
 use Rattle.mrd_parts.specs.declared.parts.Part.{Part}
 use Rattle.mrd_views.specs.Views.{viewBy, viewOf}
@@ -60,7 +60,7 @@ pub zero-step : (c : walk.Cursor) (s : List ℕ) → cStep (step c s) .answer .r
 zero-step c s = by (step c s) refl
   where
     by : (x : Stepped) → step c s ≡ x → cStep x .answer .refusal ≡ 0 → StepSays (cStep x .ended) x
-    by (handed l d) e z = (l, (d, refl))
+    by (yields l d) e z = (l, (d, refl))
     by (over (accepted n)) e z = (n, refl)
     by (over (refused f r b)) e z = let some : 0 < f = over-numbered c s e in absurd (omega (arith, some, z))
 

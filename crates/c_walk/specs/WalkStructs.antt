@@ -9,7 +9,7 @@ use Rattle.mrd_logic.specs.Choice.{pick}
 use Rattle.mrd_cursor.specs.declared.cursor.Phase.{Phase}
 use Rattle.mrd_cursor.specs.declared.cursor.Phase.the-variants.{Start, Configured, Headed, Closed}
 use Rattle.mrd_cursor.specs.declared.cursor.Cursor as walk
-use Rattle.mrd_stream.specs.Places.{Stepped, handed, over}
+use Rattle.mrd_stream.specs.Places.{Stepped, yields, over}
 use Rattle.c_walk.specs.declared.walk.Cursor.{Cursor}
 use Rattle.c_walk.specs.declared.walk.CursorAnswer.{CursorAnswer}
 use Rattle.c_walk.specs.declared.walk.Step.{Step}
@@ -50,7 +50,7 @@ cCursorAnswer (stream f r b) = record { refusal = f; cursor = noCursor }
 cCursorAnswer (number n) = record { refusal = n; cursor = noCursor }
 
 abbrev pub cStep : Stepped → Step
-cStep (handed l c) =
+cStep (yields l c) =
     record { ended = false; here = cRecord l; next = cCursor c; answer = checkedAs 0 0 0 0 }
 cStep (over v) =
     record { ended = true; here = refusedPlace 0 0 0; next = noCursor; answer = cChecked v }

@@ -1,6 +1,6 @@
 // A walk's cursor and steps as C structs, and a cursor that is made from an index.
 ghost use mathlib.Core.Path.{_≡_};
-ghost use Rattle.mrd_stream.specs.Told.{toldStep};
+ghost use Rattle.mrd_stream.specs.ReaderMeaning.{stepMeaning};
 ghost use Rattle.mrd_index_cursor.specs.IndexCursor.{cursorMeaning};
 ghost use Rattle.c_walk.specs.WalkStructs.{phaseOf, cursorOf, phaseNumber, cCursor, cCursorAnswer, cStep};
 use crate::checked::Checked;
@@ -109,7 +109,7 @@ impl CursorAnswer {
 
 impl Step {
     pub fn of(step: mrd_stream::Step) -> Step
-        ensures { λ r. ⌜ r ≡ cStep (toldStep step) ⌝ }
+        ensures { λ r. ⌜ r ≡ cStep (stepMeaning step) ⌝ }
     {
         match step {
             mrd_stream::Step::Message(here, next) => Step {

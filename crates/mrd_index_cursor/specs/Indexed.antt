@@ -7,7 +7,7 @@ use mathlib.Core.Bool.{true}
 use mathlib.Core.List.{List, [], _∷_, map}
 use borrow.Author.Tests.{lt-ltb}
 use lib.ListN.{length, getD, take, drop, take-append-drop}
-use Rattle.mrd_logic.specs.Answer.{Verdict, accepted, refused, Answer, answered, number, unlessRefused}
+use Rattle.mrd_logic.specs.Answer.{Verdict, accepted, refused, answered, number, unlessRefused}
 use Rattle.mrd_format.specs.declared.kind.Kind.{Kind}
 use Rattle.mrd_format.specs.declared.kind.Kind.the-variants.{ConfigurationName, ConfigurationText, HeaderText, Close, Text, Acquisition, Image, Waveform}
 use Rattle.mrd_format.specs.Kinds.{idOf, identified}
@@ -21,7 +21,7 @@ use Rattle.mrd_stream.specs.Places.{Located, located, places, nth, place, stepA
 use Rattle.mrd_stream.specs.Index.{Entry, entriesOf, entries, startColumn, idColumn}
 use Rattle.mrd_cut.specs.Walked.{Walks, ends, faults, meets, walks}
 use Rattle.mrd_cut.specs.Steps.{step-well}
-use Rattle.mrd_cut.specs.Places.{partAt}
+use Rattle.mrd_cut.specs.CutPlaces.{partAt}
 use Rattle.mrd_cut.specs.Inside.{Inside, place-inside}
 use Rattle.mrd_record.specs.AtCursor.{placeBy, placeAt}
 use Rattle.mrd_views.specs.Views.{viewBy, viewOf}

@@ -88,11 +88,6 @@ pub walk-stands-at-record : (s : List ℕ) {k : ℕ} → answer s ≡ accepted k
     placeAt c s ≡ place s n
 walk-stands-at-record = records-at.walked-place
 
--- from columns that were found to be the stream's own, the cursor for a record is at that record: so are its views and fields
-pub index-leads-to-record : (s starts ids counters : List ℕ) → columnsMatch s starts ids counters ≡ answered tt → (n : ℕ) {l : Located} →
-    place s n ≡ answered l → (c : Cursor) × ((cursorFor starts ids n ≡ answered c) × AtRecord s n c)
-index-leads-to-record = believed-cursor
-
 -- each view of a record is that part of it, and the record is the record list's
 pub views-are-the-records-parts : (s : List ℕ) (n : ℕ) {l : Located} → place s n ≡ answered l →
     (r : Record) × (Nth (records s) n r × ViewsOf s n r)

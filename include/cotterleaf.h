@@ -23,7 +23,8 @@
  * Cost: a question by record number (mrd_place, mrd_view, mrd_field, mrd_find) first walks the whole stream, and an
  * index that is given is compared with all of it: it shows that stream and index belong together, and makes no
  * question faster. For many records walk once: mrd_next, mrd_view_at and mrd_field_at take time that does not grow
- * with the stream.
+ * with the stream. For many records in any order have mrd_columns_match compare columns once; mrd_cursor_for then
+ * makes the cursor of each.
  *
  * The library is for x86-64 and its usual calling convention (System V) alone. */
 #ifndef COTTERLEAF_H
@@ -140,6 +141,18 @@ mrd_found mrd_find(const uint8_t *stream, size_t stream_length, size_t n, const 
 mrd_view_place mrd_view_at(const uint8_t *stream, size_t stream_length, mrd_cursor cursor, uint32_t part,
                            size_t channel);
 mrd_field_answer mrd_field_at(const uint8_t *stream, size_t stream_length, mrd_cursor cursor, size_t offset);
+
+/* The cursor at record n, made from two columns of an index (mrd_fill_columns), at a bounded cost; 16 where one of
+ * them has no place n. The columns are believed: have mrd_columns_match compare them with the stream once. Then
+ * mrd_view_at and mrd_field_at answer there what mrd_view and mrd_field do by number. Its phase is 0 for a
+ * configuration or header and 2 for all else, so a walk may go on from it, but not from a text before the header. */
+typedef struct {
+    mrd_refusal refusal;
+    mrd_cursor cursor;
+} mrd_cursor_answer;
+
+mrd_cursor_answer mrd_cursor_for(const uint64_t *starts, size_t starts_length, const uint16_t *ids,
+                                 size_t ids_length, size_t n);
 
 /* ---- The same questions with an index given: 15 where it is not the stream's own ---- */
 

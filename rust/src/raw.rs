@@ -45,6 +45,13 @@ pub struct mrd_cursor {
 
 #[repr(C)]
 #[derive(Clone, Copy, Debug, Default, PartialEq, Eq)]
+pub struct mrd_cursor_answer {
+    pub refusal: u32,
+    pub cursor: mrd_cursor,
+}
+
+#[repr(C)]
+#[derive(Clone, Copy, Debug, Default, PartialEq, Eq)]
 pub struct mrd_step {
     pub ended: bool,
     pub here: mrd_placed,
@@ -167,6 +174,13 @@ extern "C" {
         cursor: mrd_cursor,
         offset: usize,
     ) -> mrd_field_answer;
+    fn mrd_cursor_for(
+        starts: *const u64,
+        starts_length: usize,
+        ids: *const u16,
+        ids_length: usize,
+        n: usize,
+    ) -> mrd_cursor_answer;
     fn mrd_field(
         stream: *const u8,
         stream_length: usize,
@@ -299,6 +313,11 @@ pub fn view_at(stream: &[u8], cursor: mrd_cursor, part: u32, channel: usize) -> 
 pub fn field_at(stream: &[u8], cursor: mrd_cursor, offset: usize) -> mrd_field_answer {
     // SAFETY: the pointer and length are those of a slice that is borrowed for the call; any cursor may be given.
     unsafe { mrd_field_at(stream.as_ptr(), stream.len(), cursor, offset) }
+}
+
+pub fn cursor_for(starts: &[u64], ids: &[u16], n: usize) -> mrd_cursor_answer {
+    // SAFETY: each pointer and length are those of a slice that is borrowed for the call.
+    unsafe { mrd_cursor_for(starts.as_ptr(), starts.len(), ids.as_ptr(), ids.len(), n) }
 }
 
 pub fn view(stream: &[u8], n: usize, part: u32, channel: usize) -> mrd_view_place {

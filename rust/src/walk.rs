@@ -26,6 +26,19 @@ impl Cursor {
         Cursor::of(raw::beginning())
     }
 
+    /// The cursor at record `n`, made from two columns of an index
+    /// ([`fill_columns`](Stream::fill_columns)) at a bounded cost; 16 where one of them has no place `n`.
+    ///
+    /// The columns are believed: have [`matches`](Stream::matches) compare them with the stream once. Then
+    /// [`view_at`](Stream::view_at) and [`field_at`](Stream::field_at) answer there what
+    /// [`view`](Stream::view) and [`field`](Stream::field) do by number. The phase is 0 for a configuration or
+    /// header and 2 for all else, so a walk may go on from it, but not from a text before the header.
+    pub fn for_record(starts: &[u64], ids: &[u16], n: usize) -> Result<Cursor, Refusal> {
+        let answer = raw::cursor_for(starts, ids, n);
+        Refusal::in_answer(answer.refusal, 0, 0)?;
+        Ok(Cursor::of(answer.cursor))
+    }
+
     fn of(cursor: raw::mrd_cursor) -> Cursor {
         Cursor {
             number: cursor.number,

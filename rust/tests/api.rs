@@ -262,6 +262,31 @@ fn an_index_is_believed_where_it_is_the_streams_own() {
     }
 }
 
+#[test]
+fn a_cursor_from_the_columns_is_at_the_record() {
+    let stream = Stream::new(ALL_KINDS);
+    let kept = Kept::of(&stream);
+    for n in 0..9 {
+        let cursor = Cursor::for_record(&kept.starts, &kept.ids, n).unwrap();
+        let Step::Record(record, _) = stream.step(cursor) else {
+            panic!("no record {n}")
+        };
+        assert_eq!(stream.place(n), Ok(record));
+        for part in [Part::Text, Part::Channel(1)] {
+            assert_eq!(stream.view_at(cursor, part), stream.view(n, part));
+        }
+        assert_eq!(stream.field_at(cursor, 8), stream.field(n, 8));
+    }
+    assert_eq!(
+        number_of(Cursor::for_record(&kept.starts, &kept.ids, 9)),
+        16
+    );
+    assert_eq!(
+        number_of(Cursor::for_record(&kept.starts, &kept.ids[..3], 3)),
+        16
+    );
+}
+
 /// The record as a writer is lent it, from its views and the header's bytes.
 fn message_of<'a>(stream: &Stream<'a>, record: &Record) -> Message<'a> {
     let n = record.number;

@@ -82,6 +82,10 @@ MEMBER(mrd_cursor, number, 0, size_t);
 MEMBER(mrd_cursor, start, 8, size_t);
 MEMBER(mrd_cursor, phase, 16, uint32_t);
 
+_Static_assert(sizeof(mrd_cursor_answer) == 32, "mrd_cursor_answer: another size");
+MEMBER(mrd_cursor_answer, refusal, 0, uint32_t);
+MEMBER(mrd_cursor_answer, cursor, 8, mrd_cursor);
+
 _Static_assert(sizeof(mrd_step) == 144, "mrd_step: another size");
 MEMBER(mrd_step, ended, 0, bool);
 MEMBER(mrd_step, here, 8, mrd_placed);
@@ -110,6 +114,7 @@ mrd_checked mrd_check(const uint8_t *, size_t);
 mrd_checked mrd_check_from(const uint8_t *, size_t, mrd_cursor);
 mrd_matched mrd_columns_match(const uint8_t *, size_t, const uint64_t *, size_t, const uint16_t *, size_t, const uint32_t *, size_t);
 int32_t mrd_counter_step(uint32_t, uint32_t);
+mrd_cursor_answer mrd_cursor_for(const uint64_t *, size_t, const uint16_t *, size_t, size_t);
 mrd_field_answer mrd_field(const uint8_t *, size_t, size_t, size_t);
 mrd_field_answer mrd_field_at(const uint8_t *, size_t, mrd_cursor, size_t);
 mrd_written mrd_fill_columns(const uint8_t *, size_t, uint64_t *, size_t, uint16_t *, size_t, uint32_t *, size_t);

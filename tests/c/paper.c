@@ -327,6 +327,24 @@ static void where_a_walk_stands(void)
     CHECK(cut.refusal == MRD_REFUSED_ID_CUT && cut.record == 1 && cut.byte == 6);
 }
 
+/* A cursor made from the stream's columns: there too views and fields are those by number; 16 past a column. */
+static void where_the_columns_say(void)
+{
+    uint64_t starts[2];
+    uint16_t ids[2];
+    uint32_t counters[2];
+    CHECK(mrd_fill_columns(TWO_RECORDS, 8, starts, 2, ids, 2, counters, 2).length == 2);
+    mrd_cursor_answer first = mrd_cursor_for(starts, 2, ids, 2, 0);
+    CHECK(first.refusal == 0 && first.cursor.number == 0 && first.cursor.start == 0 && first.cursor.phase == 0);
+    CHECK(mrd_view_at(TWO_RECORDS, 8, first.cursor, MRD_PART_TEXT, 0).start == 6);
+    mrd_cursor_answer second = mrd_cursor_for(starts, 2, ids, 2, 1);
+    CHECK(second.refusal == 0 && second.cursor.number == 1 && second.cursor.start == 6 && second.cursor.phase == 2);
+    CHECK(mrd_field_at(TWO_RECORDS, 8, second.cursor, 0).refusal == MRD_REFUSED_NO_FIELD);
+    CHECK(mrd_cursor_for(starts, 1, ids, 2, 1).refusal == MRD_REFUSED_NO_RECORD);
+    CHECK(mrd_cursor_for(starts, 2, ids, 1, 1).refusal == MRD_REFUSED_NO_RECORD);
+    CHECK(mrd_cursor_for(NULL, 0, NULL, 0, SIZE_MAX).cursor.start == 0);
+}
+
 int main(void)
 {
     answers();
@@ -340,6 +358,7 @@ int main(void)
     fields_and_find();
     walk();
     where_a_walk_stands();
+    where_the_columns_say();
     if (failures == 0)
         printf("paper.c: ok, %d checks\n", checks);
     else

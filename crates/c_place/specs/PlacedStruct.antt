@@ -9,7 +9,7 @@ use Rattle.mrd_format.specs.declared.shape.Shape.{Shape}
 use Rattle.mrd_format.specs.Kinds.{idOf}
 use Rattle.mrd_stream.specs.declared.answer.Place.{Place}
 use Rattle.mrd_stream.specs.Places.{Located}
-use Rattle.mrd_stream.specs.Told.{toldRecord}
+use Rattle.mrd_stream.specs.ReaderMeaning.{recordMeaning}
 use Rattle.c_place.specs.declared.placed.Placed.{Placed}
 
 -- a record at a place, with its id and the numbers of its kind
@@ -80,7 +80,7 @@ cRecord l = recordAs (l .kind) l
 
 -- the same of a place and a shape, which the code goes by
 abbrev pub shapeAs : Place → Shape → Placed
-shapeAs p h = cRecord (toldRecord (record { place = p; shape = h }))
+shapeAs p h = cRecord (recordMeaning (record { place = p; shape = h }))
 
 abbrev pub cPlaced : Answer Located → Placed
 cPlaced (answered l) = cRecord l

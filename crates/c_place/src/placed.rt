@@ -1,6 +1,6 @@
 // A record's place and kind as a C struct: the numbers of its kind in the members for them.
 ghost use mathlib.Core.Path.{_≡_};
-ghost use Rattle.mrd_stream.specs.Told.{toldPlaced, toldRecord};
+ghost use Rattle.mrd_stream.specs.ReaderMeaning.{placedMeaning, recordMeaning};
 ghost use Rattle.c_place.specs.PlacedStruct.{refusedPlace, placeAs, cRecord, cPlaced};
 use mrd_format::AcquisitionShape;
 use mrd_format::ImageShape;
@@ -9,7 +9,7 @@ use mrd_format::Shape;
 use mrd_format::TextShape;
 use mrd_format::WaveformShape;
 use mrd_stream::Place;
-use mrd_stream::Record;
+use mrd_stream::PlacedRecord;
 
 // A record: its number from 0, first byte, size with the id, id, and the numbers that its kind has: the
 // `length` is that of a name or text, the `channels` of an acquisition are the active ones.
@@ -110,8 +110,8 @@ impl Placed {
         r
     }
 
-    pub fn found(here: Record) -> Placed
-        ensures { λ r. ⌜ r ≡ cRecord (toldRecord here) ⌝ }
+    pub fn found(here: PlacedRecord) -> Placed
+        ensures { λ r. ⌜ r ≡ cRecord (recordMeaning here) ⌝ }
     {
         let place = here.place;
         let shape = here.shape;
@@ -128,7 +128,7 @@ impl Placed {
     }
 
     pub fn of(answer: mrd_stream::Placed) -> Placed
-        ensures { λ r. ⌜ r ≡ cPlaced (toldPlaced answer) ⌝ }
+        ensures { λ r. ⌜ r ≡ cPlaced (placedMeaning answer) ⌝ }
     {
         match answer {
             mrd_stream::Placed::Found(here) => Placed::found(here),

@@ -17,7 +17,7 @@ use Rattle.mrd_format.specs.Message.{fixedPart}
 use Rattle.mrd_format.specs.Acquisition.{get, active-channels}
 use Rattle.mrd_stream.specs.Places.{Located, place}
 use Rattle.mrd_logic.specs.Answer.{answered, number}
-use Rattle.mrd_cut.specs.Places.{partAt}
+use Rattle.mrd_cut.specs.CutPlaces.{partAt}
 use Rattle.mrd_format.specs.Parts.{lacks}
 use Rattle.mrd_format.specs.Content.{extentOf}
 use Rattle.mrd_parts.specs.Sought.{partMeaning}

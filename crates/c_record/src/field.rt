@@ -1,8 +1,8 @@
 // A header element as a C struct.
 ghost use mathlib.Core.Path.{_≡_};
 ghost use lib.Dec.{T};
-ghost use Rattle.mrd_element.specs.Told.{told, nanApart};
-ghost use Rattle.mrd_fields.specs.Fields.{toldField, fieldApart};
+ghost use Rattle.mrd_element.specs.ValueMeaning.{valueMeaning, nanApart};
+ghost use Rattle.mrd_fields.specs.Fields.{fieldMeaning, fieldApart};
 ghost use Rattle.c_record.specs.RecordStructs.{refusedField, cValue, cField};
 use mrd_element::Value;
 use mrd_format::refusal;
@@ -44,7 +44,7 @@ impl FieldAnswer {
     // A float's bits are read only where it is no NaN: those of a NaN come as a number.
     pub fn value(value: Value) -> FieldAnswer
         requires { ⌜ T (nanApart value) ⌝ }
-        ensures { λ r. ⌜ r ≡ cValue (told value) ⌝ }
+        ensures { λ r. ⌜ r ≡ cValue (valueMeaning value) ⌝ }
     {
         let mut r = FieldAnswer::refused(0, 0, 0);
         match value {
@@ -74,7 +74,7 @@ impl FieldAnswer {
 
     pub fn of(answer: mrd_fields::FieldAnswer) -> FieldAnswer
         requires { ⌜ T (fieldApart answer) ⌝ }
-        ensures { λ r. ⌜ r ≡ cField (toldField answer) ⌝ }
+        ensures { λ r. ⌜ r ≡ cField (fieldMeaning answer) ⌝ }
     {
         match answer {
             mrd_fields::FieldAnswer::Value(value) => FieldAnswer::value(value),

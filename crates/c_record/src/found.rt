@@ -1,6 +1,6 @@
 // The record that was looked for, as a C struct.
 ghost use mathlib.Core.Path.{_≡_};
-ghost use Rattle.mrd_find.specs.Told.{told};
+ghost use Rattle.mrd_find.specs.FoundMeaning.{foundMeaning};
 ghost use Rattle.c_record.specs.RecordStructs.{foundAs, cFound};
 
 // The number of the record that was looked for.
@@ -25,7 +25,7 @@ impl Found {
     }
 
     pub fn of(answer: mrd_find::Found) -> Found
-        ensures { λ r. ⌜ r ≡ cFound (told answer) ⌝ }
+        ensures { λ r. ⌜ r ≡ cFound (foundMeaning answer) ⌝ }
     {
         match answer {
             mrd_find::Found::Record(number) => Found::new(0, 0, 0, number),

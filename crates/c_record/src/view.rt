@@ -1,6 +1,6 @@
 // Where a part of a record lies, as a C struct.
 ghost use mathlib.Core.Path.{_≡_};
-ghost use Rattle.mrd_views.specs.Views.{toldView};
+ghost use Rattle.mrd_views.specs.Views.{viewMeaning};
 ghost use Rattle.c_record.specs.RecordStructs.{viewAs, cView};
 
 // Where a part of a record lies in the stream.
@@ -27,7 +27,7 @@ impl ViewPlace {
     }
 
     pub fn of(answer: mrd_views::ViewPlace) -> ViewPlace
-        ensures { λ r. ⌜ r ≡ cView (toldView answer) ⌝ }
+        ensures { λ r. ⌜ r ≡ cView (viewMeaning answer) ⌝ }
     {
         match answer {
             mrd_views::ViewPlace::At(span) => ViewPlace::new(0, 0, 0, span.start, span.length),

@@ -5,7 +5,7 @@ use mathlib.Core.Path.{_≡_}
 use mathlib.Core.Bool.{Bool, true, false}
 use Rattle.mrd_logic.specs.Answer.{Verdict, accepted, Answer, answered}
 use Rattle.mrd_cursor.specs.declared.cursor.Cursor.{Cursor}
-use Rattle.mrd_stream.specs.Places.{Located, Stepped, handed, over}
+use Rattle.mrd_stream.specs.Places.{Located, Stepped, yields, over}
 
 abbrev pub Accepted : Verdict → Type 0
 Accepted v = (n : ℕ) × (v ≡ accepted n)
@@ -16,4 +16,4 @@ Answered {A} a = (x : A) × (a ≡ answered x)
 -- by whether the step says that the walk ended
 abbrev pub StepSays : Bool → Stepped → Type 0
 StepSays true x = (n : ℕ) × (x ≡ over (accepted n))
-StepSays false x = (l : Located) × ((d : Cursor) × (x ≡ handed l d))
+StepSays false x = (l : Located) × ((d : Cursor) × (x ≡ yields l d))

@@ -1,6 +1,6 @@
 -- For every function of C: the `refusal` of its answer is 0 only where there is an answer, so C may go by that member alone.
 -- Assumes nothing.
-use Prim.Native.Nat.{ℕ, zero, suc, _+_, _<_, _≤_}
+use Prim.Native.Nat.{ℕ, zero, suc, _+_, _<_}
 use native.Mathlib.Omega.{arith}
 use mathlib.Core.Path.{_≡_, refl}
 use mathlib.Core.Bool.{Bool, true, false, _&&_, _||_}
@@ -9,6 +9,7 @@ use lib.Dec.{ltb}
 use lib.ListN.{length}
 use Rattle.mrd_logic.specs.Answer.{Verdict, accepted, refused, Answer, answered, stream, number, andThen}
 use Rattle.mrd_logic.specs.Lists.{begins, equal}
+use Rattle.mrd_logic.specs.Choice.{pick}
 use Rattle.mrd_logic.specs.Checks.{first}
 use Rattle.mrd_format.specs.declared.kind.Identified.{Identified}
 use Rattle.mrd_format.specs.declared.kind.Identified.the-variants.{Known, Unknown}
@@ -18,10 +19,10 @@ use Rattle.mrd_format.specs.Message.{fixedPart}
 use Rattle.mrd_format.specs.Parts.{Contents}
 use Rattle.mrd_cursor.specs.declared.cursor.Cursor as walk
 use Rattle.mrd_stream.specs.Walk.{from, verdict, answer}
-use Rattle.mrd_stream.specs.Places.{Located, place, Stepped, handed, over, step}
+use Rattle.mrd_stream.specs.Places.{Located, place, Stepped, yields, over, step}
 use Rattle.mrd_stream.specs.Index.{index, entries, startColumn, idColumn, counterColumn}
 use Rattle.mrd_stream.specs.Output.{answerBy, answerFor}
-use Rattle.mrd_cut.specs.Places.{partAt}
+use Rattle.mrd_cut.specs.CutPlaces.{partAt}
 use Rattle.mrd_record.specs.AtCursor.{placeAt}
 use Rattle.mrd_parts.specs.declared.parts.Part.{Part}
 use Rattle.mrd_views.specs.Views.{viewBy, viewOf}
@@ -30,13 +31,14 @@ use Rattle.mrd_fields.specs.Fields.{valued, fieldBy, fieldOf}
 use Rattle.mrd_find.specs.Find.{findOf}
 use Rattle.mrd_columns.specs.Columns.{columnsAnswer}
 use Rattle.mrd_index_match.specs.Compare.{believed, fileMatch, columnsMatch}
+use Rattle.mrd_index_cursor.specs.IndexCursor.{cursorFor}
 use Rattle.mrd_ask.specs.declared.question.Question.{Question}
 use Rattle.mrd_ask.specs.Questions.{askOf}
 use Rattle.mrd_ask.specs.RefusalLaws.{Numbered, Refuses, unless-refuses, then-refuses, from-numbered, answer-numbered, over-numbered, place-refuses, at-refuses, view-refuses, field-refuses, find-refuses, ask-refuses}
 use Rattle.mrd_write_checks.specs.WriteChecks.{unless}
 use Rattle.mrd_writer.specs.Write.{sizeGiven, writeChecks, answerAs, writeAnswer}
 use Rattle.c_place.specs.PlacedStruct.{cPlaced}
-use Rattle.c_walk.specs.WalkStructs.{cChecked, cStep}
+use Rattle.c_walk.specs.WalkStructs.{cChecked, cCursorAnswer, cStep}
 use Rattle.c_record.specs.RecordStructs.{cView, cField, cFound}
 use Rattle.c_written.specs.WrittenStructs.{cWritten, cMatched, cPut}
 use Rattle.c_ask.specs.AskStructs.{cReply}
@@ -58,7 +60,7 @@ pub zero-step : (c : walk.Cursor) (s : List ℕ) → cStep (step c s) .answer .r
 zero-step c s = by (step c s) refl
   where
     by : (x : Stepped) → step c s ≡ x → cStep x .answer .refusal ≡ 0 → StepSays (cStep x .ended) x
-    by (handed l d) e z = (l, (d, refl))
+    by (yields l d) e z = (l, (d, refl))
     by (over (accepted n)) e z = (n, refl)
     by (over (refused f r b)) e z = let some : 0 < f = over-numbered c s e in absurd (omega (arith, some, z))
 
@@ -154,6 +156,16 @@ zero-index-matches s file = zero-matched (fileMatch s file) (file-refuses s file
 
 pub zero-columns-match : (s a b c : List ℕ) → cMatched (columnsMatch s a b c) .refusal ≡ 0 → Answered (columnsMatch s a b c)
 zero-columns-match s a b c = zero-matched (columnsMatch s a b c) (columns-refuses s a b c)
+
+-- a cursor from an index's columns
+pub zero-cursor-for : (starts ids : List ℕ) (n : ℕ) → cCursorAnswer (cursorFor starts ids n) .refusal ≡ 0 → Answered (cursorFor starts ids n)
+unfolding cursorFor
+zero-cursor-for starts ids n =
+    zero-answer (λ a. cCursorAnswer a .refusal) (λ f r b. refl) (λ k. refl) (cursorFor starts ids n) (by (ltb n (length starts) && ltb n (length ids)) _)
+  where
+    by : (b : Bool) (c : walk.Cursor) → Refuses 1 (pick b (answered c) (number 16))
+    by true c = tt
+    by false c = omega arith
 
 -- any question with an index given
 zero-asked : (s : List ℕ) (m : Answer (Unit {0})) → Refuses 1 m → (q : Question) (cs : List ℕ) → cReply (andThen m (λ _. askOf s q cs)) .refusal ≡ 0 →

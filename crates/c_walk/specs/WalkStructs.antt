@@ -4,13 +4,14 @@ use Prim.Native.Nat.{ℕ}
 use mathlib.Core.Path.{_≡_, refl, ap}
 use mathlib.Core.Bool.{true, false}
 use lib.Dec.{eqb}
-use Rattle.mrd_logic.specs.Answer.{Verdict, accepted, refused}
+use Rattle.mrd_logic.specs.Answer.{Verdict, accepted, refused, Answer, answered, stream, number}
 use Rattle.mrd_logic.specs.Choice.{pick}
 use Rattle.mrd_cursor.specs.declared.cursor.Phase.{Phase}
 use Rattle.mrd_cursor.specs.declared.cursor.Phase.the-variants.{Start, Configured, Headed, Closed}
 use Rattle.mrd_cursor.specs.declared.cursor.Cursor as walk
-use Rattle.mrd_stream.specs.Places.{Stepped, handed, over}
+use Rattle.mrd_stream.specs.Places.{Stepped, yields, over}
 use Rattle.c_walk.specs.declared.walk.Cursor.{Cursor}
+use Rattle.c_walk.specs.declared.walk.CursorAnswer.{CursorAnswer}
 use Rattle.c_walk.specs.declared.walk.Step.{Step}
 use Rattle.c_walk.specs.declared.checked.Checked.{Checked}
 use Rattle.c_place.specs.PlacedStruct.{cRecord, refusedPlace}
@@ -42,8 +43,14 @@ cCursor c = record { number = c .number; start = c .start; phase = phaseNumber (
 abbrev pub noCursor : Cursor
 noCursor = record { number = 0; start = 0; phase = 0 }
 
+-- a cursor made from an index; of refusals the number alone
+abbrev pub cCursorAnswer : Answer walk.Cursor → CursorAnswer
+cCursorAnswer (answered c) = record { refusal = 0; cursor = cCursor c }
+cCursorAnswer (stream f r b) = record { refusal = f; cursor = noCursor }
+cCursorAnswer (number n) = record { refusal = n; cursor = noCursor }
+
 abbrev pub cStep : Stepped → Step
-cStep (handed l c) =
+cStep (yields l c) =
     record { ended = false; here = cRecord l; next = cCursor c; answer = checkedAs 0 0 0 0 }
 cStep (over v) =
     record { ended = true; here = refusedPlace 0 0 0; next = noCursor; answer = cChecked v }

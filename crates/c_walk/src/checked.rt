@@ -1,6 +1,6 @@
 // A stream's answer as a C struct.
 ghost use mathlib.Core.Path.{_≡_};
-ghost use Rattle.mrd_stream.specs.Told.{toldChecked};
+ghost use Rattle.mrd_stream.specs.ReaderMeaning.{checkedMeaning};
 ghost use Rattle.c_walk.specs.WalkStructs.{checkedAs, cChecked};
 
 // A stream's answer: accepted with `count` records, or refused.
@@ -25,7 +25,7 @@ impl Checked {
     }
 
     pub fn of(answer: mrd_stream::Checked) -> Checked
-        ensures { λ r. ⌜ r ≡ cChecked (toldChecked answer) ⌝ }
+        ensures { λ r. ⌜ r ≡ cChecked (checkedMeaning answer) ⌝ }
     {
         match answer {
             mrd_stream::Checked::Accepted(count) => Checked::new(0, 0, 0, count),

@@ -1,7 +1,8 @@
-// A walk's cursor and steps as C structs.
+// A walk's cursor and steps as C structs, and a cursor that is made from an index.
 ghost use mathlib.Core.Path.{_≡_};
-ghost use Rattle.mrd_stream.specs.Told.{toldStep};
-ghost use Rattle.c_walk.specs.WalkStructs.{phaseOf, cursorOf, phaseNumber, cCursor, cStep};
+ghost use Rattle.mrd_stream.specs.ReaderMeaning.{stepMeaning};
+ghost use Rattle.mrd_index_cursor.specs.IndexCursor.{cursorMeaning};
+ghost use Rattle.c_walk.specs.WalkStructs.{phaseOf, cursorOf, phaseNumber, cCursor, cCursorAnswer, cStep};
 use crate::checked::Checked;
 use c_place::Placed;
 use mrd_cursor::Phase;
@@ -12,6 +13,13 @@ pub struct Cursor {
     pub number: usize,
     pub start: usize,
     pub phase: u32,
+}
+
+// A cursor for a record: with refusal 0 the cursor.
+#[repr(C)]
+pub struct CursorAnswer {
+    pub refusal: u32,
+    pub cursor: Cursor,
 }
 
 // What one step hands out: `here` and `next`, or where it ended `answer`.
@@ -78,9 +86,30 @@ impl Cursor {
     }
 }
 
+impl CursorAnswer {
+    pub fn of(answer: mrd_index_cursor::CursorAnswer) -> CursorAnswer
+        ensures { λ r. ⌜ r ≡ cCursorAnswer (cursorMeaning answer) ⌝ }
+    {
+        match answer {
+            mrd_index_cursor::CursorAnswer::At(cursor) => CursorAnswer {
+                refusal: 0,
+                cursor: Cursor::of(cursor),
+            },
+            mrd_index_cursor::CursorAnswer::Refused(number) => CursorAnswer {
+                refusal: number as u32,
+                cursor: Cursor {
+                    number: 0,
+                    start: 0,
+                    phase: START,
+                },
+            },
+        }
+    }
+}
+
 impl Step {
     pub fn of(step: mrd_stream::Step) -> Step
-        ensures { λ r. ⌜ r ≡ cStep (toldStep step) ⌝ }
+        ensures { λ r. ⌜ r ≡ cStep (stepMeaning step) ⌝ }
     {
         match step {
             mrd_stream::Step::Message(here, next) => Step {

@@ -1,6 +1,6 @@
 // A given index compared, as a C struct.
 ghost use mathlib.Core.Path.{_≡_};
-ghost use Rattle.mrd_index_match.specs.Compare.{toldMatched};
+ghost use Rattle.mrd_index_match.specs.Compare.{matchedMeaning};
 ghost use Rattle.c_written.specs.WrittenStructs.{matchedAs, cMatched};
 use mrd_format::refusal;
 
@@ -24,7 +24,7 @@ impl Matched {
     }
 
     pub fn of(answer: mrd_index_match::Matched) -> Matched
-        ensures { λ r. ⌜ r ≡ cMatched (toldMatched answer) ⌝ }
+        ensures { λ r. ⌜ r ≡ cMatched (matchedMeaning answer) ⌝ }
     {
         match answer {
             mrd_index_match::Matched::Same => Matched::new(0, 0, 0),

@@ -1,6 +1,6 @@
 // What stands at the front of an output, as a C struct.
 ghost use mathlib.Core.Path.{_≡_};
-ghost use Rattle.mrd_stream.specs.Output.{toldWritten};
+ghost use Rattle.mrd_stream.specs.Output.{writtenMeaning};
 ghost use Rattle.c_written.specs.WrittenStructs.{writtenAs, cWritten};
 
 // How much stands at the front of an output.
@@ -25,7 +25,7 @@ impl Written {
     }
 
     pub fn of(answer: mrd_stream::Written) -> Written
-        ensures { λ r. ⌜ r ≡ cWritten (toldWritten answer) ⌝ }
+        ensures { λ r. ⌜ r ≡ cWritten (writtenMeaning answer) ⌝ }
     {
         match answer {
             mrd_stream::Written::Length(length) => Written::new(0, 0, 0, length),

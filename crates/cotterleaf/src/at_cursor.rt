@@ -1,16 +1,26 @@
-// What does the record hold where a walk stands?
+// What does the record hold where a walk is, or where an index says that it starts?
 ghost use mathlib.Core.Path.{_≡_};
 ghost use Rattle.mrd_fields.specs.Fields.{fieldBy};
+ghost use Rattle.mrd_index_cursor.specs.IndexCursor.{cursorFor};
 ghost use Rattle.mrd_record.specs.AtCursor.{placeAt};
 ghost use Rattle.mrd_views.specs.Views.{viewBy};
 ghost use Rattle.c_record.specs.RecordStructs.{cView, cField};
 ghost use Rattle.c_record.specs.PartNumbers.{partOf};
-ghost use Rattle.c_walk.specs.WalkStructs.{cursorOf};
+ghost use Rattle.c_walk.specs.WalkStructs.{cursorOf, cCursorAnswer};
 use c_record::FieldAnswer;
 use c_record::ViewPlace;
 use c_record::part_of;
 use c_walk::Cursor;
+use c_walk::CursorAnswer;
 use c_walk::cursor_of;
+
+// The cursor at record n, from two columns of an index that was found to be the stream's own.
+#[no_mangle]
+pub extern "C" fn mrd_cursor_for(starts: &[u64], ids: &[u16], n: usize) -> CursorAnswer
+    ensures { λ r. ⌜ r ≡ cCursorAnswer (cursorFor (now (starts .entry)) (now (ids .entry)) n) ⌝ }
+{
+    CursorAnswer::of(mrd_index_cursor::cursor_for(starts, ids, n))
+}
 
 // Where a part of the record lies that is due at the cursor.
 #[no_mangle]

@@ -13,6 +13,7 @@ mod writing;
 
 pub use ask::mrd_ask_with_columns;
 pub use ask::mrd_ask_with_file;
+pub use at_cursor::mrd_cursor_for;
 pub use at_cursor::mrd_field_at;
 pub use at_cursor::mrd_view_at;
 pub use index::mrd_columns_match;

@@ -3,7 +3,7 @@ ghost use mathlib.Core.Path.{_≡_};
 ghost use lib.ListN.{length};
 ghost use Rattle.mrd_format.specs.Parts.{contents};
 ghost use Rattle.mrd_index.specs.File.{indexAnswer, indexOutput};
-ghost use Rattle.mrd_normal.specs.Written.{normalAnswer, normalOutput};
+ghost use Rattle.mrd_normal.specs.NormalOutput.{normalAnswer, normalOutput};
 ghost use Rattle.mrd_writer.specs.Write.{writeAnswer, writeOutput};
 ghost use Rattle.c_written.specs.WrittenStructs.{cWritten, cPut};
 use c_written::Put;

@@ -1,11 +1,9 @@
 -- Whatever is asked, a given index is believed exactly when it is the stream's own; and a view that is replied is one of the given stream.
 -- Assumes nothing.
-use Prim.Native.Nat.{ℕ, _≤_, _+_}
+use Prim.Native.Nat.{ℕ}
 use native.Mathlib.Omega.{arith}
 use mathlib.Core.Path.{_≡_, refl, sym, ap, _∙_}
-use mathlib.Core.Logic.{_↔_}
 use mathlib.Core.List.{List}
-use lib.ListN.{length}
 use Rattle.mrd_logic.specs.Answer.{Verdict, accepted, refused, Answer, answered, stream, number, andThen}
 use Rattle.mrd_stream.specs.Walk.{answer}
 use Rattle.mrd_stream.specs.Index.{index}

@@ -2,7 +2,7 @@
 -- Assumes nothing.
 use Prim.Native.Nat.{ℕ, zero, suc, pred, _≤_, _<_}
 use native.Mathlib.Omega.{arith}
-use mathlib.Core.Path.{_≡_, refl, sym, ap, subst}
+use mathlib.Core.Path.{_≡_, refl, subst}
 use mathlib.Core.Bool.{Bool, true, false}
 use mathlib.Core.List.{List, [], _∷_}
 use lib.ListN.{take, drop}
@@ -24,13 +24,12 @@ use Rattle.mrd_judge.specs.WholeLaws.{all-numbered, judge-faulty}
 use Rattle.mrd_stream.specs.Walk.{endedAs, ended, Trace, message, done, walk, from, trace, verdict, answer}
 use Rattle.mrd_stream.specs.WalkLaws.{walk-fault}
 use Rattle.mrd_stream.specs.Places as places
-use Rattle.mrd_stream.specs.Places.{Located, nth, place, Stepped, handed, over, step}
+use Rattle.mrd_stream.specs.Places.{Located, nth, place, Stepped, yields, over, step}
 use Rattle.mrd_stream.specs.StepLaws.{step-over}
-use Rattle.mrd_cut.specs.Places.{partAt}
+use Rattle.mrd_cut.specs.CutPlaces.{partAt}
 use Rattle.mrd_record.specs.AtCursor.{placeBy, placeAt}
 use Rattle.mrd_parts.specs.declared.parts.Part.{Part}
 use Rattle.mrd_parts.specs.Sought.{partMeaning}
-use Rattle.mrd_views.specs.declared.views.Span.{Span}
 use Rattle.mrd_views.specs.Views.{shownAt, viewBy, viewOf}
 use Rattle.mrd_element.specs.Field as header
 use Rattle.mrd_fields.specs.Fields.{valued, fieldBy, fieldOf}
@@ -123,7 +122,7 @@ unfolding placeAt
 at-refuses c s = by (step c s) refl
   where
     by : (x : Stepped) → step c s ≡ x → Refuses 16 (placeBy x)
-    by (handed l d) e = tt
+    by (yields l d) e = tt
     by (over (accepted n)) e = omega arith
     by (over (refused f r b)) e = over-numbered c s e
 

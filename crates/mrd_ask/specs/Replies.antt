@@ -6,9 +6,9 @@ use mathlib.Core.Bool.{Bool, true}
 use lib.Dec.{T}
 use Rattle.mrd_logic.specs.Answer.{Answer, answered, stream, number, andThen}
 use Rattle.mrd_stream.specs.Places.{Located}
-use Rattle.mrd_stream.specs.Told.{toldRecord}
+use Rattle.mrd_stream.specs.ReaderMeaning.{recordMeaning}
 use Rattle.mrd_element.specs.Field.{FieldAnswer}
-use Rattle.mrd_element.specs.Told.{told, nanApart}
+use Rattle.mrd_element.specs.ValueMeaning.{valueMeaning, nanApart}
 use Rattle.mrd_views.specs.declared.views.Span.{Span}
 use Rattle.mrd_ask.specs.declared.question.Reply.{Reply}
 use Rattle.mrd_ask.specs.declared.question.Reply
@@ -26,9 +26,9 @@ reply f a = andThen a (λ x. answered (f x))
 
 -- what each case of the enum says: the paper's number and values
 abbrev pub meaning : Reply → Answer Replied
-meaning (Reply.Place r) = answered (place (toldRecord r))
+meaning (Reply.Place r) = answered (place (recordMeaning r))
 meaning (Reply.View x) = answered (view x)
-meaning (Reply.Field v) = answered (field (told v))
+meaning (Reply.Field v) = answered (field (valueMeaning v))
 meaning (Reply.Found i) = answered (found i)
 meaning (Reply.Stream r) = stream (r .number) (r .record) (r .byte)
 meaning (Reply.Refused n) = number n

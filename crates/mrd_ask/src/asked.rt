@@ -1,9 +1,9 @@
 // A question with no index given: each kind of question by the function that answers it.
 ghost use lib.Dec.{T};
-ghost use Rattle.mrd_stream.specs.Told.{toldPlaced};
-ghost use Rattle.mrd_views.specs.Views.{toldView};
-ghost use Rattle.mrd_fields.specs.Fields.{toldField, fieldApart};
-ghost use Rattle.mrd_find.specs.Told.{told as toldFound};
+ghost use Rattle.mrd_stream.specs.ReaderMeaning.{placedMeaning};
+ghost use Rattle.mrd_views.specs.Views.{viewMeaning};
+ghost use Rattle.mrd_fields.specs.Fields.{fieldMeaning, fieldApart};
+ghost use Rattle.mrd_find.specs.FoundMeaning.{foundMeaning};
 ghost use Rattle.mrd_ask.specs.Replies as replies;
 ghost use Rattle.mrd_ask.specs.Replies.{Says, reply};
 ghost use Rattle.mrd_ask.specs.Questions.{askOf};
@@ -27,7 +27,7 @@ pub fn ask(s: &[u8], question: Question, counters: &[u16; 17]) -> Reply
 }
 
 fn placed(answer: Placed) -> Reply
-    ensures { λ r. ⌜ Says r (reply replies.place (toldPlaced answer)) ⌝ }
+    ensures { λ r. ⌜ Says r (reply replies.place (placedMeaning answer)) ⌝ }
 {
     match answer {
         Placed::Found(here) => Reply::Place(here),
@@ -37,7 +37,7 @@ fn placed(answer: Placed) -> Reply
 }
 
 fn viewed(answer: ViewPlace) -> Reply
-    ensures { λ r. ⌜ Says r (reply replies.view (toldView answer)) ⌝ }
+    ensures { λ r. ⌜ Says r (reply replies.view (viewMeaning answer)) ⌝ }
 {
     match answer {
         ViewPlace::At(span) => Reply::View(span),
@@ -48,7 +48,7 @@ fn viewed(answer: ViewPlace) -> Reply
 
 fn valued(answer: FieldAnswer) -> Reply
     requires { ⌜ T (fieldApart answer) ⌝ }
-    ensures { λ r. ⌜ Says r (reply replies.field (toldField answer)) ⌝ }
+    ensures { λ r. ⌜ Says r (reply replies.field (fieldMeaning answer)) ⌝ }
 {
     match answer {
         FieldAnswer::Value(value) => Reply::Field(value),
@@ -58,7 +58,7 @@ fn valued(answer: FieldAnswer) -> Reply
 }
 
 fn found(answer: Found) -> Reply
-    ensures { λ r. ⌜ Says r (reply replies.found (toldFound answer)) ⌝ }
+    ensures { λ r. ⌜ Says r (reply replies.found (foundMeaning answer)) ⌝ }
 {
     match answer {
         Found::Record(number) => Reply::Found(number),

@@ -1,7 +1,7 @@
 // A question with an index given: the stream's refusal, then 15 where the index is not the stream's own, then
 // what is replied with none.
 ghost use Rattle.mrd_logic.specs.Answer.{andThen};
-ghost use Rattle.mrd_index_match.specs.Compare.{toldMatched, fileMatch, columnsMatch};
+ghost use Rattle.mrd_index_match.specs.Compare.{matchedMeaning, fileMatch, columnsMatch};
 ghost use Rattle.mrd_ask.specs.Replies.{Says};
 ghost use Rattle.mrd_ask.specs.Questions.{askOf};
 use crate::asked::ask;
@@ -35,7 +35,7 @@ pub fn ask_with_columns(
 
 // Once the index was compared with the stream.
 fn ask_if(index: Matched, s: &[u8], question: Question, counters: &[u16; 17]) -> Reply
-    ensures { λ r. ⌜ Says r (andThen (toldMatched index) (λ _. askOf (now (s .entry)) question (now (counters .entry)))) ⌝ }
+    ensures { λ r. ⌜ Says r (andThen (matchedMeaning index) (λ _. askOf (now (s .entry)) question (now (counters .entry)))) ⌝ }
 {
     match index {
         Matched::Same => ask(s, question, counters),

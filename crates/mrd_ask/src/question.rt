@@ -1,7 +1,7 @@
 // A question about a record of a stream, and what is replied to it.
 use mrd_element::Value;
 use mrd_parts::Part;
-use mrd_stream::Record;
+use mrd_stream::PlacedRecord;
 use mrd_stream::Refusal;
 use mrd_views::Span;
 
@@ -18,7 +18,7 @@ pub enum Question {
 }
 
 pub enum Reply {
-    Place(Record),
+    Place(PlacedRecord),
     View(Span),
     Field(Value),
     Found(usize),

@@ -7,7 +7,7 @@ ghost use Rattle.mrd_numbers.specs.Stored.{stored, front};
 ghost use Rattle.mrd_logic.specs.Answer.{accepted};
 ghost use Rattle.mrd_stream.specs.Walk.{answer};
 ghost use Rattle.mrd_stream.specs.Index.{entries, startColumn, idColumn, counterColumn};
-ghost use Rattle.mrd_stream.specs.Output.{toldWritten, outputBy};
+ghost use Rattle.mrd_stream.specs.Output.{writtenMeaning, outputBy};
 ghost use Rattle.mrd_columns.specs.Columns.{columnsAnswer, Rooms};
 use mrd_cursor::Cursor;
 use mrd_format::refusal;
@@ -22,10 +22,10 @@ use mrd_stream::check;
 // else answers the stream's refusal, or 14 where any column is shorter than that. Later places keep their
 // content, and a refusal changes none.
 pub fn fill_columns(s: &[u8], starts: &mut [u64], ids: &mut [u16], counters: &mut [u32]) -> Written
-    ensures { λ r. ⌜ toldWritten r ≡ columnsAnswer (now (s .entry)) (length (now (starts .entry))) (length (now (ids .entry))) (length (now (counters .entry))) ⌝ }
-    ensures { λ r. ⌜ now (starts .exit) ≡ outputBy (toldWritten r) (startColumn (now (s .entry))) (now (starts .entry)) ⌝ }
-    ensures { λ r. ⌜ now (ids .exit) ≡ outputBy (toldWritten r) (idColumn (now (s .entry))) (now (ids .entry)) ⌝ }
-    ensures { λ r. ⌜ now (counters .exit) ≡ outputBy (toldWritten r) (counterColumn (now (s .entry))) (now (counters .entry)) ⌝ }
+    ensures { λ r. ⌜ writtenMeaning r ≡ columnsAnswer (now (s .entry)) (length (now (starts .entry))) (length (now (ids .entry))) (length (now (counters .entry))) ⌝ }
+    ensures { λ r. ⌜ now (starts .exit) ≡ outputBy (writtenMeaning r) (startColumn (now (s .entry))) (now (starts .entry)) ⌝ }
+    ensures { λ r. ⌜ now (ids .exit) ≡ outputBy (writtenMeaning r) (idColumn (now (s .entry))) (now (ids .entry)) ⌝ }
+    ensures { λ r. ⌜ now (counters .exit) ≡ outputBy (writtenMeaning r) (counterColumn (now (s .entry))) (now (counters .entry)) ⌝ }
 {
     let checked = check(s);
     match checked {
@@ -43,10 +43,10 @@ fn fill(
     counters: &mut [u32],
 ) -> Written
     requires { ⌜ answer (now s) ≡ accepted count ⌝ }
-    ensures { λ r. ⌜ toldWritten r ≡ columnsAnswer (now (s .entry)) (length (now (starts .entry))) (length (now (ids .entry))) (length (now (counters .entry))) ⌝ }
-    ensures { λ r. ⌜ now (starts .exit) ≡ outputBy (toldWritten r) (startColumn (now (s .entry))) (now (starts .entry)) ⌝ }
-    ensures { λ r. ⌜ now (ids .exit) ≡ outputBy (toldWritten r) (idColumn (now (s .entry))) (now (ids .entry)) ⌝ }
-    ensures { λ r. ⌜ now (counters .exit) ≡ outputBy (toldWritten r) (counterColumn (now (s .entry))) (now (counters .entry)) ⌝ }
+    ensures { λ r. ⌜ writtenMeaning r ≡ columnsAnswer (now (s .entry)) (length (now (starts .entry))) (length (now (ids .entry))) (length (now (counters .entry))) ⌝ }
+    ensures { λ r. ⌜ now (starts .exit) ≡ outputBy (writtenMeaning r) (startColumn (now (s .entry))) (now (starts .entry)) ⌝ }
+    ensures { λ r. ⌜ now (ids .exit) ≡ outputBy (writtenMeaning r) (idColumn (now (s .entry))) (now (ids .entry)) ⌝ }
+    ensures { λ r. ⌜ now (counters .exit) ≡ outputBy (writtenMeaning r) (counterColumn (now (s .entry))) (now (counters .entry)) ⌝ }
 {
     if (starts.len() < count) | ((ids.len() < count) | (counters.len() < count)) {
         return Written::Refused(refusal::OUTPUT_SHORT);

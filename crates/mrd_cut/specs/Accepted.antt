@@ -16,7 +16,7 @@ use Rattle.mrd_stream.specs.Walk.{endedAs, ended, trace, walk, verdict, answer}
 use Rattle.mrd_stream.specs.WalkLaws.{walk-end}
 use Rattle.mrd_logic.specs.Joined.{joined}
 use Rattle.mrd_cut.specs.Cut.{Cut, kindsIn, InOrder, EndsInClose}
-use Rattle.mrd_cut.specs.Order.{phaseAfter, closed-iff-ends}
+use Rattle.mrd_cut.specs.OrderRule.{phaseAfter, closed-iff-ends}
 use Rattle.mrd_cut.specs.Walked.{refused-not-accepted, Stops, met, piecesOf, cursorAfter, answer-after}
 
 -- the kinds of a cut's messages

@@ -9,10 +9,10 @@ use lib.Seq.{take-append-seam, drop-at}
 use Rattle.mrd_logic.specs.Every.{Every}
 use Rattle.mrd_format.specs.Message.{fixedPart, numbersOf, WellFormed}
 use Rattle.mrd_cursor.specs.declared.cursor.Cursor.{Cursor}
-use Rattle.mrd_logic.specs.Answer.{Verdict, accepted, refused, answered, stream, unlessRefused}
+use Rattle.mrd_logic.specs.Answer.{Verdict, accepted, refused, answered, unlessRefused}
 use Rattle.mrd_stream.specs.Walk.{Trace, trace, answer}
 use Rattle.mrd_stream.specs.Places.{Located, located, places, nth, place}
-use Rattle.mrd_cut.specs.Places.{partAt}
+use Rattle.mrd_cut.specs.CutPlaces.{partAt}
 use Rattle.mrd_cut.specs.Walked.{Walks, ends, faults, meets, walks}
 
 -- the place l lies in s, at a well-formed message of its kind and numbers

@@ -1,9 +1,9 @@
 pub mod Cut
-pub mod Order
+pub mod OrderRule
 pub mod Unique
 pub mod Walked
 pub mod Accepted
 pub mod Refused
-pub mod Places
+pub mod CutPlaces
 pub mod Inside
 pub mod Steps

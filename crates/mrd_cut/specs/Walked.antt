@@ -24,7 +24,7 @@ use Rattle.mrd_logic.specs.Every.{Every}
 use Rattle.mrd_logic.specs.Checks.{FirstFault}
 use Rattle.mrd_logic.specs.Joined.{joined}
 use Rattle.mrd_cut.specs.Cut.{kindsIn, InOrder}
-use Rattle.mrd_cut.specs.Order.{phaseFrom, phaseAfter, AllowedFrom, in-order-iff}
+use Rattle.mrd_cut.specs.OrderRule.{phaseFrom, phaseAfter, AllowedFrom, in-order-iff}
 use Rattle.mrd_cut.specs.Unique.{not-empty}
 use Rattle.mrd_judge.specs.WholeLaws.{WholeAt, judge-whole, judge-faulty, wellFormed, well-judge}
 
@@ -77,8 +77,8 @@ piecesOf (message c k m r) = m ∷ piecesOf r
 piecesOf (done v) = []
 
 -- where a walk from c stands after well-formed messages
-abbrev pub standing : Cursor → (ms : List (List ℕ)) → Every WellFormed ms → Cursor
-standing c ms w =
+abbrev pub cursorPast : Cursor → (ms : List (List ℕ)) → Every WellFormed ms → Cursor
+cursorPast c ms w =
     record { number = c .number + length ms; start = c .start + length (joined ms); phase = phaseFrom (c .phase) (kindsIn ms w) }
 
 -- a walk that stands at c with t left gives the answer v: t is empty, or its first message has a fault
@@ -94,15 +94,15 @@ pub record Walked (c : Cursor) (s : List ℕ) (r : Trace) : Type 0 where
   pub whole : joined (piecesOf r) ++ rest ≡ s
   pub ordered : AllowedFrom (c .phase) (kindsIn (piecesOf r) well)
   pub counted : c .number ≤ maxMessages → c .number + length (piecesOf r) ≤ maxMessages
-  pub stops : Stops (standing c (piecesOf r) well) rest (verdict r)
+  pub stops : Stops (cursorPast c (piecesOf r) well) rest (verdict r)
 
 -- after no message the walk stands where it stood; after one more, where the next message is due
-standing-none : (c : Cursor) → standing c [] tt ≡ c
-standing-none c = λ i. record { number = add-zero (c .number) i; start = add-zero (c .start) i; phase = c .phase }
+at-none : (c : Cursor) → cursorPast c [] tt ≡ c
+at-none c = λ i. record { number = add-zero (c .number) i; start = add-zero (c .start) i; phase = c .phase }
 
-standing-next : (c : Cursor) (m : List ℕ) (ms : List (List ℕ)) (w : Every WellFormed (m ∷ ms)) →
-    standing (after c (w .0 .kind) (length m)) ms (w .1) ≡ standing c (m ∷ ms) w
-standing-next c m ms w =
+at-next : (c : Cursor) (m : List ℕ) (ms : List (List ℕ)) (w : Every WellFormed (m ∷ ms)) →
+    cursorPast (after c (w .0 .kind) (length m)) ms (w .1) ≡ cursorPast c (m ∷ ms) w
+at-next c m ms w =
     let n : c .number + 1 + length ms ≡ c .number + suc (length ms) = omega arith in
     let s : c .start + length m + length (joined ms) ≡ c .start + length (m ++ joined ms) = simp length-append (omega arith) in
     λ i. record { number = n i; start = s i; phase = phaseFrom (c .phase) (kindsIn (m ∷ ms) w) }
@@ -116,7 +116,7 @@ stopped c t v h =
       whole = refl;
       ordered = tt;
       counted = λ h. omega arith;
-      stops = subst (λ (d : Cursor). Stops d t v) (sym (standing-none c)) h;
+      stops = subst (λ (d : Cursor). Stops d t v) (sym (at-none c)) h;
     }
 
 -- this holds of every walk
@@ -132,7 +132,7 @@ walked (meets {c} {m} {rest} {r} w a n v) =
       whole = append-assoc m (joined (piecesOf r)) (later .rest) ∙ ap (λ (l : List ℕ). m ++ l) (later .whole);
       ordered = (a, later .ordered);
       counted = λ h. omega (arith, later .counted (omega arith));
-      stops = rw (← standing-next c m (piecesOf r) all) (later .stops);
+      stops = rw (← at-next c m (piecesOf r) all) (later .stops);
     }
 
 -- where the walk of a stream stands after well-formed messages: their number, their bytes, and the phase that their kinds lead to
@@ -140,8 +140,8 @@ abbrev pub cursorAfter : (ms : List (List ℕ)) → Every WellFormed ms → Curs
 cursorAfter ms w = record { number = length ms; start = length (joined ms); phase = phaseAfter (kindsIn ms w) }
 
 -- from the beginning on
-pub standing-beginning : (ms : List (List ℕ)) (w : Every WellFormed ms) → standing beginning ms w ≡ cursorAfter ms w
-standing-beginning ms w =
+pub at-beginning : (ms : List (List ℕ)) (w : Every WellFormed ms) → cursorPast beginning ms w ≡ cursorAfter ms w
+at-beginning ms w =
     λ i. record { number = zero-add (length ms) i; start = zero-add (length (joined ms)) i; phase = phaseAfter (kindsIn ms w) }
 
 -- the messages that the walk of s met: they are well formed, in order, and not too many; after them the walk stops with the answer
@@ -165,15 +165,15 @@ met s =
       whole = r .whole;
       ordered = in-order-iff (kindsIn ms (r .well)) .0 (r .ordered);
       few = omega (arith, r .counted (omega arith));
-      stops = subst (λ (d : Cursor). Stops d (r .rest) (verdict (trace s))) (standing-beginning ms (r .well)) (r .stops);
+      stops = subst (λ (d : Cursor). Stops d (r .rest) (verdict (trace s))) (at-beginning ms (r .well)) (r .stops);
     }
 
 -- well-formed messages, allowed and not too many, are walked over, whatever follows them
 pub walk-pieces : (ms : List (List ℕ)) (w : Every WellFormed ms) (c : Cursor) (rest : List ℕ) → AllowedFrom (c .phase) (kindsIn ms w) →
-    c .number + length ms ≤ maxMessages → verdict (walk (joined ms ++ rest) 0 c) ≡ verdict (walk rest 0 (standing c ms w))
-walk-pieces [] w c rest a n = ap (λ (d : Cursor). verdict (walk rest 0 d)) (sym (standing-none c))
+    c .number + length ms ≤ maxMessages → verdict (walk (joined ms ++ rest) 0 c) ≡ verdict (walk rest 0 (cursorPast c ms w))
+walk-pieces [] w c rest a n = ap (λ (d : Cursor). verdict (walk rest 0 d)) (sym (at-none c))
 walk-pieces (m ∷ ms) w c rest a n =
-    rw (append-assoc, walk-well c m (joined ms ++ rest) (w .0) (a .0) (omega arith), ← standing-next c m ms w)
+    rw (append-assoc, walk-well c m (joined ms ++ rest) (w .0) (a .0) (omega arith), ← at-next c m ms w)
     (walk-pieces ms (w .1) (after c (w .0 .kind) (length m)) rest (a .1) (omega arith))
 
 -- the answer about well-formed messages in order, not too many, and what follows them: that of the walk from there on
@@ -182,4 +182,4 @@ pub answer-after : (ms : List (List ℕ)) (w : Every WellFormed ms) (rest : List
 unfolding answer trace
 answer-after ms w rest o n =
     walk-pieces ms w beginning rest (in-order-iff (kindsIn ms w) .1 o) (omega arith) ∙
-    ap (λ (c : Cursor). verdict (walk rest 0 c)) (standing-beginning ms w)
+    ap (λ (c : Cursor). verdict (walk rest 0 c)) (at-beginning ms w)

@@ -23,14 +23,16 @@ use Rattle.mrd_logic.specs.Joined.{joined}
 use Rattle.mrd_cut.specs.Cut.{Cut}
 use Rattle.mrd_cut.specs.Accepted.{Acceptable, accepted-iff}
 use Rattle.mrd_cut.specs.Refused.{RefusedAt, refused-iff}
-use Rattle.mrd_cut.specs.Places.{AnsweredCut, places-cut}
+use Rattle.mrd_cut.specs.CutPlaces.{AnsweredCut, places-cut}
 use Rattle.mrd_cut.specs.Unique.{cut-unique}
-use Rattle.mrd_cut.specs.Steps.{Handed}
+use Rattle.mrd_cut.specs.Steps.{Yields}
 use Rattle.mrd_cut.specs.Steps as steps
 use Rattle.mrd_record.specs.AtCursor.{Reached, placeAt}
 use Rattle.mrd_record.specs.RecordLaws as records-at
 use Rattle.mrd_index_match.specs.Compare.{fileMatch, columnsMatch}
 use Rattle.mrd_index_match.specs.Exactly.{Held}
+use Rattle.mrd_index_cursor.specs.IndexCursor.{cursorFor}
+use Rattle.mrd_index_cursor.specs.Indexed.{AtRecord, believed-cursor}
 use Rattle.mrd_ask.specs.declared.question.Question.{Question}
 use Rattle.mrd_ask.specs.Questions.{askOf}
 use Rattle.mrd_ask.specs.Belief.{Believed}
@@ -42,7 +44,7 @@ use Rattle.mrd_demands.specs.Refusals.{Refusal, output-kept, written-kep
 use Rattle.mrd_demands.specs.RecordViews.{Nth, ViewsOf}
 use Rattle.mrd_demands.specs.RecordViews as views
 use Rattle.mrd_demands.specs.Messages.{recordsIn}
-use Rattle.mrd_demands.specs.Normal.{accepted-again, normal-long, normal-records, normal-own, normal-written, records-cut}
+use Rattle.mrd_demands.specs.NormalStreams.{accepted-again, normal-long, normal-records, normal-own, normal-written, records-cut}
 
 -- Demand 1: a refusal changes no output byte
 
@@ -78,7 +80,7 @@ pub records-are-the-cut : (s : List ℕ) (n : ℕ) → answer s ≡ accepted n �
 records-are-the-cut s n e c = records-cut s e c
 
 -- from the beginning on, the steps of a walk yield the places and kinds of the stream's messages in order, and then its answer
-pub steps-are-the-messages : (s : List ℕ) → Handed s beginning (trace s)
+pub steps-are-the-messages : (s : List ℕ) → Yields s beginning (trace s)
 steps-are-the-messages = steps.steps-follow
 
 -- where a walk over an accepted stream stands after n steps, the record is record n: so are its views and fields
@@ -101,6 +103,12 @@ pub index-believed-exactly : (s : List ℕ) (q : Question) (cs file starts ids c
     Believed s (file ≡ index s) (askOf s q cs) (andThen (fileMatch s file) (λ _. askOf s q cs)) ×
     Believed s (Held s starts ids counters) (askOf s q cs) (andThen (columnsMatch s starts ids counters) (λ _. askOf s q cs))
 index-believed-exactly = ask-believed
+
+-- a cursor made from columns that were found to be the stream's own index is at the record with that number: views and fields there are that
+-- record's
+pub believed-index-gives-cursors : (s starts ids counters : List ℕ) → columnsMatch s starts ids counters ≡ answered tt → (n : ℕ) {l : Located} →
+    place s n ≡ answered l → (c : Cursor) × ((cursorFor starts ids n ≡ answered c) × AtRecord s n c)
+believed-index-gives-cursors = believed-cursor
 
 -- Demand 3: one meaning, one set of bytes
 

@@ -1,7 +1,7 @@
 pub mod Records
 pub mod Messages
-pub mod Normal
+pub mod NormalStreams
 pub mod Refusals
 pub mod RecordViews
 pub mod Demands
-pub mod Examples
+pub mod FillerExample

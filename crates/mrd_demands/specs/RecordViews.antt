@@ -6,21 +6,20 @@ use mathlib.Core.Path.{_≡_, refl, sym, ap, ap₂, _∙_}
 use mathlib.Core.List.{List, [], _∷_, _++_, map, append-assoc}
 use lib.ListN.{length, take, drop, length-append}
 use lib.Seq.{drop-drop, take-append-seam, drop-at}
-use Rattle.mrd_logic.specs.Answer.{Verdict, accepted, refused, Answer, answered, unlessRefused}
+use Rattle.mrd_logic.specs.Answer.{Verdict, accepted, refused, answered, unlessRefused}
 use Rattle.mrd_numbers.specs.Laws.{part-take}
 use Rattle.mrd_format.specs.Message.{fixedPart, sizeOf}
 use Rattle.mrd_format.specs.Parts as part
-use Rattle.mrd_format.specs.Parts.{Part, Extent, Reach, lies, lacks, bytesAt, bytesIn}
+use Rattle.mrd_format.specs.Parts.{Part, Reach, lies, lacks, bytesIn}
 use Rattle.mrd_format.specs.Content.{extentOf, contentsOf, Record, recordOf}
 use Rattle.mrd_format.specs.ReachLaws.{part-within, channel-is-share}
 use Rattle.mrd_parts.specs.declared.parts.Part.the-variants as asked
-use Rattle.mrd_parts.specs.Sought.{partMeaning}
 use Rattle.mrd_cursor.specs.declared.cursor.Cursor.{Cursor}
 use Rattle.mrd_stream.specs.Walk.{Trace, trace, answer}
 use Rattle.mrd_stream.specs.Places.{Located, located, places, nth, place}
 use Rattle.mrd_demands.specs.Records.{recordsOf, records}
 use Rattle.mrd_cut.specs.Walked.{Walks, ends, faults, meets, walks}
-use Rattle.mrd_cut.specs.Places.{partAt}
+use Rattle.mrd_cut.specs.CutPlaces.{partAt}
 use Rattle.mrd_cut.specs.Inside.{Inside, place-inside}
 use Rattle.mrd_record.specs.RecordLaws.{fixed-long}
 use Rattle.mrd_views.specs.declared.views.Span.{Span}

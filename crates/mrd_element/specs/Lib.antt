@@ -1,5 +1,5 @@
 pub mod Field
-pub mod Told
+pub mod ValueMeaning
 pub mod Letters
 pub mod LetterLaws
 pub mod FloatLaws

@@ -9,7 +9,7 @@ ghost use mathlib.Core.Path.{_≡_};
 ghost use lib.ListN.{length};
 ghost use Rattle.mrd_format.specs.Kinds.{fixedSize};
 ghost use Rattle.mrd_element.specs.Field.{fieldOf, float};
-ghost use Rattle.mrd_element.specs.Told.{Tells};
+ghost use Rattle.mrd_element.specs.ValueMeaning.{Tells};
 
 // 32 bits as a float; where they are a NaN's, as its bit pattern.
 fn float_of(bits: u32) -> Value

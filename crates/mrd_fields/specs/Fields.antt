@@ -8,9 +8,9 @@ use lib.Dec.{T}
 use Rattle.mrd_logic.specs.Answer.{Answer, answered, stream, number, andThen}
 use Rattle.mrd_format.specs.Message.{fixedPart}
 use Rattle.mrd_stream.specs.Places.{Located, place}
-use Rattle.mrd_cut.specs.Places.{partAt}
+use Rattle.mrd_cut.specs.CutPlaces.{partAt}
 use Rattle.mrd_element.specs.Field as header
-use Rattle.mrd_element.specs.Told.{told, nanApart}
+use Rattle.mrd_element.specs.ValueMeaning.{valueMeaning, nanApart}
 use Rattle.mrd_fields.specs.declared.fields.FieldAnswer.{FieldAnswer}
 use Rattle.mrd_fields.specs.declared.fields.FieldAnswer.the-variants.{Value, Stream, Refused}
 
@@ -30,10 +30,10 @@ unfoldable pub fieldOf : List ℕ → ℕ → ℕ → Answer header.FieldAnswer
 fieldOf s n o = fieldBy (place s n) o s
 
 -- what each case of an answer says
-abbrev pub toldField : FieldAnswer → Answer header.FieldAnswer
-toldField (Value v) = answered (told v)
-toldField (Stream r) = stream (r .number) (r .record) (r .byte)
-toldField (Refused n) = number n
+abbrev pub fieldMeaning : FieldAnswer → Answer header.FieldAnswer
+fieldMeaning (Value v) = answered (valueMeaning v)
+fieldMeaning (Stream r) = stream (r .number) (r .record) (r .byte)
+fieldMeaning (Refused n) = number n
 
 abbrev pub fieldApart : FieldAnswer → Bool
 fieldApart (Value v) = nanApart v
@@ -42,5 +42,5 @@ fieldApart (Refused n) = true
 
 -- an answer that says this, with NaNs, and only NaNs, in the case that is meant for them
 pub record TellsField (f : FieldAnswer) (a : Answer header.FieldAnswer) : Type 0 where
-  pub says : toldField f ≡ a
+  pub says : fieldMeaning f ≡ a
   pub apart : T (fieldApart f)

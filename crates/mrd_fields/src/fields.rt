@@ -1,8 +1,7 @@
 // A field of a record's header, by its offset.
-ghost use mathlib.Core.Path.{_≡_};
 ghost use lib.Dec.{T};
-ghost use Rattle.mrd_element.specs.Told.{told, nanApart};
-ghost use Rattle.mrd_stream.specs.Told.{toldPlaced};
+ghost use Rattle.mrd_element.specs.ValueMeaning.{valueMeaning, nanApart};
+ghost use Rattle.mrd_stream.specs.ReaderMeaning.{placedMeaning};
 ghost use Rattle.mrd_record.specs.AtCursor.{LiesIn, placeAt};
 ghost use Rattle.mrd_fields.specs.Fields.{valued, fieldBy, fieldOf, TellsField};
 use mrd_cursor::Cursor;
@@ -43,8 +42,8 @@ pub fn field_at(c: Cursor, s: &[u8], offset: usize) -> FieldAnswer
 
 // The same for the record whose place was answered.
 fn placed_field(placed: Placed, s: &[u8], offset: usize) -> FieldAnswer
-    requires { ⌜ LiesIn (now s) (toldPlaced placed) ⌝ }
-    ensures { λ r. ⌜ TellsField r (fieldBy (toldPlaced placed) offset (now (s .entry))) ⌝ }
+    requires { ⌜ LiesIn (now s) (placedMeaning placed) ⌝ }
+    ensures { λ r. ⌜ TellsField r (fieldBy (placedMeaning placed) offset (now (s .entry))) ⌝ }
 {
     match placed {
         Placed::Found(here) => {
@@ -59,7 +58,7 @@ fn placed_field(placed: Placed, s: &[u8], offset: usize) -> FieldAnswer
 // What a header answered; 20 where it is no value.
 fn valued(value: Value) -> FieldAnswer
     requires { ⌜ T (nanApart value) ⌝ }
-    ensures { λ r. ⌜ TellsField r (valued (told value)) ⌝ }
+    ensures { λ r. ⌜ TellsField r (valued (valueMeaning value)) ⌝ }
 {
     match value {
         Value::Absent => FieldAnswer::Refused(refusal::NO_FIELD),

@@ -17,18 +17,18 @@ use Rattle.mrd_format.specs.Message.{fixedPart}
 use Rattle.mrd_format.specs.Shapes.{kindOf}
 use Rattle.mrd_format.specs.MessageLaws.{well-least, well-fixed}
 use Rattle.mrd_cursor.specs.declared.cursor.Cursor.{Cursor}
-use Rattle.mrd_stream.specs.Walk.{Trace, message, verdict, answer, from}
+use Rattle.mrd_stream.specs.Walk.{Trace, verdict, answer, from}
 use Rattle.mrd_cursor.specs.Cursors.{beginning}
 use Rattle.mrd_stream.specs.Places.{Located, step}
-use Rattle.mrd_stream.specs.StepLaws.{Passes, step-handed, On, on-start, on-next, on-less, kept-next}
-use Rattle.mrd_stream.specs.Told.{toldRecord, toldStep}
-use Rattle.mrd_stream.specs.declared.answer.Record.{Record}
+use Rattle.mrd_stream.specs.StepLaws.{Passes, step-yields, On, on-start, on-next, on-less, kept-next}
+use Rattle.mrd_stream.specs.ReaderMeaning.{recordMeaning, stepMeaning}
+use Rattle.mrd_stream.specs.declared.answer.PlacedRecord.{PlacedRecord}
 use Rattle.mrd_stream.specs.declared.answer.Step.{Step}
 use Rattle.mrd_stream.specs.declared.answer.Step
 use Rattle.mrd_find.specs.Find.{candidate, firstMatch, findOf}
 use Rattle.mrd_logic.specs.Answer.{Answer, answered, unlessRefused}
 use Rattle.mrd_logic.specs.Choice.{both}
-use Rattle.mrd_numbers.specs.Stored.{lentFrom, lent-is}
+use Rattle.mrd_numbers.specs.Stored.{partFrom, part-from}
 use Rattle.mrd_judge.specs.JudgeLaws.{fixed-long}
 use Rattle.mrd_logic.specs.Lists.{equal}
 
@@ -45,26 +45,26 @@ unfolding findOf answer
 finding-start n cs s = on-start (findIn n cs) s
 
 -- a turn of the walk, which hands out a record and goes on from c to next
-pub record Turn (n : ℕ) (cs : List ℕ) (c : Cursor) (s : List ℕ) (here : Record) (next : Cursor) : Type 0 where
+pub record Turn (n : ℕ) (cs : List ℕ) (c : Cursor) (s : List ℕ) (here : PlacedRecord) (next : Cursor) : Type 0 where
   pub finding : Finding n cs c s
-  pub passes : Passes c s (toldRecord here) next
+  pub passes : Passes c s (recordMeaning here) next
 
-pub turned : (n : ℕ) (cs : List ℕ) {c next : Cursor} {s : List ℕ} {r : Step} {here : Record} → Finding n cs c s →
-    toldStep r ≡ step c s → r ≡ Step.Message here next → Turn n cs c s here next
-turned n cs {c} {s = s} f told e = record { finding = f; passes = step-handed c s (sym told ∙ ap toldStep e) }
+pub turned : (n : ℕ) (cs : List ℕ) {c next : Cursor} {s : List ℕ} {r : Step} {here : PlacedRecord} → Finding n cs c s →
+    stepMeaning r ≡ step c s → r ≡ Step.Message here next → Turn n cs c s here next
+turned n cs {c} {s = s} f told e = record { finding = f; passes = step-yields c s (sym told ∙ ap stepMeaning e) }
 
-module _ {n : ℕ} {cs : List ℕ} {c : Cursor} {s : List ℕ} {here : Record} {next : Cursor} (t : Turn n cs c s here next) where
+module _ {n : ℕ} {cs : List ℕ} {c : Cursor} {s : List ℕ} {here : PlacedRecord} {next : Cursor} (t : Turn n cs c s here next) where
   pub nearer : length s - next .start < length s - c .start
   nearer = on-less s (t .passes)
 
   -- the record that is handed out is a candidate where the message is
-  handed-out : candidate n (c .number) (t .passes .kind) ≡ candidate n (here .place .number) (kindOf (here .shape))
-  handed-out = ap (λ (l : Located). candidate n (l .number) (l .kind)) (sym (t .passes .place))
+  yields-record : candidate n (c .number) (t .passes .kind) ≡ candidate n (here .place .number) (kindOf (here .shape))
+  yields-record = ap (λ (l : Located). candidate n (l .number) (l .kind)) (sym (t .passes .place))
 
   -- no candidate: the answer is that of what follows
   pub no-candidate : candidate n (here .place .number) (kindOf (here .shape)) ≡ false → Finding n cs next s
   no-candidate e =
-      let other = handed-out ∙ e in
+      let other = yields-record ∙ e in
       on-next (findIn n cs) s (findIn n cs) (t .finding) (t .passes) (λ r. rw other)
 
   -- a candidate is an acquisition, whose header lies in the stream
@@ -86,36 +86,36 @@ module _ {n : ℕ} {cs : List ℕ} {c : Cursor} {s : List ℕ} {here : Record} {
         omega (arith, starts, least, size, simp (length-append, length-drop) at (ap length (p .split)))
 
     -- as its fixed part does in the part of the stream from its start on
-    pub fixed-there : 2 + fixedSize Kind.Acquisition ≤ length (lentFrom (here .place .start) s)
-    fixed-there = rw lent-is (simp length-drop (omega (arith, header-fits)))
+    pub fixed-there : 2 + fixedSize Kind.Acquisition ≤ length (partFrom (here .place .start) s)
+    fixed-there = rw part-from (simp length-drop (omega (arith, header-fits)))
 
 -- a turn at a candidate, whose header h was read
-pub record Read (n : ℕ) (cs : List ℕ) (c : Cursor) (s : List ℕ) (here : Record) (next : Cursor) (h : List ℕ) : Type 0 where
+pub record Read (n : ℕ) (cs : List ℕ) (c : Cursor) (s : List ℕ) (here : PlacedRecord) (next : Cursor) (h : List ℕ) : Type 0 where
   pub turn : Turn n cs c s here next
   pub one : candidate n (here .place .number) (kindOf (here .shape)) ≡ true
-  pub header : h ≡ fixedPart Kind.Acquisition (lentFrom (here .place .start) s)
+  pub header : h ≡ fixedPart Kind.Acquisition (partFrom (here .place .start) s)
 
-module _ {n : ℕ} {cs : List ℕ} {c : Cursor} {s : List ℕ} {here : Record} {next : Cursor} {h : List ℕ} (x : Read n cs c s here next h) where
+module _ {n : ℕ} {cs : List ℕ} {c : Cursor} {s : List ℕ} {here : PlacedRecord} {next : Cursor} {h : List ℕ} (x : Read n cs c s here next h) where
   pub header-long : length h ≡ 340
-  header-long = ap length (x .header) ∙ fixed-long Kind.Acquisition (lentFrom (here .place .start) s) (fixed-there (x .turn) (x .one))
+  header-long = ap length (x .header) ∙ fixed-long Kind.Acquisition (partFrom (here .place .start) s) (fixed-there (x .turn) (x .one))
 
   header-own : h ≡ fixedPart (x .turn .passes .kind) (x .turn .passes .bytes)
   header-own =
       let p = x .turn .passes in
       let own = well-fixed (p .bytes) (drop (next .start) s) (p .well) in
-      x .header ∙ rw (lent-is, starts (x .turn) (x .one), p .split, ← acquisition (x .turn) (x .one), ← p .known) own
+      x .header ∙ rw (part-from, starts (x .turn) (x .one), p .split, ← acquisition (x .turn) (x .one), ← p .known) own
 
   -- counters that differ: the answer is that of what follows
   pub no-match : equal (countersOf h) cs ≡ false → Finding n cs next s
   no-match f =
-      let one = handed-out (x .turn) ∙ x .one in
+      let one = yields-record (x .turn) ∙ x .one in
       let other = rw header-own at f in
       on-next (findIn n cs) s (findIn n cs) (x .turn .finding) (x .turn .passes) (λ r. rw (one, other))
 
   -- counters that are the same: what follows only tells whether the stream is refused
   pub match-found : equal (countersOf h) cs ≡ true → unlessRefused (verdict (from next s)) (answered (here .place .number)) ≡ findOf s n cs
   match-found f =
-      let one = handed-out (x .turn) ∙ x .one in
+      let one = yields-record (x .turn) ∙ x .one in
       let all = rw header-own at f in
       let number : here .place .number ≡ c .number = ap (λ (l : Located). l .number) (x .turn .passes .place) in
       rw number

@@ -1,4 +1,4 @@
 pub mod Find
-pub mod Told
+pub mod FoundMeaning
 pub mod Alike
 pub mod FindLaws

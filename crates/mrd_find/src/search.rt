@@ -1,17 +1,17 @@
 // The first acquisition whose seventeen counters are those asked for.
 ghost use mathlib.Core.Path.{_≡_};
 ghost use Rattle.mrd_format.specs.Shapes.{kindOf};
-ghost use Rattle.mrd_stream.specs.Told.{toldChecked};
+ghost use Rattle.mrd_stream.specs.ReaderMeaning.{checkedMeaning};
 ghost use Rattle.mrd_find.specs.Find.{candidate, findOf};
 ghost use Rattle.mrd_logic.specs.Answer.{unlessRefused};
-ghost use Rattle.mrd_find.specs.Told.{told};
+ghost use Rattle.mrd_find.specs.FoundMeaning.{foundMeaning};
 use mrd_cursor::Cursor;
 use mrd_format::Kind;
 use mrd_format::refusal;
 use mrd_judge::fixed_part;
 use mrd_message::counter;
 use mrd_stream::Checked;
-use mrd_stream::Record;
+use mrd_stream::PlacedRecord;
 use mrd_stream::Refusal;
 use mrd_stream::Step;
 use mrd_stream::check_from;
@@ -32,7 +32,7 @@ pub enum Found {
 // The number of the first acquisition from record n on with these counters; else the stream's refusal,
 // also where a match stands before the fault, or 16. One walk over the stream.
 pub fn find(s: &[u8], n: usize, counters: &[u16; 17]) -> Found
-    ensures { λ r. ⌜ told r ≡ findOf (now (s .entry)) n (now (counters .entry)) ⌝ }
+    ensures { λ r. ⌜ foundMeaning r ≡ findOf (now (s .entry)) n (now (counters .entry)) ⌝ }
 {
     // Lent on as a slice, which tells the proof the array's length.
     let asked: &[u16] = counters;
@@ -66,7 +66,7 @@ pub fn find(s: &[u8], n: usize, counters: &[u16; 17]) -> Found
 }
 
 // Whether a record is an acquisition, and record n or a later one.
-fn candidate(here: Record, n: usize) -> bool
+fn candidate(here: PlacedRecord, n: usize) -> bool
     ensures { λ r. ⌜ r ≡ candidate n (here .place .number) (kindOf (here .shape)) ⌝ }
 {
     let place = here.place;
@@ -79,7 +79,7 @@ fn candidate(here: Record, n: usize) -> bool
 
 // What was found, unless the stream is refused.
 fn concluded(found: Found, answer: Checked) -> Found
-    ensures { λ r. ⌜ told r ≡ unlessRefused (toldChecked answer) (told found) ⌝ }
+    ensures { λ r. ⌜ foundMeaning r ≡ unlessRefused (checkedMeaning answer) (foundMeaning found) ⌝ }
 {
     match answer {
         Checked::Accepted(_) => found,

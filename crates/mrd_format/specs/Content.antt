@@ -9,7 +9,7 @@ use Rattle.mrd_logic.specs.Joined.{joined}
 use Rattle.mrd_numbers.specs.Little.{toBytes}
 use Rattle.mrd_format.specs.declared.kind.Kind.{Kind}
 use Rattle.mrd_format.specs.Elements.{values, widths, written}
-use Rattle.mrd_format.specs.Parts.{Part, id, header, name, filler, text, attributes, trajectory, samples, pixels, waveform, same, Extent, extent, Reach, lies, lacks, bytesAt, bytesIn, Parts, Contents, contents}
+use Rattle.mrd_format.specs.Parts.{Part, id, header, name, filler, text, attributes, trajectory, samples, pixels, waveform, same, Reach, bytesAt, bytesIn, Parts, Contents, contents}
 use Rattle.mrd_format.specs.Segments.{Segment, Piece, piece, piecesFrom, orElse, reachIf, reachFrom, segmentsBytes}
 use Rattle.mrd_format.specs.Kinds.{idOf, formOf}
 use Rattle.mrd_format.specs.Message.{fixedPart}

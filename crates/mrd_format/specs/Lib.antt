@@ -8,7 +8,7 @@ pub mod Image
 pub mod Waveform
 pub mod Message
 pub mod KindLaws
-pub mod CheckLaws
+pub mod OwnCheckLaws
 pub mod MessageLaws
 pub mod MaskLaws
 pub mod Sizes

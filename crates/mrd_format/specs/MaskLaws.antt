@@ -2,15 +2,15 @@
 -- Assumes nothing.
 use Prim.Native.Nat.{ℕ, zero, suc, _+_, _-_, _*_, _/_, _^_, _≤_, _<_}
 use native.Mathlib.Omega.{arith}
-use mathlib.Core.Path.{_≡_, refl, sym, ap, _∙_}
-use mathlib.Core.Bool.{Bool, true, false, not, _&&_}
+use mathlib.Core.Path.{_≡_, refl, sym, _∙_}
+use mathlib.Core.Bool.{_&&_}
 use mathlib.Core.List.{List, [], _∷_}
-use borrow.Author.Tests.{ne-eqb, eq-eqb, eqb-true}
+use borrow.Author.Tests.{ne-eqb}
 use lib.Dec.{eqb}
 use lib.Count.{ones, ones-step, ones-le}
 use Rattle.mrd_numbers.specs.Little.{num}
 use Rattle.mrd_format.specs.Elements.{elements, elementsFrom}
-use Rattle.mrd_format.specs.Acquisition.{layout, channel-mask, active-channels, get, onesOf, allZero, maskDiffers}
+use Rattle.mrd_format.specs.Acquisition.{layout, channel-mask, onesOf, allZero}
 
 -- after i words: n ones counted, at most 64 a word, and with those of the words that are left they are all
 pub record Counted (h : List ℕ) (i n : ℕ) : Type 0 where

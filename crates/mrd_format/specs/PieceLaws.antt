@@ -3,16 +3,16 @@
 use Prim.Native.Nat.{ℕ, zero, suc, _+_, _-_, _*_, _≤_}
 use native.Mathlib.Nat.{zero-add, add-zero, add-assoc, add-comm, zero-mul, suc-mul}
 use native.Mathlib.Omega.{arith}
-use mathlib.Core.Path.{_≡_, refl, sym, ap, ap₂, _∙_}
+use mathlib.Core.Path.{_≡_, refl, sym}
 use mathlib.Core.Bool.{Bool, true, false, not, _&&_}
 use mathlib.Core.List.{List, [], _∷_, _++_, map, append-nil, map-append}
 use borrow.Author.Tests.{not-true}
-use lib.ListN.{length, take, drop, length-drop, take-append-drop}
-use lib.Seq.{take-add, take-all, drop-drop}
+use lib.ListN.{take, drop}
+use lib.Seq.{take-add, drop-drop}
 use Rattle.mrd_logic.specs.Every.{Every}
 use Rattle.mrd_logic.specs.Choice.{both}
 use Rattle.mrd_logic.specs.Joined.{joined, joined-append}
-use Rattle.mrd_format.specs.Parts.{Part, filler, same, Extent}
+use Rattle.mrd_format.specs.Parts.{filler, same, Extent}
 use Rattle.mrd_format.specs.Segments.{Segment, fixed, counted, padded, sized, channels, sizeIn, total, nameLength, Piece, channelsFrom, piecesIn, piecesFrom}
 use Rattle.mrd_format.specs.Content.{normalPiece}
 

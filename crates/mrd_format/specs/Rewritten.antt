@@ -1,13 +1,13 @@
 -- A well-formed message of bytes, made again of its own header and parts, is its normal form; and so is what its record is written as.
 -- Assumes nothing.
-use Prim.Native.Nat.{ℕ, _+_, _-_, _*_, _≤_, _<_}
+use Prim.Native.Nat.{ℕ, _+_, _-_, _≤_, _<_}
 use native.Mathlib.Nat.{le-of-eq}
 use native.Mathlib.Omega.{arith}
 use mathlib.Core.Path.{_≡_, refl, sym, ap, ap₂, _∙_}
 use mathlib.Core.Bool.{true}
-use mathlib.Core.List.{List, [], _∷_, _++_, append-nil, append-assoc}
+use mathlib.Core.List.{List, [], _++_, append-nil, append-assoc}
 use lib.ListN.{length, take, drop, replicate, length-drop}
-use lib.Seq.{length-take-le, take-take, take-all, drop-drop}
+use lib.Seq.{length-take-le, take-take}
 use Rattle.mrd_numbers.specs.Little.{toBytes, num, Bytes}
 use Rattle.mrd_numbers.specs.Laws.{num-take, num-drop}
 use Rattle.mrd_numbers.specs.ByteLaws.{bytes-take, bytes-drop, write-num}

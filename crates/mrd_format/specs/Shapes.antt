@@ -30,12 +30,12 @@ imageNumbers s =
 abbrev pub waveformNumbers : WaveformShape → List ℕ
 waveformNumbers s = s .«number_of_samples» ∷ s .channels ∷ []
 
-abbrev pub toldNumbers : Shape → List ℕ
-toldNumbers (ConfigurationName s) = s .length ∷ []
-toldNumbers (ConfigurationText s) = s .length ∷ []
-toldNumbers (HeaderText s) = s .length ∷ []
-toldNumbers Close = []
-toldNumbers (Text s) = s .length ∷ []
-toldNumbers (Acquisition s) = acquisitionNumbers s
-toldNumbers (Image s) = imageNumbers s
-toldNumbers (Waveform s) = waveformNumbers s
+abbrev pub shapeNumbers : Shape → List ℕ
+shapeNumbers (ConfigurationName s) = s .length ∷ []
+shapeNumbers (ConfigurationText s) = s .length ∷ []
+shapeNumbers (HeaderText s) = s .length ∷ []
+shapeNumbers Close = []
+shapeNumbers (Text s) = s .length ∷ []
+shapeNumbers (Acquisition s) = acquisitionNumbers s
+shapeNumbers (Image s) = imageNumbers s
+shapeNumbers (Waveform s) = waveformNumbers s

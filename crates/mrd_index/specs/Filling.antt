@@ -5,10 +5,9 @@ use native.Mathlib.Nat.{add-zero}
 use native.Mathlib.Omega.{arith}
 use mathlib.Core.Path.{_≡_, refl, sym, ap, _∙_}
 use mathlib.Core.List.{List, [], _∷_, _++_, map, append-nil, append-assoc}
-use lib.ListN.{length, drop, length-append, take-append-drop}
+use lib.ListN.{length, length-append, take-append-drop}
 use Rattle.mrd_numbers.specs.Stored.{stored, length-stored, stored-next}
 use Rattle.mrd_cursor.specs.declared.cursor.Cursor.{Cursor}
-use Rattle.mrd_stream.specs.Walk.{Trace, message, from}
 use Rattle.mrd_cursor.specs.Cursors.{beginning}
 use Rattle.mrd_logic.specs.Answer.{Verdict}
 use Rattle.mrd_stream.specs.Index.{Entry, entriesOf, entries, entryField, entryFields}

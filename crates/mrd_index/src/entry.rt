@@ -1,17 +1,17 @@
 // The index's entry for one record: where it starts, its id and its scan counter.
 ghost use mathlib.Core.Path.{_≡_};
-ghost use Rattle.mrd_stream.specs.Told.{toldRecord};
-ghost use Rattle.mrd_index_fields.specs.IndexFields.{toldEntry};
+ghost use Rattle.mrd_stream.specs.ReaderMeaning.{recordMeaning};
+ghost use Rattle.mrd_index_fields.specs.IndexFields.{entryMeaning};
 ghost use Rattle.mrd_index.specs.Entries.{entryAt, Within};
 use mrd_index_fields::Entry;
 use mrd_judge::fixed_part;
 use mrd_message::scan_counter;
-use mrd_stream::Record;
+use mrd_stream::PlacedRecord;
 
 // The entry of a record of the stream s.
-pub fn entry_of(s: &[u8], here: Record) -> Entry
-    requires { ⌜ Within (now s) (toldRecord here) ⌝ }
-    ensures { λ r. ⌜ toldEntry r ≡ entryAt (now (s .entry)) (toldRecord here) ⌝ }
+pub fn entry_of(s: &[u8], here: PlacedRecord) -> Entry
+    requires { ⌜ Within (now s) (recordMeaning here) ⌝ }
+    ensures { λ r. ⌜ entryMeaning r ≡ entryAt (now (s .entry)) (recordMeaning here) ⌝ }
 {
     let place = here.place;
     let shape = here.shape;

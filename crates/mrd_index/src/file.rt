@@ -6,7 +6,7 @@ ghost use Rattle.mrd_numbers.specs.Stored.{stored};
 ghost use Rattle.mrd_logic.specs.Answer.{accepted};
 ghost use Rattle.mrd_stream.specs.Walk.{answer};
 ghost use Rattle.mrd_stream.specs.Index.{entries, entryFields};
-ghost use Rattle.mrd_stream.specs.Output.{toldWritten};
+ghost use Rattle.mrd_stream.specs.Output.{writtenMeaning};
 ghost use Rattle.mrd_index.specs.File.{indexAnswer, indexOutput};
 use crate::entry::entry_of;
 use mrd_cursor::Cursor;
@@ -26,7 +26,7 @@ use mrd_stream::check;
 // each record; else answers the stream's refusal, or 14 where out is shorter than that. The rest of out keeps
 // its content, and a refusal changes no byte.
 pub fn write_index(s: &[u8], out: &mut [u8]) -> Written
-    ensures { λ r. ⌜ toldWritten r ≡ indexAnswer (now (s .entry)) (length (now (out .entry))) ⌝ }
+    ensures { λ r. ⌜ writtenMeaning r ≡ indexAnswer (now (s .entry)) (length (now (out .entry))) ⌝ }
     ensures { λ _. ⌜ now (out .exit) ≡ indexOutput (now (s .entry)) (now (out .entry)) ⌝ }
 {
     let checked = check(s);
@@ -39,7 +39,7 @@ pub fn write_index(s: &[u8], out: &mut [u8]) -> Written
 // The same for an accepted stream of so many records.
 fn write(s: &[u8], count: usize, out: &mut [u8]) -> Written
     requires { ⌜ answer (now s) ≡ accepted count ⌝ }
-    ensures { λ r. ⌜ toldWritten r ≡ indexAnswer (now (s .entry)) (length (now (out .entry))) ⌝ }
+    ensures { λ r. ⌜ writtenMeaning r ≡ indexAnswer (now (s .entry)) (length (now (out .entry))) ⌝ }
     ensures { λ _. ⌜ now (out .exit) ≡ indexOutput (now (s .entry)) (now (out .entry)) ⌝ }
 {
     let end = FRONT + ENTRY * count;

@@ -3,5 +3,5 @@
 use Rattle.mrd_stream.specs.Index.{Entry}
 use Rattle.mrd_index_fields.specs.declared.entry.Entry as kept
 
-abbrev pub toldEntry : kept.Entry → Entry
-toldEntry e = record { start = e .start; id = e .id; counter = e .counter }
+abbrev pub entryMeaning : kept.Entry → Entry
+entryMeaning e = record { start = e .start; id = e .id; counter = e .counter }

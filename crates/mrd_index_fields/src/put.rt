@@ -4,7 +4,7 @@ ghost use Prim.Native.Nat.{_+_, _≤_};
 ghost use lib.ListN.{length};
 ghost use Rattle.mrd_numbers.specs.Stored.{stored};
 ghost use Rattle.mrd_stream.specs.Index.{frontField, entryField, endField};
-ghost use Rattle.mrd_index_fields.specs.IndexFields.{toldEntry};
+ghost use Rattle.mrd_index_fields.specs.IndexFields.{entryMeaning};
 use crate::entry::ENTRY;
 use crate::entry::Entry;
 use mrd_tagged::put_tag;
@@ -27,7 +27,7 @@ pub fn put_front(out: &mut [u8], total: u64)
 // is written past the output then.
 pub fn put_entry(out: &mut [u8], at: usize, entry: Entry)
     requires { ⌜ at + 17 ≤ length (now out) ⌝ }
-    ensures { λ _. ⌜ now (out .exit) ≡ stored at (entryField (toldEntry entry)) (now (out .entry)) ⌝ }
+    ensures { λ _. ⌜ now (out .exit) ≡ stored at (entryField (entryMeaning entry)) (now (out .entry)) ⌝ }
 {
     if out.len() < at + ENTRY {
         return;

@@ -4,7 +4,7 @@ ghost use Prim.Native.Nat.{_<_, _^_};
 ghost use lib.ListN.{drop};
 ghost use Rattle.mrd_logic.specs.Lists.{begins, equal};
 ghost use Rattle.mrd_stream.specs.Index.{frontField, entryField, endField};
-ghost use Rattle.mrd_index_fields.specs.IndexFields.{toldEntry};
+ghost use Rattle.mrd_index_fields.specs.IndexFields.{entryMeaning};
 use crate::entry::END;
 use crate::entry::ENTRY;
 use crate::entry::Entry;
@@ -28,7 +28,7 @@ pub fn front_same(file: &[u8], total: u64) -> bool
 // Whether the field of this entry stands in file from `at` on.
 pub fn entry_same(file: &[u8], at: usize, entry: Entry) -> bool
     requires { ⌜ at < 2 ^ 32 ⌝ }
-    ensures { λ r. ⌜ r ≡ begins (entryField (toldEntry entry)) (drop at (now (file .entry))) ⌝ }
+    ensures { λ r. ⌜ r ≡ begins (entryField (entryMeaning entry)) (drop at (now (file .entry))) ⌝ }
 {
     if file.len() < at + ENTRY {
         return false;

@@ -1,7 +1,7 @@
 -- A given index, as a file or as columns, compared with the one that the stream yields; and what the comparison answers.
 -- Assumes nothing.
 use Prim.Native.Nat.{ℕ, suc, _+_, _*_, _≤_}
-use mathlib.Core.Bool.{Bool, true, false, _&&_}
+use mathlib.Core.Bool.{Bool, true, _&&_}
 use mathlib.Core.List.{List, [], _∷_}
 use lib.ListN.{drop}
 use Rattle.mrd_logic.specs.Choice.{pick}
@@ -16,10 +16,10 @@ use Rattle.mrd_index_match.specs.declared.compare.Matched.{Matched}
 use Rattle.mrd_index_match.specs.declared.compare.Matched
 
 -- what each case of the enum says: the paper's number and values
-abbrev pub toldMatched : Matched → Answer (Unit {0})
-toldMatched Matched.Same = answered tt
-toldMatched Matched.Differs = number 15
-toldMatched (Matched.Stream r) = stream (r .number) (r .record) (r .byte)
+abbrev pub matchedMeaning : Matched → Answer (Unit {0})
+matchedMeaning Matched.Same = answered tt
+matchedMeaning Matched.Differs = number 15
+matchedMeaning (Matched.Stream r) = stream (r .number) (r .record) (r .byte)
 
 -- 15 for an index that is found not to be the one that the stream yields
 abbrev pub believed : Bool → Answer (Unit {0})

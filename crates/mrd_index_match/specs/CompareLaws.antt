@@ -14,7 +14,7 @@ use Rattle.mrd_stream.specs.Walk.{answer}
 use Rattle.mrd_stream.specs.Index.{Entry, entries, frontField, entryField, entryFields, endField, index, startColumn, idColumn, counterColumn}
 use Rattle.mrd_index.specs.FileLaws.{entries-long, index-fields}
 use Rattle.mrd_index_match.specs.declared.compare.Form.the-variants.{File, Columns}
-use Rattle.mrd_index_match.specs.Compare.{believed, fileMatch, columnsMatch, Given, given, allSame, endBy, conclusion}
+use Rattle.mrd_index_match.specs.Compare.{believed, fileMatch, columnsMatch, given, allSame, conclusion}
 
 -- in a file, the entries' fields stand one after the other
 fields-held : (f a b c : List ℕ) (i : ℕ) (es : List Entry) →

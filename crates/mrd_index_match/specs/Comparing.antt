@@ -9,7 +9,7 @@ use Rattle.mrd_cursor.specs.declared.cursor.Cursor.{Cursor}
 use Rattle.mrd_logic.specs.Answer.{Verdict, accepted, refused}
 use Rattle.mrd_cursor.specs.Cursors.{beginning}
 use Rattle.mrd_stream.specs.Walk.{verdict, answer}
-use Rattle.mrd_stream.specs.Index.{Entry, entryOf, entriesOf, entries}
+use Rattle.mrd_stream.specs.Index.{entryOf, entriesOf, entries}
 use Rattle.mrd_stream.specs.Places.{Located, over, step}
 use Rattle.mrd_stream.specs.StepLaws.{Passes, On, on-start, on-next, on-end}
 use Rattle.mrd_index.specs.Counted.{few}

@@ -8,9 +8,9 @@ ghost use Rattle.mrd_logic.specs.Lists.{begins};
 ghost use Rattle.mrd_cursor.specs.Cursors.{maxMessages};
 ghost use Rattle.mrd_stream.specs.Walk.{answer as streamAnswer};
 ghost use Rattle.mrd_stream.specs.Index.{entries};
-ghost use Rattle.mrd_stream.specs.Told.{toldChecked, toldRecord};
+ghost use Rattle.mrd_stream.specs.ReaderMeaning.{checkedMeaning, recordMeaning};
 ghost use Rattle.mrd_index.specs.Entries.{entryAt, Within};
-ghost use Rattle.mrd_index_match.specs.Compare.{toldMatched, fileMatch, columnsMatch, given, entryBy, allSame, endBy, Counts, conclusion};
+ghost use Rattle.mrd_index_match.specs.Compare.{matchedMeaning, fileMatch, columnsMatch, given, entryBy, allSame, endBy, Counts, conclusion};
 use mrd_cursor::Cursor;
 use mrd_index::entry_of;
 use mrd_index_fields::ENTRY;
@@ -19,7 +19,7 @@ use mrd_index_fields::FRONT;
 use mrd_index_fields::entry_same;
 use mrd_index_fields::front_same;
 use mrd_stream::Checked;
-use mrd_stream::Record;
+use mrd_stream::PlacedRecord;
 use mrd_stream::Refusal;
 use mrd_stream::Step;
 
@@ -35,7 +35,7 @@ pub enum Matched {
 
 // Whether a given file is the index of the stream s, byte for byte and in whole; else the stream's refusal.
 pub fn index_matches(s: &[u8], file: &[u8]) -> Matched
-    ensures { λ r. ⌜ toldMatched r ≡ fileMatch (now (s .entry)) (now (file .entry)) ⌝ }
+    ensures { λ r. ⌜ matchedMeaning r ≡ fileMatch (now (s .entry)) (now (file .entry)) ⌝ }
 {
     let starts = [0u64; 1];
     let ids = [0u16; 1];
@@ -47,7 +47,7 @@ pub fn index_matches(s: &[u8], file: &[u8]) -> Matched
 // Whether three given columns hold the index of the stream s: none is too short, and each record's place holds
 // its numbers; else the stream's refusal. What a column holds after the records' places is not looked at.
 pub fn columns_match(s: &[u8], starts: &[u64], ids: &[u16], counters: &[u32]) -> Matched
-    ensures { λ r. ⌜ toldMatched r ≡ columnsMatch (now (s .entry)) (now (starts .entry)) (now (ids .entry)) (now (counters .entry)) ⌝ }
+    ensures { λ r. ⌜ matchedMeaning r ≡ columnsMatch (now (s .entry)) (now (starts .entry)) (now (ids .entry)) (now (counters .entry)) ⌝ }
 {
     compare(s, true, Form::Columns, &s[..0], starts, ids, counters)
 }
@@ -69,7 +69,7 @@ fn compare(
     ids: &[u16],
     counters: &[u32],
 ) -> Matched
-    ensures { λ r. ⌜ toldMatched r ≡ conclusion form (now (file .entry)) (front && allSame (given form (now (file .entry)) (now (starts .entry)) (now (ids .entry)) (now (counters .entry))) 0 (entries (now (s .entry)))) (streamAnswer (now (s .entry))) ⌝ }
+    ensures { λ r. ⌜ matchedMeaning r ≡ conclusion form (now (file .entry)) (front && allSame (given form (now (file .entry)) (now (starts .entry)) (now (ids .entry)) (now (counters .entry))) 0 (entries (now (s .entry)))) (streamAnswer (now (s .entry))) ⌝ }
 {
     let mut same = front;
     let mut c = Cursor::beginning();
@@ -92,15 +92,15 @@ fn compare(
 // Whether the given index holds the entry of this record.
 fn record_same(
     s: &[u8],
-    here: Record,
+    here: PlacedRecord,
     form: Form,
     file: &[u8],
     starts: &[u64],
     ids: &[u16],
     counters: &[u32],
 ) -> bool
-    requires { ⌜ Within (now s) (toldRecord here) × (here .place .number < maxMessages) ⌝ }
-    ensures { λ r. ⌜ r ≡ entryBy form (given form (now (file .entry)) (now (starts .entry)) (now (ids .entry)) (now (counters .entry))) (here .place .number) (entryAt (now (s .entry)) (toldRecord here)) ⌝ }
+    requires { ⌜ Within (now s) (recordMeaning here) × (here .place .number < maxMessages) ⌝ }
+    ensures { λ r. ⌜ r ≡ entryBy form (given form (now (file .entry)) (now (starts .entry)) (now (ids .entry)) (now (counters .entry))) (here .place .number) (entryAt (now (s .entry)) (recordMeaning here)) ⌝ }
 {
     let place = here.place;
     let entry = entry_of(s, here);
@@ -128,8 +128,8 @@ fn places_same(n: usize, entry: Entry, starts: &[u64], ids: &[u16], counters: &[
 
 // The answer at the end of the walk, where all was the same so far or not.
 fn concluded(same: bool, answer: Checked, form: Form, file: &[u8]) -> Matched
-    requires { ⌜ Counts (toldChecked answer) ⌝ }
-    ensures { λ r. ⌜ toldMatched r ≡ conclusion form (now (file .entry)) same (toldChecked answer) ⌝ }
+    requires { ⌜ Counts (checkedMeaning answer) ⌝ }
+    ensures { λ r. ⌜ matchedMeaning r ≡ conclusion form (now (file .entry)) same (checkedMeaning answer) ⌝ }
 {
     match answer {
         Checked::Accepted(count) => {

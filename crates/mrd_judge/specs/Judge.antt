@@ -19,9 +19,9 @@ pub data Judged : Type 0 where
   whole : Kind → ℕ → Judged
 
 -- what each case of the enum says
-abbrev pub toldJudgement : Judgement → Judged
-toldJudgement (Judgement.Whole k z) = whole k z
-toldJudgement (Judgement.Faulty n) = faulty n
+abbrev pub judgementMeaning : Judgement → Judged
+judgementMeaning (Judgement.Whole k z) = whole k z
+judgementMeaning (Judgement.Faulty n) = faulty n
 
 abbrev pub unless : ℕ → Kind → ℕ → Judged
 unless zero k z = whole k z

@@ -13,7 +13,7 @@ use Rattle.mrd_format.specs.declared.kind.Kind.{Kind}
 use Rattle.mrd_format.specs.declared.kind.Identified.{Identified}
 use Rattle.mrd_format.specs.declared.kind.Identified.the-variants.{Known, Unknown}
 use Rattle.mrd_format.specs.Kinds.{fixedSize}
-use Rattle.mrd_format.specs.CheckLaws.{own-numbered}
+use Rattle.mrd_format.specs.OwnCheckLaws.{own-numbered}
 use Rattle.mrd_format.specs.Message.{limit, fixedPart, sizeOf}
 use Rattle.mrd_format.specs.Sizes.{capped}
 use Rattle.mrd_logic.specs.Checks.{Check, first}

@@ -5,7 +5,7 @@ use Prim.Native.Nat.{ℕ, zero, suc, _+_, _≤_, _<_}
 use native.Mathlib.Omega.{arith}
 use mathlib.Core.Path.{_≡_, refl, sym, ap, _∙_}
 use mathlib.Core.Bool.{true, false, not, true≢false}
-use mathlib.Core.List.{List, [], _++_}
+use mathlib.Core.List.{List, _++_}
 use lib.ListN.{length, take, length-append}
 use lib.Seq.{length-take-le}
 use lib.Dec.{eqb}
@@ -14,7 +14,7 @@ use Rattle.mrd_format.specs.declared.kind.Kind.{Kind}
 use Rattle.mrd_format.specs.declared.kind.Identified.{Identified}
 use Rattle.mrd_format.specs.declared.kind.Identified.the-variants.{Known, Unknown}
 use Rattle.mrd_format.specs.Kinds.{fixedSize, identified}
-use Rattle.mrd_logic.specs.Checks.{_when_, first, Passed, FirstFault}
+use Rattle.mrd_logic.specs.Checks.{first, Passed, FirstFault}
 use Rattle.mrd_format.specs.Message.{limit, idAt, fixedPart, ownChecks, sizeOf, WellFormed}
 use Rattle.mrd_format.specs.MessageLaws.{size-least, id-take, fixed-take, well-known, well-fixed, well-size}
 use Rattle.mrd_cursor.specs.declared.cursor.Cursor.{Cursor}
@@ -25,7 +25,7 @@ use Rattle.mrd_judge.specs.Judge.{faulty, whole, unless, judgeAs, judge}
 use Rattle.mrd_logic.specs.Every.{Every}
 use Rattle.mrd_cursor.specs.OrderLaws.{allowed-open}
 use Rattle.mrd_logic.specs.CheckLaws.{numbered, first-passed, passed-first, first-fault, fault-first, numbered-append, every-split, every-append, fault-not-zero}
-use Rattle.mrd_format.specs.CheckLaws.{own-numbered}
+use Rattle.mrd_format.specs.OwnCheckLaws.{own-numbered}
 
 -- the message at the front of t, of kind k and size z, passes every check where the walk is at c
 pub record WholeAt (c : Cursor) (t : List ℕ) (k : Kind) (z : ℕ) : Type 0 where

@@ -7,7 +7,7 @@ ghost use Rattle.mrd_format.specs.Kinds.{fixedSize};
 ghost use Rattle.mrd_format.specs.Message.{fixedPart};
 ghost use Rattle.mrd_logic.specs.Checks.{first};
 ghost use Rattle.mrd_judge.specs.Stages.{frontChecks, idChecks, fixedChecks, sizeChecks};
-ghost use Rattle.mrd_judge.specs.Judge.{toldJudgement, judge, judgeBody};
+ghost use Rattle.mrd_judge.specs.Judge.{judgementMeaning, judge, judgeBody};
 use mrd_cursor::Cursor;
 use mrd_format::Identified;
 use mrd_format::Kind;
@@ -29,7 +29,7 @@ pub enum Judgement {
 // The message at the front of t, which is not empty.
 pub fn judge(c: Cursor, t: &[u8]) -> Judgement
     requires { ⌜ 0 < length (now t) ⌝ }
-    ensures { λ r. ⌜ toldJudgement r ≡ judge c (now (t .entry)) ⌝ }
+    ensures { λ r. ⌜ judgementMeaning r ≡ judge c (now (t .entry)) ⌝ }
 {
     let front = judge_front(c, t);
     if front != 0 {
@@ -84,7 +84,7 @@ pub fn judge_id(c: Cursor, identified: Identified) -> u8
 // A message of a known kind, by its last two stages.
 fn judge_body(kind: Kind, t: &[u8]) -> Judgement
     requires { ⌜ 2 ≤ length (now t) ⌝ }
-    ensures { λ r. ⌜ toldJudgement r ≡ judgeBody kind (now (t .entry)) ⌝ }
+    ensures { λ r. ⌜ judgementMeaning r ≡ judgeBody kind (now (t .entry)) ⌝ }
 {
     let fixed = judge_fixed(kind, t);
     if fixed != 0 {

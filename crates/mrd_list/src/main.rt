@@ -5,7 +5,7 @@ use libc::STDIN_FILENO;
 use libc::STDOUT_FILENO;
 use mrd_cursor::Cursor;
 use mrd_stream::Checked;
-use mrd_stream::Record;
+use mrd_stream::PlacedRecord;
 use mrd_stream::Refusal;
 use mrd_stream::Step;
 
@@ -57,7 +57,7 @@ fn list_records(s: &[u8]) {
     }
 }
 
-fn list_record(record: Record) {
+fn list_record(record: PlacedRecord) {
     let place = record.place;
     let shape = record.shape;
     io::print_decimal(STDOUT_FILENO, place.number as u64);

@@ -7,7 +7,7 @@ ghost use Rattle.mrd_format.specs.Kinds.{fixedSize};
 ghost use Rattle.mrd_logic.specs.Checks.{first};
 ghost use Rattle.mrd_format.specs.Message.{ownChecks, bodySize, sizeOf, numbersOf, nameLength, textLength};
 ghost use Rattle.mrd_format.specs.Sizes.{capped};
-ghost use Rattle.mrd_format.specs.Shapes.{kindOf, toldNumbers};
+ghost use Rattle.mrd_format.specs.Shapes.{kindOf, shapeNumbers};
 use crate::waveform;
 use mrd_format::Kind;
 use mrd_format::Shape;
@@ -84,7 +84,7 @@ fn body_size(kind: Kind, h: &[u8]) -> usize
 // The kind with its own numbers.
 pub fn shape(kind: Kind, h: &[u8]) -> Shape
     requires { ⌜ length (now h) ≡ fixedSize kind ⌝ }
-    ensures { λ r. ⌜ (kindOf r ≡ kind) × (toldNumbers r ≡ numbersOf kind (now (h .entry))) ⌝ }
+    ensures { λ r. ⌜ (kindOf r ≡ kind) × (shapeNumbers r ≡ numbersOf kind (now (h .entry))) ⌝ }
 {
     match kind {
         Kind::ConfigurationName => Shape::ConfigurationName(TextShape {

@@ -6,19 +6,19 @@ use mathlib.Core.Path.{_≡_, refl, sym, ap, _∙_}
 use mathlib.Core.List.{List, [], _∷_, _++_, append-nil, append-assoc}
 use lib.ListN.{length, take, drop, replicate, length-append, length-drop, length-replicate, take-append-drop}
 use lib.Seq.{take-append-add, take-append-le, drop-at}
-use Rattle.mrd_numbers.specs.Stored.{stored, lentFrom, returned, stored-lent}
-use Rattle.mrd_stream.specs.declared.answer.Record.{Record}
+use Rattle.mrd_numbers.specs.Stored.{stored, partFrom, returned, stored-part}
+use Rattle.mrd_stream.specs.declared.answer.PlacedRecord.{PlacedRecord}
 use Rattle.mrd_cursor.specs.declared.cursor.Cursor.{Cursor}
 use Rattle.mrd_judge.specs.Judge.{Judged, faulty, whole, judge}
 use Rattle.mrd_logic.specs.Answer.{Verdict, accepted}
 use Rattle.mrd_cursor.specs.Cursors.{beginning}
 use Rattle.mrd_stream.specs.Walk.{verdict, answer}
 use Rattle.mrd_stream.specs.Normal.{normalFrom, normal}
-use Rattle.mrd_stream.specs.Places.{Located, handed, over, stepBy, stepAt, step}
-use Rattle.mrd_stream.specs.StepLaws.{Passes, step-handed, On, on-start, on-next, on-end}
-use Rattle.mrd_stream.specs.Told.{toldRecord}
+use Rattle.mrd_stream.specs.Places.{Located, yields, over, stepBy, stepAt, step}
+use Rattle.mrd_stream.specs.StepLaws.{Passes, step-yields, On, on-start, on-next, on-end}
+use Rattle.mrd_stream.specs.ReaderMeaning.{recordMeaning}
 use Rattle.mrd_format.specs.Content.{normalOf}
-use Rattle.mrd_normal.specs.Filler.{fillerOf, Filled, filled-long, told-filler}
+use Rattle.mrd_normal.specs.Filler.{fillerOf, Filled, filled-long, record-filler}
 
 -- the front of out is a copy of s, which is accepted
 pub record Copied (s out : List ℕ) : Type 0 where
@@ -59,21 +59,21 @@ reach : {c d : Cursor} {s : List ℕ} {l : Located} (p : Passes c s l d) → d .
 reach p = omega (arith, simp (length-append, length-drop) at (ap length (p .split)), p .ahead, p .within)
 
 -- no message reaches past the output
-pub never-past : {s o out : List ℕ} {c d : Cursor} {l : Located} → Clearing s o c out → step c s ≡ handed l d → d .start ≤ length out
-never-past {s} {c = c} h e = omega (arith, same-size h, h .copied .room, step-handed c s e .within)
+pub never-past : {s o out : List ℕ} {c d : Cursor} {l : Located} → Clearing s o c out → step c s ≡ yields l d → d .start ≤ length out
+never-past {s} {c = c} h e = omega (arith, same-size h, h .copied .room, step-yields c s e .within)
 
 -- a turn of the walk, from c to d: it passes a message that ends in f bytes of filler
-pub record Turn (s : List ℕ) (c : Cursor) (out : List ℕ) (r : Record) (d : Cursor) (f : ℕ) : Type 0 where
-  pub passes : Passes c s (toldRecord r) d
+pub record Turn (s : List ℕ) (c : Cursor) (out : List ℕ) (r : PlacedRecord) (d : Cursor) (f : ℕ) : Type 0 where
+  pub passes : Passes c s (recordMeaning r) d
   pub filled : Filled (passes .kind) (passes .bytes) f
   pub fits : f ≤ d .start
 
 pub turn : {s o out : List ℕ} {c d : Cursor}
-    (r : Record) {f : ℕ} → Clearing s o c out → step c s ≡ handed (toldRecord r) d → f ≡ fillerOf (r .shape) →
+    (r : PlacedRecord) {f : ℕ} → Clearing s o c out → step c s ≡ yields (recordMeaning r) d → f ≡ fillerOf (r .shape) →
     Turn s c out r d f
 turn {s} {o} {out} {c} {d} r {f} h e q =
-    let p = step-handed c s e in
-    let filled : Filled (p .kind) (p .bytes) f = rw q (told-filler r p) in
+    let p = step-yields c s e in
+    let filled : Filled (p .kind) (p .bytes) f = rw q (record-filler r p) in
     record {
       passes = p;
       filled = filled;
@@ -98,8 +98,8 @@ module _ (a m b : List ℕ) (f : ℕ) (within : f ≤ length m) where
       rw (q, length-replicate {A = ℕ} f 0, end, before-filler, after-filler) (simp append-assoc)
 
 -- past a message whose filler was made zero, in the part that starts with it
-pub next : {s o out : List ℕ} {c d : Cursor} {r : Record} {f : ℕ} {ys : List ℕ} → Clearing s o c out → Turn s c out r d f →
-    ys ≡ replicate f 0 ++ drop f (lentFrom (d .start - f) out) → Clearing s o d (returned (d .start - f) out ys)
+pub next : {s o out : List ℕ} {c d : Cursor} {r : PlacedRecord} {f : ℕ} {ys : List ℕ} → Clearing s o c out → Turn s c out r d f →
+    ys ≡ replicate f 0 ++ drop f (partFrom (d .start - f) out) → Clearing s o d (returned (d .start - f) out ys)
 next {s} {o} {out} {c} {d} {r} {f} {ys} h t zeros =
     let p = t .passes in
     let m = p .bytes in
@@ -113,7 +113,7 @@ next {s} {o} {out} {c} {d} {r} {f} {ys} h t zeros =
       ready = a ++ n;
       long = length-append a n ∙ rw (filled-long (t .filled)) (sym end);
       holds =
-          stored-lent (d .start - f) out (replicate f 0) ys (zeros ∙ rw (length-replicate {A = ℕ} f 0)) ∙
+          stored-part (d .start - f) out (replicate f 0) ys (zeros ∙ rw (length-replicate {A = ℕ} f 0)) ∙
           ap (stored (d .start - f) (replicate f 0)) here ∙
           made-zero a m b f (t .filled .within) (d .start) end ∙
           ap (λ (x : List ℕ). a ++ x ++ b) (sym (t .filled .normal));

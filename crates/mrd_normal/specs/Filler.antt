@@ -11,16 +11,16 @@ use Rattle.mrd_format.specs.declared.kind.Kind.{Kind}
 use Rattle.mrd_format.specs.declared.kind.Kind
 use Rattle.mrd_format.specs.declared.shape.Shape.{Shape}
 use Rattle.mrd_format.specs.declared.shape.Shape.the-variants.{ConfigurationName, ConfigurationText, HeaderText, Close, Text, Acquisition, Image, Waveform}
-use Rattle.mrd_format.specs.Shapes.{kindOf, toldNumbers}
+use Rattle.mrd_format.specs.Shapes.{kindOf, shapeNumbers}
 use Rattle.mrd_logic.specs.Checks.{first}
 use Rattle.mrd_format.specs.Message.{fixedPart, nameLength, ownChecks, bodySize, sizeOf, numbersOf}
 use Rattle.mrd_format.specs.Content.{normalOf}
 use Rattle.mrd_format.specs.NormalLaws.{nameBytes, name-short, name-ends, kept}
-use Rattle.mrd_stream.specs.declared.answer.Record.{Record}
+use Rattle.mrd_stream.specs.declared.answer.PlacedRecord.{PlacedRecord}
 use Rattle.mrd_cursor.specs.declared.cursor.Cursor.{Cursor}
 use Rattle.mrd_stream.specs.Places.{Located, located}
 use Rattle.mrd_stream.specs.StepLaws.{Passes}
-use Rattle.mrd_stream.specs.Told.{toldRecord}
+use Rattle.mrd_stream.specs.ReaderMeaning.{recordMeaning}
 
 -- how many bytes of filler a message of this shape ends in
 abbrev pub fillerOf : Shape → ℕ
@@ -48,7 +48,7 @@ unfilled : (k : Kind) (m : List ℕ) → normalOf k m ≡ m → Filled k m 0
 unfilled k m e = record { within = omega arith; normal = rw (e, sub-zero, take-length, append-nil) }
 
 -- a message whose kind and numbers a shape tells
-filled-as : (h : Shape) (m : List ℕ) → toldNumbers h ≡ numbersOf (kindOf h) (fixedPart (kindOf h) m) →
+filled-as : (h : Shape) (m : List ℕ) → shapeNumbers h ≡ numbersOf (kindOf h) (fixedPart (kindOf h) m) →
     first (ownChecks (kindOf h) (fixedPart (kindOf h) m)) ≡ 0 → sizeOf (kindOf h) (fixedPart (kindOf h) m) ≡ length m →
     Filled (kindOf h) m (fillerOf h)
 unfolding numbersOf sizeOf bodySize
@@ -67,11 +67,11 @@ filled-as (Image s) m told sound whole = unfilled Kind.Image m (kept Kind.Image 
 filled-as (Waveform s) m told sound whole = unfilled Kind.Waveform m (kept Kind.Waveform m refl whole)
 
 -- the filler that a message's record tells
-pub told-filler : {c d : Cursor} {s : List ℕ}
-    (r : Record) (p : Passes c s (toldRecord r) d) → Filled (p .kind) (p .bytes) (fillerOf (r .shape))
-told-filler {c} r p =
+pub record-filler : {c d : Cursor} {s : List ℕ}
+    (r : PlacedRecord) (p : Passes c s (recordMeaning r) d) → Filled (p .kind) (p .bytes) (fillerOf (r .shape))
+record-filler {c} r p =
     let m = p .bytes in
-    let l : toldRecord r ≡ located c (p .kind) m = p .place in
+    let l : recordMeaning r ≡ located c (p .kind) m = p .place in
     let k : kindOf (r .shape) ≡ p .kind = ap (λ (l : Located). l .kind) l in
-    let n : toldNumbers (r .shape) ≡ numbersOf (p .kind) (fixedPart (p .kind) m) = ap (λ (l : Located). l .numbers) l in
+    let n : shapeNumbers (r .shape) ≡ numbersOf (p .kind) (fixedPart (p .kind) m) = ap (λ (l : Located). l .numbers) l in
     rw (← k) (filled-as (r .shape) m (rw k n) (rw (k, ← p .known) (p .well .sound)) (rw (k, ← p .known) (p .well .whole)))

@@ -1,4 +1,4 @@
-pub mod Written
+pub mod NormalOutput
 pub mod Filler
 pub mod Clearing
-pub mod WrittenLaws
+pub mod NormalOutputLaws

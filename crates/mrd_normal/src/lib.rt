@@ -10,8 +10,8 @@ ghost use Prim.Native.Nat.{ℕ};
 ghost use lib.ListN.{length};
 ghost use Rattle.mrd_logic.specs.Answer.{accepted};
 ghost use Rattle.mrd_stream.specs.Walk.{answer};
-ghost use Rattle.mrd_stream.specs.Output.{toldWritten};
-ghost use Rattle.mrd_normal.specs.Written.{normalAnswer, normalOutput};
+ghost use Rattle.mrd_stream.specs.Output.{writtenMeaning};
+ghost use Rattle.mrd_normal.specs.NormalOutput.{normalAnswer, normalOutput};
 use mrd_format::refusal;
 use mrd_stream::Checked;
 use mrd_stream::Written;
@@ -21,7 +21,7 @@ use mrd_stream::check;
 // else answers the stream's refusal, or 14 where out is shorter than s. The rest of out keeps its content,
 // and a refusal changes no byte.
 pub fn normal_form(s: &[u8], out: &mut [u8]) -> Written
-    ensures { λ r. ⌜ toldWritten r ≡ normalAnswer (now (s .entry)) (length (now (out .entry))) ⌝ }
+    ensures { λ r. ⌜ writtenMeaning r ≡ normalAnswer (now (s .entry)) (length (now (out .entry))) ⌝ }
     ensures { λ _. ⌜ now (out .exit) ≡ normalOutput (now (s .entry)) (now (out .entry)) ⌝ }
 {
     let checked = check(s);
@@ -34,7 +34,7 @@ pub fn normal_form(s: &[u8], out: &mut [u8]) -> Written
 // The same for an accepted stream.
 fn write(s: &[u8], out: &mut [u8]) -> Written
     requires { ⌜ ((n : ℕ) × (answer (now s) ≡ accepted n)) ⌝ }
-    ensures { λ r. ⌜ toldWritten r ≡ normalAnswer (now (s .entry)) (length (now (out .entry))) ⌝ }
+    ensures { λ r. ⌜ writtenMeaning r ≡ normalAnswer (now (s .entry)) (length (now (out .entry))) ⌝ }
     ensures { λ _. ⌜ now (out .exit) ≡ normalOutput (now (s .entry)) (now (out .entry)) ⌝ }
 {
     if out.len() < s.len() {

@@ -9,7 +9,7 @@ use lib.Seq.{length-take-le}
 use mir.Val.{Fits}
 use mir.Syntax.{w8}
 use Rattle.mrd_numbers.specs.Little.{fromBytes, toBytes, num, Bytes}
-use Rattle.mrd_numbers.specs.WriteLaws.{to-from}
+use Rattle.mrd_numbers.specs.ToBytesLaws.{to-from}
 
 -- the elements of every slice of bytes are bytes
 pub all-bytes : (f : List ℕ) → ((i : ℕ) → Fits w8 (getD f i 0)) → Bytes f

@@ -1,14 +1,13 @@
 -- The laws of little-endian numbers, each once for every width.
 -- Assumes nothing.
-use Prim.Native.Nat.{ℕ, zero, suc, _+_, _*_, _^_, _≤_, _<_}
-use native.Mathlib.Nat.{add-zero, zero-add, suc-add, add-assoc, mul-zero, zero-mul, mul-one, one-mul, mul-assoc, mul-add, pow-zero, pow-succ', mul-left-comm, add-comm, add-suc, le-of-suc-le-suc}
-use native.Mathlib.Numerals.{add-one}
+use Prim.Native.Nat.{ℕ, zero, suc, _+_, _*_, _^_, _≤_}
+use native.Mathlib.Nat.{zero-add, suc-add, zero-mul, mul-one, pow-zero, pow-succ', mul-left-comm}
 use native.Mathlib.Omega.{arith}
-use mathlib.Core.Path.{_≡_, refl, sym, ap, _∙_}
+use mathlib.Core.Path.{_≡_, refl, ap, _∙_}
 use mathlib.Core.List.{List, [], _∷_, _++_}
 use lib.ListN.{length, getD, take, drop, length-drop}
-use lib.Seq.{drop-drop, take-take, take-append-le, drop-append-le, getD-drop, take-nil, drop-nil, drop-cons}
-use Rattle.mrd_numbers.specs.Little.{fromBytes, toBytes, num}
+use lib.Seq.{drop-drop, take-take, take-append-le, drop-append-le, take-nil, drop-nil}
+use Rattle.mrd_numbers.specs.Little.{fromBytes, num}
 
 -- a number in a suffix is the number further on in the whole
 pub num-drop : (w p : ℕ) (s : List ℕ) (i : ℕ) → num w (drop p s) i ≡ num w s (p + i)

@@ -1,6 +1,6 @@
 pub mod Little
 pub mod Laws
-pub mod WriteLaws
+pub mod ToBytesLaws
 pub mod ByteLaws
 pub mod Stored
-pub mod PutLaws
+pub mod HalfLaws

@@ -41,43 +41,43 @@ stored-next at m n o h =
     rw (regroup, take-at (take at o ++ m) (drop end o) end front, past) (simp append-assoc)
 
 -- the part of o that is lent from `at` on, and o when that part has come back as x
-abbrev pub lentFrom : ℕ → List ℕ → List ℕ
-lentFrom at o = take (length o - at) (drop at o)
+abbrev pub partFrom : ℕ → List ℕ → List ℕ
+partFrom at o = take (length o - at) (drop at o)
 
 abbrev pub returned : ℕ → List ℕ → List ℕ → List ℕ
 returned at o x = take at o ++ (x ++ drop (length o - at) (drop at o))
 
-pub lent-is : (at : ℕ) (o : List ℕ) → lentFrom at o ≡ drop at o
-lent-is at o = take-all (length o - at) (drop at o) (le-of-eq (length-drop at o))
+pub part-from : (at : ℕ) (o : List ℕ) → partFrom at o ≡ drop at o
+part-from at o = take-all (length o - at) (drop at o) (le-of-eq (length-drop at o))
 
-pub length-lent : (at : ℕ) (o : List ℕ) → length (lentFrom at o) ≡ length o - at
-length-lent at o = ap length (lent-is at o) ∙ length-drop at o
+pub length-part : (at : ℕ) (o : List ℕ) → length (partFrom at o) ≡ length o - at
+length-part at o = ap length (part-from at o) ∙ length-drop at o
 
 -- bytes written at the front of the part lent from `at` on are stored there
-pub stored-lent : (at : ℕ) (o m x : List ℕ) → x ≡ m ++ drop (length m) (lentFrom at o) → returned at o x ≡ stored at m o
+pub stored-part : (at : ℕ) (o m x : List ℕ) → x ≡ m ++ drop (length m) (partFrom at o) → returned at o x ≡ stored at m o
 unfolding stored
-stored-lent at o m x p =
+stored-part at o m x p =
     let none : drop (length o - at) (drop at o) ≡ [] = drop-of-length-le (drop at o) (le-of-eq (length-drop at o)) in
-    rw (p, none, lent-is, drop-drop, append-nil)
+    rw (p, none, part-from, drop-drop, append-nil)
 
 -- the same at the front
-pub front-first : (w : ℕ) (o m x : List ℕ) → length m ≡ w → x ≡ m ++ drop w (lentFrom 0 o) → returned 0 o x ≡ m ++ drop w o
-front-first w o m x e p = rw (← e) (stored-lent 0 o m x (rw e p) ∙ stored-front m o)
+pub front-first : (w : ℕ) (o m x : List ℕ) → length m ≡ w → x ≡ m ++ drop w (partFrom 0 o) → returned 0 o x ≡ m ++ drop w o
+front-first w o m x e p = rw (← e) (stored-part 0 o m x (rw e p) ∙ stored-front m o)
 
 -- and after bytes m at the front
-front-after : (o m n y : List ℕ) → length m ≤ length o → y ≡ n ++ drop (length n) (lentFrom (length m) (m ++ drop (length m) o)) →
+front-after : (o m n y : List ℕ) → length m ≤ length o → y ≡ n ++ drop (length n) (partFrom (length m) (m ++ drop (length m) o)) →
     returned (length m) (m ++ drop (length m) o) y ≡ (m ++ n) ++ drop (length m + length n) o
 front-after o m n y h q =
     let next : stored (length m) n (stored 0 m o) ≡ stored 0 (m ++ n) o = rw zero-add at (stored-next 0 m n o (rw zero-add h)) in
-    rw (stored-lent (length m) (m ++ drop (length m) o) n y q, ← stored-front, next, stored-front, length-append)
+    rw (stored-part (length m) (m ++ drop (length m) o) n y q, ← stored-front, next, stored-front, length-append)
 
 pub front-next : (w z : ℕ) (o o′ m n y : List ℕ) → o′ ≡ m ++ drop w o → length m ≡ w → w ≤ length o → length n ≡ z →
-    y ≡ n ++ drop z (lentFrom w o′) → returned w o′ y ≡ (m ++ n) ++ drop (w + z) o
+    y ≡ n ++ drop z (partFrom w o′) → returned w o′ y ≡ (m ++ n) ++ drop (w + z) o
 front-next w z o o′ m n y p e h f q = rw (p, ← e, ← f) (front-after o m n y (rw e h) (rw (p, ← e, ← f) at q))
 
 -- bytes m written in the part from the front on, and then n in the part after them: x and y are the parts as they came back
-pub front-two : (w z : ℕ) (o m n x y : List ℕ) → length m ≡ w → length n ≡ z → w ≤ length o → x ≡ m ++ drop w (lentFrom 0 o) →
-    y ≡ n ++ drop z (lentFrom w (returned 0 o x)) → returned w (returned 0 o x) y ≡ front (m ++ n) o
+pub front-two : (w z : ℕ) (o m n x y : List ℕ) → length m ≡ w → length n ≡ z → w ≤ length o → x ≡ m ++ drop w (partFrom 0 o) →
+    y ≡ n ++ drop z (partFrom w (returned 0 o x)) → returned w (returned 0 o x) y ≡ front (m ++ n) o
 front-two w z o m n x y e f h p q =
     let all : length (m ++ n) ≡ w + z = simp (length-append, e, f) in
     rw all (front-next w z o (returned 0 o x) m n y (front-first w o m x e p) e h f q)

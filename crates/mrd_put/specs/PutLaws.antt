@@ -7,8 +7,8 @@ use mathlib.Core.List.{List, _++_, append-nil}
 use lib.ListN.{length, take, drop, replicate, length-append, length-replicate}
 use lib.Seq.{take-length}
 use Rattle.mrd_numbers.specs.Little.{toBytes}
-use Rattle.mrd_numbers.specs.WriteLaws.{length-toBytes}
-use Rattle.mrd_numbers.specs.Stored.{front, lentFrom, returned, front-next, front-two}
+use Rattle.mrd_numbers.specs.ToBytesLaws.{length-toBytes}
+use Rattle.mrd_numbers.specs.Stored.{front, partFrom, returned, front-next, front-two}
 use Rattle.mrd_format.specs.declared.kind.Kind.{Kind}
 use Rattle.mrd_format.specs.declared.kind.Kind.the-variants.{ConfigurationName, Acquisition, Image, Waveform}
 use Rattle.mrd_format.specs.Parts.{Contents}
@@ -23,33 +23,33 @@ copied-whole : (a r : List ℕ) → copied a r ≡ front a r
 copied-whole a r = rw take-length
 
 -- two parts
-pub joined-put : (a b o x y : List ℕ) → length a + length b ≤ length o → x ≡ copied a (lentFrom 0 o) →
-    y ≡ copied b (lentFrom (length a) (returned 0 o x)) → returned (length a) (returned 0 o x) y ≡ front (a ++ b) o
+pub joined-put : (a b o x y : List ℕ) → length a + length b ≤ length o → x ≡ copied a (partFrom 0 o) →
+    y ≡ copied b (partFrom (length a) (returned 0 o x)) → returned (length a) (returned 0 o x) y ≡ front (a ++ b) o
 joined-put a b o x y h p q =
     front-two (length a) (length b) o a b x y refl refl (omega arith) (p ∙ copied-whole a _) (q ∙ copied-whole b _)
 
 -- a part, and then two joined
-pub headed-put : (a b o x y : List ℕ) → length a + length b ≤ length o → x ≡ copied a (lentFrom 0 o) →
-    y ≡ front b (lentFrom (length a) (returned 0 o x)) → returned (length a) (returned 0 o x) y ≡ front (a ++ b) o
+pub headed-put : (a b o x y : List ℕ) → length a + length b ≤ length o → x ≡ copied a (partFrom 0 o) →
+    y ≡ front b (partFrom (length a) (returned 0 o x)) → returned (length a) (returned 0 o x) y ≡ front (a ++ b) o
 headed-put a b o x y h p q = front-two (length a) (length b) o a b x y refl refl (omega arith) (p ∙ copied-whole a _) q
 
 -- a name and its zeros
-pub name-put : (a o x y : List ℕ) → (length a ≤ 1024) × (1024 ≤ length o) → x ≡ copied a (lentFrom 0 o) →
-    y ≡ replicate (1024 - length a) 0 ++ drop (1024 - length a) (lentFrom (length a) (returned 0 o x)) →
+pub name-put : (a o x y : List ℕ) → (length a ≤ 1024) × (1024 ≤ length o) → x ≡ copied a (partFrom 0 o) →
+    y ≡ replicate (1024 - length a) 0 ++ drop (1024 - length a) (partFrom (length a) (returned 0 o x)) →
     returned (length a) (returned 0 o x) y ≡ front (a ++ replicate (1024 - length a) 0) o
 name-put a o x y h p q =
     front-two (length a) (1024 - length a) o a (replicate (1024 - length a) 0) x y refl (length-replicate (1024 - length a) 0) (omega arith)
     (p ∙ copied-whole a _) q
 
 -- a text's length and the text
-pub text-put : (a o x y : List ℕ) → 4 + length a ≤ length o → x ≡ toBytes 4 (length a) ++ drop 4 (lentFrom 0 o) →
-    y ≡ copied a (lentFrom 4 (returned 0 o x)) → returned 4 (returned 0 o x) y ≡ front (toBytes 4 (length a) ++ a) o
+pub text-put : (a o x y : List ℕ) → 4 + length a ≤ length o → x ≡ toBytes 4 (length a) ++ drop 4 (partFrom 0 o) →
+    y ≡ copied a (partFrom 4 (returned 0 o x)) → returned 4 (returned 0 o x) y ≡ front (toBytes 4 (length a) ++ a) o
 text-put a o x y h p q =
     front-two 4 (length a) o (toBytes 4 (length a)) a x y (length-toBytes 4 (length a)) refl (omega arith) p (q ∙ copied-whole a _)
 
 -- an image's header, its attributes' length t, and its two parts
-image-put-by : (h t b o x y z : List ℕ) → length h ≡ 198 → length t ≡ 8 → 206 + length b ≤ length o → x ≡ copied h (lentFrom 0 o) →
-    y ≡ t ++ drop 8 (lentFrom (length h) (returned 0 o x)) → z ≡ front b (lentFrom 206 (returned (length h) (returned 0 o x) y)) →
+image-put-by : (h t b o x y z : List ℕ) → length h ≡ 198 → length t ≡ 8 → 206 + length b ≤ length o → x ≡ copied h (partFrom 0 o) →
+    y ≡ t ++ drop 8 (partFrom (length h) (returned 0 o x)) → z ≡ front b (partFrom 206 (returned (length h) (returned 0 o x) y)) →
     returned 206 (returned (length h) (returned 0 o x) y) z ≡ front ((h ++ t) ++ b) o
 image-put-by h t b o x y z e f room p q r =
     let fixed : length (h ++ t) ≡ 206 = simp (length-append, e, f) in
@@ -58,9 +58,9 @@ image-put-by h t b o x y z e f room p q r =
     rw fixed at (front-two (length h) 8 o h t x y refl f (omega arith) (p ∙ copied-whole h _) q) in
     rw all (front-next 206 (length b) o (returned (length h) (returned 0 o x) y) (h ++ t) b z two fixed (omega arith) refl r)
 
-pub image-put : (h : List ℕ) (n : ℕ) (b o x y z : List ℕ) → length h ≡ 198 → 206 + length b ≤ length o → x ≡ copied h (lentFrom 0 o) →
-    y ≡ toBytes 8 n ++ drop 8 (lentFrom (length h) (returned 0 o x)) →
-    z ≡ front b (lentFrom 206 (returned (length h) (returned 0 o x) y)) →
+pub image-put : (h : List ℕ) (n : ℕ) (b o x y z : List ℕ) → length h ≡ 198 → 206 + length b ≤ length o → x ≡ copied h (partFrom 0 o) →
+    y ≡ toBytes 8 n ++ drop 8 (partFrom (length h) (returned 0 o x)) →
+    z ≡ front b (partFrom 206 (returned (length h) (returned 0 o x) y)) →
     returned 206 (returned (length h) (returned 0 o x) y) z ≡ front ((h ++ toBytes 8 n) ++ b) o
 image-put h n b o x y z e room p q r = image-put-by h (toBytes 8 n) b o x y z e (length-toBytes 8 n) room p q r
 

@@ -5,12 +5,12 @@ use mathlib.Core.Path.{_≡_}
 use mathlib.Core.List.{List}
 use Rattle.mrd_logic.specs.Answer.{accepted, refused, Answer, answered, stream, number}
 use Rattle.mrd_cursor.specs.declared.cursor.Cursor.{Cursor}
-use Rattle.mrd_stream.specs.Places.{Located, Stepped, handed, over, step}
+use Rattle.mrd_stream.specs.Places.{Located, Stepped, yields, over, step}
 use Rattle.mrd_cut.specs.Inside.{Inside}
 
 -- the record that a step hands out; where the walk is over, the stream's refusal, or 16: 'no such record'
 abbrev pub placeBy : Stepped → Answer Located
-placeBy (handed l d) = answered l
+placeBy (yields l d) = answered l
 placeBy (over (accepted n)) = number 16
 placeBy (over (refused f r b)) = stream f r b
 
@@ -26,4 +26,4 @@ LiesIn s (number n) = Unit {0}
 -- d is where a walk over s stands n steps after c
 abbrev pub Reached : List ℕ → Cursor → ℕ → Cursor → Type 0
 Reached s c zero d = c ≡ d
-Reached s c (suc n) d = (l : Located) × ((next : Cursor) × ((step c s ≡ handed l next) × Reached s next n d))
+Reached s c (suc n) d = (l : Located) × ((next : Cursor) × ((step c s ≡ yields l next) × Reached s next n d))

@@ -3,21 +3,21 @@
 use Prim.Native.Nat.{ℕ, zero, suc, _+_, _≤_}
 use native.Mathlib.Omega.{arith}
 use mathlib.Core.Path.{_≡_, refl, sym, ap, _∙_, subst}
-use mathlib.Core.List.{List, _++_}
+use mathlib.Core.List.{List}
 use lib.ListN.{length, take, drop, length-append, length-drop}
 use lib.Seq.{take-append-seam, drop-drop, length-take-le}
 use Rattle.mrd_format.specs.Kinds.{fixedSize}
-use Rattle.mrd_format.specs.Message.{fixedPart, numbersOf, WellFormed}
+use Rattle.mrd_format.specs.Message.{fixedPart}
 use Rattle.mrd_format.specs.MessageLaws.{fixed-take, well-least}
 use Rattle.mrd_cursor.specs.declared.cursor.Cursor.{Cursor}
 use Rattle.mrd_logic.specs.Answer.{Verdict, accepted, refused, Answer, answered, stream, number, unlessRefused}
 use Rattle.mrd_cursor.specs.Cursors.{beginning}
 use Rattle.mrd_stream.specs.Walk.{Trace, message, done, trace, verdict, answer}
-use Rattle.mrd_stream.specs.Places.{Located, located, places, nth, place, Stepped, handed, over, step}
-use Rattle.mrd_stream.specs.StepLaws.{Passes, step-handed}
-use Rattle.mrd_cut.specs.Places.{partAt}
+use Rattle.mrd_stream.specs.Places.{Located, located, places, nth, place, Stepped, yields, over, step}
+use Rattle.mrd_stream.specs.StepLaws.{Passes, step-yields}
+use Rattle.mrd_cut.specs.CutPlaces.{partAt}
 use Rattle.mrd_cut.specs.Inside.{Inside, place-inside}
-use Rattle.mrd_cut.specs.Steps.{Handed, steps-follow}
+use Rattle.mrd_cut.specs.Steps.{Yields, steps-follow}
 use Rattle.mrd_record.specs.AtCursor.{placeBy, placeAt, LiesIn, Reached}
 
 pub place-lies : (s : List ℕ) (n : ℕ) → LiesIn s (place s n)
@@ -47,14 +47,14 @@ unfolding placeAt
 at-lies c s = by (step c s) refl
   where
     by : (x : Stepped) → step c s ≡ x → LiesIn s (placeBy x)
-    by (handed l d) e = passes-inside (step-handed c s e)
+    by (yields l d) e = passes-inside (step-yields c s e)
     by (over (accepted n)) e = tt
     by (over (refused f r b)) e = tt
 
-not-over : {l : Located} {d : Cursor} {v : Verdict} → over v ≡ handed l d → ⊥
+not-over : {l : Located} {d : Cursor} {v : Verdict} → over v ≡ yields l d → ⊥
 not-over e = let z : _≡_ {A = ℕ} 0 1 = cc in omega arith
 
-reached-place : (s : List ℕ) (c d : Cursor) (n : ℕ) (r : Trace) {k : ℕ} → Handed s c r → Reached s c n d → verdict r ≡ accepted k →
+reached-place : (s : List ℕ) (c d : Cursor) (n : ℕ) (r : Trace) {k : ℕ} → Yields s c r → Reached s c n d → verdict r ≡ accepted k →
     placeAt d s ≡ nth (places r) n
 unfolding placeAt
 reached-place s c d zero (message b k m r) h e a =
@@ -63,9 +63,9 @@ reached-place s c d zero (done v) h e a =
     ap (λ (x : Cursor). placeBy (step x s)) (sym e) ∙ ap placeBy h ∙ ap (λ (v : Verdict). placeBy (over v)) a
 reached-place s c d (suc n) (message b k m r) h e a =
     let next : h .1 .0 ≡ e .1 .0 = same-next (sym (h .1 .1) ∙ e .1 .1 .0) in
-    reached-place s (e .1 .0) d n r (subst (λ (x : Cursor). Handed s x r) next (h .1 .2)) (e .1 .1 .1) a
+    reached-place s (e .1 .0) d n r (subst (λ (x : Cursor). Yields s x r) next (h .1 .2)) (e .1 .1 .1) a
   where
-    same-next : {l m : Located} {x y : Cursor} → handed l x ≡ handed m y → x ≡ y
+    same-next : {l m : Located} {x y : Cursor} → yields l x ≡ yields m y → x ≡ y
     same-next e = cc
 reached-place s c d (suc n) (done v) h e a = absurd (not-over (sym h ∙ e .1 .1 .0))
 

@@ -3,21 +3,21 @@ ghost use mathlib.Core.Path.{_≡_};
 ghost use Rattle.mrd_format.specs.Message.{fixedPart};
 ghost use Rattle.mrd_format.specs.Shapes.{kindOf};
 ghost use Rattle.mrd_stream.specs.Places.{over};
-ghost use Rattle.mrd_stream.specs.Told.{toldChecked, toldRecord, toldPlaced};
-ghost use Rattle.mrd_cut.specs.Places.{partAt};
+ghost use Rattle.mrd_stream.specs.ReaderMeaning.{checkedMeaning, recordMeaning, placedMeaning};
+ghost use Rattle.mrd_cut.specs.CutPlaces.{partAt};
 ghost use Rattle.mrd_cut.specs.Inside.{Inside};
 ghost use Rattle.mrd_record.specs.AtCursor.{placeBy, placeAt};
 use mrd_cursor::Cursor;
 use mrd_format::refusal;
 use mrd_stream::Checked;
 use mrd_stream::Placed;
-use mrd_stream::Record;
+use mrd_stream::PlacedRecord;
 use mrd_stream::Step;
 
 // The place and kind of the record that is due at c; the stream's refusal where its message is refused, 16
 // where none is left.
 pub fn place_at(c: Cursor, s: &[u8]) -> Placed
-    ensures { λ r. ⌜ toldPlaced r ≡ placeAt c (now (s .entry)) ⌝ }
+    ensures { λ r. ⌜ placedMeaning r ≡ placeAt c (now (s .entry)) ⌝ }
 {
     let step = mrd_stream::next(c, s);
     match step {
@@ -28,7 +28,7 @@ pub fn place_at(c: Cursor, s: &[u8]) -> Placed
 
 // The answer about a record where the walk is over.
 fn ended(answer: Checked) -> Placed
-    ensures { λ r. ⌜ toldPlaced r ≡ placeBy (over (toldChecked answer)) ⌝ }
+    ensures { λ r. ⌜ placedMeaning r ≡ placeBy (over (checkedMeaning answer)) ⌝ }
 {
     match answer {
         Checked::Accepted(_) => Placed::Refused(refusal::NO_RECORD),
@@ -37,9 +37,9 @@ fn ended(answer: Checked) -> Placed
 }
 
 // The fixed part of a record that lies in s.
-pub fn fixed_part(s: &[u8], here: Record) -> &[u8]
-    requires { ⌜ Inside (now s) (toldRecord here) ⌝ }
-    ensures { λ r. ⌜ now r ≡ fixedPart (kindOf (here .shape)) (partAt (now (s .entry)) (toldRecord here)) ⌝ }
+pub fn fixed_part(s: &[u8], here: PlacedRecord) -> &[u8]
+    requires { ⌜ Inside (now s) (recordMeaning here) ⌝ }
+    ensures { λ r. ⌜ now r ≡ fixedPart (kindOf (here .shape)) (partAt (now (s .entry)) (recordMeaning here)) ⌝ }
 {
     let place = here.place;
     let shape = here.shape;

@@ -6,6 +6,6 @@ pub mod WalkLaws
 pub mod StepLaws
 pub mod NextLaws
 pub mod Seek
-pub mod Told
+pub mod ReaderMeaning
 pub mod Output
 pub mod Examples

@@ -18,7 +18,7 @@ use Rattle.mrd_judge.specs.Judge.{Judged, faulty, whole, judge}
 use Rattle.mrd_judge.specs.JudgeLaws.{fixed-long}
 use Rattle.mrd_judge.specs.WholeLaws.{WholeAt, judge-whole}
 use Rattle.mrd_stream.specs.Walk.{ended}
-use Rattle.mrd_stream.specs.Places.{located, handed, over, stepBy, stepAt, step, handedOut}
+use Rattle.mrd_stream.specs.Places.{located, yields, over, stepBy, stepAt, step, yielded}
 
 -- the step where bytes are left
 step-front : (c : Cursor) (t : List ℕ) → 0 < length t → stepAt c t ≡ stepBy (judge c t) c t
@@ -27,9 +27,9 @@ step-front c [] h = absurd (not-suc-le-zero h)
 step-front c (b ∷ t) h = refl
 
 -- what is handed out by the fixed part is what the bytes of the message give
-handed-out : (k : Kind) (c : Cursor) (t : List ℕ) (z : ℕ) → 2 + fixedSize k ≤ z → z ≤ length t →
-    handedOut c k (fixedPart k t) z ≡ handed (located c k (take z t)) (after c k z)
-handed-out k c t z least fits = rw (fixed-take k z t least fits, length-take-le z t fits)
+yields-record : (k : Kind) (c : Cursor) (t : List ℕ) (z : ℕ) → 2 + fixedSize k ≤ z → z ≤ length t →
+    yielded c k (fixedPart k t) z ≡ yields (located c k (take z t)) (after c k z)
+yields-record k c t z least fits = rw (fixed-take k z t least fits, length-take-le z t fits)
 
 -- the step from c over s, where no bytes are left
 pub step-ended : (c : Cursor) (s : List ℕ) → length s ≤ c .start → step c s ≡ over (ended c)
@@ -46,7 +46,7 @@ module _ (c : Cursor) (s : List ℕ) (h : c .start < length s) where
   step-faulty e = front ∙ ap (λ (j : Judged). stepBy j c (drop (c .start) s)) e
 
   module _ {k : Kind} {z : ℕ} (e : judge c (drop (c .start) s) ≡ whole k z) where
-    pub step-whole : step c s ≡ handed (located c k (take z (drop (c .start) s))) (after c k z)
+    pub step-whole : step c s ≡ yields (located c k (take z (drop (c .start) s))) (after c k z)
     step-whole = front ∙ ap (λ (j : Judged). stepBy j c (drop (c .start) s)) e
 
     judged : WholeAt c (drop (c .start) s) k z
@@ -68,5 +68,5 @@ module _ (c : Cursor) (s : List ℕ) (h : c .start < length s) where
     pub whole-ends : c .start + z ≤ length s
     whole-ends = omega (arith, judged .fits, length-drop (c .start) s)
 
-    pub step-handed-out : handedOut c k (fixedPart k (drop (c .start) s)) z ≡ step c s
-    step-handed-out = handed-out k c (drop (c .start) s) z least (judged .fits) ∙ sym step-whole
+    pub step-yields-record : yielded c k (fixedPart k (drop (c .start) s)) z ≡ step c s
+    step-yields-record = yields-record k c (drop (c .start) s) z least (judged .fits) ∙ sym step-whole

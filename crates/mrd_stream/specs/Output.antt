@@ -15,10 +15,10 @@ use Rattle.mrd_logic.specs.Choice.{pick}
 use Rattle.mrd_stream.specs.Walk.{answer}
 
 -- what each case of the enum says: the paper's number and values
-abbrev pub toldWritten : Written → Answer ℕ
-toldWritten (Written.Length n) = answered n
-toldWritten (Written.Stream r) = stream (r .number) (r .record) (r .byte)
-toldWritten (Written.Refused n) = number n
+abbrev pub writtenMeaning : Written → Answer ℕ
+writtenMeaning (Written.Length n) = answered n
+writtenMeaning (Written.Stream r) = stream (r .number) (r .record) (r .byte)
+writtenMeaning (Written.Refused n) = number n
 
 -- by the stream's answer and whether the output is too short for the n that are to be written
 abbrev pub answerBy : Verdict → Bool → ℕ → Answer ℕ

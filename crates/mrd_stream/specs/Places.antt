@@ -41,12 +41,12 @@ place s n = unlessRefused (answer s) (nth (places (trace s)) n)
 
 -- what one step of a walk hands out: a message and the next cursor, or the stream's answer
 pub data Stepped : Type 0 where
-  handed : Located → Cursor → Stepped
+  yields : Located → Cursor → Stepped
   over : Verdict → Stepped
 
 abbrev pub stepBy : Judged → Cursor → List ℕ → Stepped
 stepBy (faulty f) c t = over (refused f (c .number) (c .start))
-stepBy (whole k z) c t = handed (located c k (take z t)) (after c k z)
+stepBy (whole k z) c t = yields (located c k (take z t)) (after c k z)
 
 -- the step at the front of t
 unfoldable pub stepAt : Cursor → List ℕ → Stepped
@@ -58,6 +58,6 @@ unfoldable pub step : Cursor → List ℕ → Stepped
 step c s = stepAt c (drop (c .start) s)
 
 -- a message of kind k and size z handed out, by its fixed part h
-abbrev pub handedOut : Cursor → Kind → List ℕ → ℕ → Stepped
-handedOut c k h z =
-    handed (record { number = c .number; start = c .start; size = z; kind = k; numbers = numbersOf k h }) (after c k z)
+abbrev pub yielded : Cursor → Kind → List ℕ → ℕ → Stepped
+yielded c k h z =
+    yields (record { number = c .number; start = c .start; size = z; kind = k; numbers = numbersOf k h }) (after c k z)

@@ -16,7 +16,7 @@ use Rattle.mrd_logic.specs.Answer.{Verdict}
 use Rattle.mrd_stream.specs.Walk.{Trace, message, done, walk, trace, from}
 use Rattle.mrd_stream.specs.WalkLaws.{walk-end, walk-fault, walk-next}
 use Rattle.mrd_judge.specs.WholeLaws.{WholeAt, judge-whole, wellFormed}
-use Rattle.mrd_stream.specs.Places.{Located, located, handed, over, stepBy, stepAt, step}
+use Rattle.mrd_stream.specs.Places.{Located, located, yields, over, stepBy, stepAt, step}
 
 -- a step from c over s that hands out l goes to d: it passes one message of the trace, the well-formed bytes at c
 pub record Passes (c : Cursor) (s : List ℕ) (l : Located) (d : Cursor) : Type 0 where
@@ -33,7 +33,7 @@ pub record Passes (c : Cursor) (s : List ℕ) (l : Located) (d : Cursor) : Type 
   pub split : drop (c .start) s ≡ bytes ++ drop (d .start) s
 
 -- a step hands out a message or ends the walk, and not both
-not-both : {l : Located} {d : Cursor} {v : Verdict} → over v ≡ handed l d → ⊥
+not-both : {l : Located} {d : Cursor} {v : Verdict} → over v ≡ yields l d → ⊥
 not-both e = let z : _≡_ {A = ℕ} 0 1 = cc in omega arith
 
 pub step-over : (c : Cursor) (s : List ℕ) {v : Verdict} → step c s ≡ over v → from c s ≡ done v
@@ -48,11 +48,11 @@ step-over c s {v} e = at (drop (c .start) s) e
     at [] e = walk-end c ∙ ap done (cc)
     at (b ∷ t) e = judged b t (judge c (b ∷ t)) refl e
 
-pub step-handed : (c : Cursor) (s : List ℕ) {l : Located} {d : Cursor} → step c s ≡ handed l d → Passes c s l d
+pub step-yields : (c : Cursor) (s : List ℕ) {l : Located} {d : Cursor} → step c s ≡ yields l d → Passes c s l d
 unfolding step stepAt
-step-handed c s {l} {d} e = at (drop (c .start) s) refl e
+step-yields c s {l} {d} e = at (drop (c .start) s) refl e
   where
-    judged : (b : ℕ) (t : List ℕ) → drop (c .start) s ≡ b ∷ t → (j : Judged) → judge c (b ∷ t) ≡ j → stepBy j c (b ∷ t) ≡ handed l d →
+    judged : (b : ℕ) (t : List ℕ) → drop (c .start) s ≡ b ∷ t → (j : Judged) → judge c (b ∷ t) ≡ j → stepBy j c (b ∷ t) ≡ yields l d →
         Passes c s l d
     judged b t here (faulty f) q e = absurd (not-both e)
     judged b t here (whole k z) q e =
@@ -76,7 +76,7 @@ step-handed c s {l} {d} e = at (drop (c .start) s) refl e
           split = rw (next, ← rest) (here ∙ sym (take-append-drop z (b ∷ t)));
         }
 
-    at : (t : List ℕ) → drop (c .start) s ≡ t → stepAt c t ≡ handed l d → Passes c s l d
+    at : (t : List ℕ) → drop (c .start) s ≡ t → stepAt c t ≡ yields l d → Passes c s l d
     at [] here e = absurd (not-both e)
     at (b ∷ t) here e = judged b t here (judge c (b ∷ t)) refl e
 

@@ -25,7 +25,7 @@ pub struct Place {
 }
 
 // A record's place, and beside it its kind with that kind's own numbers.
-pub struct Record {
+pub struct PlacedRecord {
     pub place: Place,
     pub shape: Shape,
 }
@@ -33,14 +33,14 @@ pub struct Record {
 // What one step of a walk hands out.
 pub enum Step {
     // A message, and the cursor of what follows it.
-    Message(Record, Cursor),
+    Message(PlacedRecord, Cursor),
     // No more messages: the stream's answer.
     End(Checked),
 }
 
 // The answer about the place and kind of a record.
 pub enum Placed {
-    Found(Record),
+    Found(PlacedRecord),
     // The stream itself is refused.
     Stream(Refusal),
     // Refused with a number alone.

@@ -8,7 +8,7 @@ mod reader;
 pub use answer::Checked;
 pub use answer::Place;
 pub use answer::Placed;
-pub use answer::Record;
+pub use answer::PlacedRecord;
 pub use answer::Refusal;
 pub use answer::Step;
 pub use answer::Written;

@@ -6,13 +6,13 @@ ghost use Rattle.mrd_format.specs.Kinds.{fixedSize};
 ghost use Rattle.mrd_cursor.specs.Cursors.{maxMessages};
 ghost use Rattle.mrd_logic.specs.Answer.{refused, unlessRefused};
 ghost use Rattle.mrd_stream.specs.Walk.{ended, verdict, answer, from};
-ghost use Rattle.mrd_stream.specs.Places.{place, step, handedOut};
+ghost use Rattle.mrd_stream.specs.Places.{place, step, yielded};
 ghost use Rattle.mrd_stream.specs.Seek.{keptBy};
-ghost use Rattle.mrd_stream.specs.Told.{toldChecked, toldPlaced, toldRecord, toldStep};
+ghost use Rattle.mrd_stream.specs.ReaderMeaning.{checkedMeaning, placedMeaning, recordMeaning, stepMeaning};
 use crate::answer::Checked;
 use crate::answer::Place;
 use crate::answer::Placed;
-use crate::answer::Record;
+use crate::answer::PlacedRecord;
 use crate::answer::Refusal;
 use crate::answer::Step;
 use mrd_cursor::Cursor;
@@ -27,7 +27,7 @@ use mrd_judge::judge;
 // messages in order and then its answer; any other cursor gets some answer too. A step reads the fixed
 // part of one message and none of its payload.
 pub fn next(c: Cursor, s: &[u8]) -> Step
-    ensures { λ r. ⌜ toldStep r ≡ step c (now (s .entry)) ⌝ }
+    ensures { λ r. ⌜ stepMeaning r ≡ step c (now (s .entry)) ⌝ }
 {
     let start = c.start;
     if start >= s.len() {
@@ -35,14 +35,14 @@ pub fn next(c: Cursor, s: &[u8]) -> Step
     }
     let judgement = judge(c, &s[start..]);
     match judgement {
-        Judgement::Whole(kind, size) => handed(c, kind, fixed_part(kind, &s[start..]), size),
+        Judgement::Whole(kind, size) => yields(c, kind, fixed_part(kind, &s[start..]), size),
         Judgement::Faulty(number) => Step::End(refused(c, number)),
     }
 }
 
 // The answer where no bytes are left.
 fn ended(c: Cursor) -> Checked
-    ensures { λ r. ⌜ toldChecked r ≡ ended c ⌝ }
+    ensures { λ r. ⌜ checkedMeaning r ≡ ended c ⌝ }
 {
     let phase = c.phase;
     if phase.is_closed() {
@@ -53,7 +53,7 @@ fn ended(c: Cursor) -> Checked
 
 // The answer where the message that is due is refused with this number.
 fn refused(c: Cursor, number: u8) -> Checked
-    ensures { λ r. ⌜ toldChecked r ≡ refused number (c .number) (c .start) ⌝ }
+    ensures { λ r. ⌜ checkedMeaning r ≡ refused number (c .number) (c .start) ⌝ }
 {
     Checked::Refused(Refusal {
         number: number,
@@ -63,16 +63,16 @@ fn refused(c: Cursor, number: u8) -> Checked
 }
 
 // A message that passed every check, handed out.
-fn handed(c: Cursor, kind: Kind, h: &[u8], size: usize) -> Step
+fn yields(c: Cursor, kind: Kind, h: &[u8], size: usize) -> Step
     requires { ⌜ (length (now h) ≡ fixedSize kind) × (c .number < maxMessages) × (c .start + size < 2 ^ 64) ⌝ }
-    ensures { λ r. ⌜ toldStep r ≡ handedOut c kind (now (h .entry)) size ⌝ }
+    ensures { λ r. ⌜ stepMeaning r ≡ yielded c kind (now (h .entry)) size ⌝ }
 {
     let place = Place {
         number: c.number,
         start: c.start,
         size: size,
     };
-    let record = Record {
+    let record = PlacedRecord {
         place: place,
         shape: mrd_message::shape(kind, h),
     };
@@ -82,7 +82,7 @@ fn handed(c: Cursor, kind: Kind, h: &[u8], size: usize) -> Step
 // Checks a whole stream: accepted with the number of its records, or the refusal of its first faulty
 // message.
 pub fn check(s: &[u8]) -> Checked
-    ensures { λ r. ⌜ toldChecked r ≡ answer (now (s .entry)) ⌝ }
+    ensures { λ r. ⌜ checkedMeaning r ≡ answer (now (s .entry)) ⌝ }
 {
     check_from(Cursor::beginning(), s)
 }
@@ -90,7 +90,7 @@ pub fn check(s: &[u8]) -> Checked
 // Checks what a walk still has before it: the answer that its steps from c on end in. Where c was handed
 // out by a walk over s, that is the stream's answer; any other cursor gets some answer too.
 pub fn check_from(c: Cursor, s: &[u8]) -> Checked
-    ensures { λ r. ⌜ toldChecked r ≡ verdict (from c (now (s .entry))) ⌝ }
+    ensures { λ r. ⌜ checkedMeaning r ≡ verdict (from c (now (s .entry))) ⌝ }
 {
     let mut c = c;
     loop {
@@ -113,7 +113,7 @@ pub fn check_from(c: Cursor, s: &[u8]) -> Checked
 // The place and kind of record n; else the stream's refusal, or 16 where there is no such record. One
 // walk over the whole stream.
 pub fn place(s: &[u8], n: usize) -> Placed
-    ensures { λ r. ⌜ toldPlaced r ≡ place (now (s .entry)) n ⌝ }
+    ensures { λ r. ⌜ placedMeaning r ≡ place (now (s .entry)) n ⌝ }
 {
     let mut c = Cursor::beginning();
     let mut found = Placed::Refused(refusal::NO_RECORD);
@@ -132,8 +132,8 @@ pub fn place(s: &[u8], n: usize) -> Placed
 }
 
 // This record where it is record n, else what was found before.
-fn kept(before: Placed, here: Record, n: usize) -> Placed
-    ensures { λ r. ⌜ toldPlaced r ≡ keptBy (toldRecord here) n (toldPlaced before) ⌝ }
+fn kept(before: Placed, here: PlacedRecord, n: usize) -> Placed
+    ensures { λ r. ⌜ placedMeaning r ≡ keptBy (recordMeaning here) n (placedMeaning before) ⌝ }
 {
     let place = here.place;
     if place.number == n {
@@ -144,7 +144,7 @@ fn kept(before: Placed, here: Record, n: usize) -> Placed
 
 // What was found, unless the stream is refused.
 fn concluded(found: Placed, answer: Checked) -> Placed
-    ensures { λ r. ⌜ toldPlaced r ≡ unlessRefused (toldChecked answer) (toldPlaced found) ⌝ }
+    ensures { λ r. ⌜ placedMeaning r ≡ unlessRefused (checkedMeaning answer) (placedMeaning found) ⌝ }
 {
     match answer {
         Checked::Accepted(_) => found,

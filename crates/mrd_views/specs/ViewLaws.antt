@@ -13,7 +13,7 @@ use Rattle.mrd_format.specs.ReachLaws.{part-within}
 use Rattle.mrd_parts.specs.declared.parts.Part as asked
 use Rattle.mrd_parts.specs.Sought.{partMeaning, Sized}
 use Rattle.mrd_stream.specs.Places.{Located}
-use Rattle.mrd_cut.specs.Places.{partAt}
+use Rattle.mrd_cut.specs.CutPlaces.{partAt}
 use Rattle.mrd_cut.specs.Inside.{Inside}
 use Rattle.mrd_record.specs.AtCursor.{LiesIn}
 use Rattle.mrd_record.specs.RecordLaws.{fixed-long}

@@ -10,7 +10,7 @@ use Rattle.mrd_format.specs.Content.{extentOf}
 use Rattle.mrd_parts.specs.declared.parts.Part.{Part}
 use Rattle.mrd_parts.specs.Sought.{partMeaning}
 use Rattle.mrd_stream.specs.Places.{Located, place}
-use Rattle.mrd_cut.specs.Places.{partAt}
+use Rattle.mrd_cut.specs.CutPlaces.{partAt}
 use Rattle.mrd_views.specs.declared.views.Span.{Span}
 use Rattle.mrd_views.specs.declared.views.ViewPlace.{ViewPlace}
 use Rattle.mrd_views.specs.declared.views.ViewPlace.the-variants.{At, Stream, Refused}
@@ -46,7 +46,7 @@ startOf (stream f r b) = 0
 startOf (number n) = 0
 
 -- what each case of an answered place says
-abbrev pub toldView : ViewPlace → Answer Span
-toldView (At x) = answered x
-toldView (Stream r) = stream (r .number) (r .record) (r .byte)
-toldView (Refused n) = number n
+abbrev pub viewMeaning : ViewPlace → Answer Span
+viewMeaning (At x) = answered x
+viewMeaning (Stream r) = stream (r .number) (r .record) (r .byte)
+viewMeaning (Refused n) = number n

@@ -2,7 +2,7 @@
 ghost use mathlib.Core.Path.{_≡_};
 ghost use Prim.Native.Nat.{_+_};
 ghost use Rattle.mrd_record.specs.AtCursor.{placeAt};
-ghost use Rattle.mrd_views.specs.Views.{viewBy, shown, startOf, toldView};
+ghost use Rattle.mrd_views.specs.Views.{viewBy, shown, startOf, viewMeaning};
 use crate::views::ViewPlace;
 use crate::views::placed_view;
 use crate::views::viewed;
@@ -13,7 +13,7 @@ use mrd_record::place_at;
 // Where a part of the record lies that is due at c; the stream's refusal where its message is refused, 16
 // where none is left.
 pub fn view_place_at(c: Cursor, s: &[u8], part: Part) -> ViewPlace
-    ensures { λ r. ⌜ toldView r ≡ viewBy (placeAt c (now (s .entry))) part (now (s .entry)) ⌝ }
+    ensures { λ r. ⌜ viewMeaning r ≡ viewBy (placeAt c (now (s .entry))) part (now (s .entry)) ⌝ }
 {
     let due = place_at(c, s);
     placed_view(due, s, part)

@@ -4,18 +4,18 @@ ghost use Prim.Native.Nat.{_+_, _<_, _≤_, _^_};
 ghost use lib.ListN.{take, drop};
 ghost use lib.ListN.{length as List·length};
 ghost use Rattle.mrd_logic.specs.Answer.{answered};
-ghost use Rattle.mrd_stream.specs.Told.{toldRecord, toldPlaced};
+ghost use Rattle.mrd_stream.specs.ReaderMeaning.{recordMeaning, placedMeaning};
 ghost use Rattle.mrd_cut.specs.Inside.{Inside};
 ghost use Rattle.mrd_parts.specs.Sought.{soughtMeaning};
 ghost use Rattle.mrd_record.specs.AtCursor.{LiesIn};
-ghost use Rattle.mrd_views.specs.Views.{viewOf, viewBy, shownAt, shown, startOf, toldView};
+ghost use Rattle.mrd_views.specs.Views.{viewOf, viewBy, shownAt, shown, startOf, viewMeaning};
 ghost use Rattle.mrd_views.specs.ViewLaws.{ViewIn};
 use mrd_format::refusal;
 use mrd_parts::Part;
 use mrd_parts::Sought;
 use mrd_record::fixed_part;
 use mrd_stream::Placed;
-use mrd_stream::Record;
+use mrd_stream::PlacedRecord;
 use mrd_stream::Refusal;
 
 // Where a view lies in the stream: its first byte and its length.
@@ -35,7 +35,7 @@ pub enum ViewPlace {
 
 // Where a part of record n lies. One walk over the stream.
 pub fn view_place(s: &[u8], n: usize, part: Part) -> ViewPlace
-    ensures { λ r. ⌜ toldView r ≡ viewOf (now (s .entry)) n part ⌝ }
+    ensures { λ r. ⌜ viewMeaning r ≡ viewOf (now (s .entry)) n part ⌝ }
 {
     let placed = mrd_stream::place(s, n);
     placed_view(placed, s, part)
@@ -53,8 +53,8 @@ pub fn view(s: &[u8], n: usize, part: Part) -> &[u8]
 
 // Where a part of the record lies whose place was answered.
 pub(crate) fn placed_view(placed: Placed, s: &[u8], part: Part) -> ViewPlace
-    requires { ⌜ LiesIn (now s) (toldPlaced placed) ⌝ }
-    ensures { λ r. ⌜ toldView r ≡ viewBy (toldPlaced placed) part (now (s .entry)) ⌝ }
+    requires { ⌜ LiesIn (now s) (placedMeaning placed) ⌝ }
+    ensures { λ r. ⌜ viewMeaning r ≡ viewBy (placedMeaning placed) part (now (s .entry)) ⌝ }
 {
     match placed {
         Placed::Found(here) => record_view(s, here, part),
@@ -65,9 +65,9 @@ pub(crate) fn placed_view(placed: Placed, s: &[u8], part: Part) -> ViewPlace
 
 // The part of s that lies at this place, or the empty part at the front of s.
 pub(crate) fn viewed(place: ViewPlace, s: &[u8]) -> &[u8]
-    requires { ⌜ ViewIn (now s) (toldView place) ⌝ }
-    ensures { λ r. ⌜ now r ≡ shown (toldView place) (now (s .entry)) ⌝ }
-    ensures { λ r. ⌜ (r .ptr .0 ≡ s .entry .ptr .0) × (r .ptr .1 ≡ s .entry .ptr .1 + startOf (toldView place)) ⌝ }
+    requires { ⌜ ViewIn (now s) (viewMeaning place) ⌝ }
+    ensures { λ r. ⌜ now r ≡ shown (viewMeaning place) (now (s .entry)) ⌝ }
+    ensures { λ r. ⌜ (r .ptr .0 ≡ s .entry .ptr .0) × (r .ptr .1 ≡ s .entry .ptr .1 + startOf (viewMeaning place)) ⌝ }
 {
     match place {
         ViewPlace::At(span) => spanned(s, span.start, span.length),
@@ -87,9 +87,9 @@ fn spanned(s: &[u8], start: usize, length: usize) -> &[u8]
 }
 
 // Where a part of a record that lies in s is.
-fn record_view(s: &[u8], here: Record, part: Part) -> ViewPlace
-    requires { ⌜ Inside (now s) (toldRecord here) ⌝ }
-    ensures { λ r. ⌜ toldView r ≡ viewBy (answered (toldRecord here)) part (now (s .entry)) ⌝ }
+fn record_view(s: &[u8], here: PlacedRecord, part: Part) -> ViewPlace
+    requires { ⌜ Inside (now s) (recordMeaning here) ⌝ }
+    ensures { λ r. ⌜ viewMeaning r ≡ viewBy (answered (recordMeaning here)) part (now (s .entry)) ⌝ }
 {
     let place = here.place;
     let shape = here.shape;
@@ -100,7 +100,7 @@ fn record_view(s: &[u8], here: Record, part: Part) -> ViewPlace
 // A part's place in its message, from the message's start on.
 fn shifted(sought: Sought, start: usize) -> ViewPlace
     requires { ⌜ startOf (shownAt (soughtMeaning sought) start) < 2 ^ 64 ⌝ }
-    ensures { λ r. ⌜ toldView r ≡ shownAt (soughtMeaning sought) start ⌝ }
+    ensures { λ r. ⌜ viewMeaning r ≡ shownAt (soughtMeaning sought) start ⌝ }
 {
     match sought {
         Sought::Lies(extent) => {

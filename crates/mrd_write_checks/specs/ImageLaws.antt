@@ -9,7 +9,7 @@ use lib.ListN.{length, take, drop, length-take, drop-of-length-le}
 use lib.Seq.{take-length, take-at, drop-drop}
 use Rattle.mrd_numbers.specs.Little.{toBytes}
 use Rattle.mrd_numbers.specs.Laws.{num-append}
-use Rattle.mrd_numbers.specs.PutLaws.{read-after-write}
+use Rattle.mrd_numbers.specs.HalfLaws.{read-after-write}
 use Rattle.mrd_format.specs.declared.kind.Kind.the-variants.{Image}
 use Rattle.mrd_format.specs.Elements.{width}
 use Rattle.mrd_format.specs.Message as message
@@ -17,7 +17,7 @@ use Rattle.mrd_format.specs.Image as image
 use Rattle.mrd_write_checks.specs.declared.lengths.Lengths.{Lengths}
 use Rattle.mrd_write_checks.specs.WriteChecks.{ownChecks, sizeOf, dueLengths}
 use Rattle.mrd_write_checks.specs.Sized.{sized, sizedBy}
-use Rattle.mrd_write_checks.specs.JudgeLaws.{sized-headed}
+use Rattle.mrd_write_checks.specs.GivenLaws.{sized-headed}
 
 module _ (h : List ℕ) (a : ℕ) (e : length h ≡ 198) (fits : a < 256 ^ 8) where
   -- a field of the header, and the length after it

@@ -1,4 +1,4 @@
 pub mod WriteChecks
 pub mod Sized
-pub mod JudgeLaws
+pub mod GivenLaws
 pub mod ImageLaws

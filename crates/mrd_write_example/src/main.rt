@@ -1,5 +1,7 @@
-// Writes a small stream message by message, each from the position that the one before it gave, and
-// has the reader check it.
+// Writes a small stream message by message, each from the position that the one before it gave, has the
+// reader check it, and shows what the views of its records are.
+mod views;
+
 use libc::STDOUT_FILENO;
 use mrd_format::Kind;
 use mrd_stream::Checked;
@@ -69,14 +71,15 @@ fn put_header(out: &mut [u8], position: usize) -> usize {
     after(written, position)
 }
 
-// An acquisition of four samples in one of two channels, with no trajectory.
+// An acquisition of four samples in one of two channels, with no trajectory. Its samples, 8 bytes each, are words
+// here, so that they can be read where they are shown.
 fn put_readout(out: &mut [u8], position: usize) -> usize {
     let mut header = [0u8; 340];
     header[0] = 1;
     header[34] = 4;
     header[36] = 2;
     header[38] = 1;
-    let samples = [7u8; 32];
+    let samples = b"sample 0sample 1sample 2sample 3";
     let id = Kind::ACQUISITION;
     let written = mrd_writer::write(
         id,
@@ -84,7 +87,7 @@ fn put_readout(out: &mut [u8], position: usize) -> usize {
         b"",
         b"",
         b"",
-        &samples,
+        samples,
         b"",
         b"",
         b"",
@@ -116,4 +119,5 @@ fn read_back(out: &[u8], end: usize) {
         }
     }
     io::write_all(STDOUT_FILENO, b"\n");
+    views::show(&out[0..end]);
 }

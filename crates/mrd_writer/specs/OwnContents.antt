@@ -15,7 +15,7 @@ use Rattle.mrd_numbers.specs.Little.{toBytes, Bytes}
 use Rattle.mrd_numbers.specs.ByteLaws.{bytes-take, bytes-drop, write-num}
 use Rattle.mrd_logic.specs.Checks.{first}
 use Rattle.mrd_logic.specs.CheckLaws.{first-passed}
-use Rattle.mrd_format.specs.CheckLaws.{own-numbered}
+use Rattle.mrd_format.specs.OwnCheckLaws.{own-numbered}
 use Rattle.mrd_format.specs.declared.kind.Kind.{Kind}
 use Rattle.mrd_format.specs.declared.kind.Kind.the-variants.{ConfigurationName, ConfigurationText, HeaderText, Close, Text, Acquisition, Image, Waveform}
 use Rattle.mrd_format.specs.Segments.{nameLength}

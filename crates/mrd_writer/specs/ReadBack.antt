@@ -26,7 +26,7 @@ use Rattle.mrd_cursor.specs.Cursors.{maxMessages, after}
 use Rattle.mrd_stream.specs.Walk.{message, walk, from}
 use Rattle.mrd_cut.specs.Walked.{walk-well}
 use Rattle.mrd_write_checks.specs.WriteChecks.{lengthsOf}
-use Rattle.mrd_write_checks.specs.JudgeLaws.{answered-not-number, unless-answered, contents-numbered}
+use Rattle.mrd_write_checks.specs.GivenLaws.{answered-not-number, unless-answered, contents-numbered}
 use Rattle.mrd_writer.specs.Write.{sizeGiven, givenChecks, writeChecks, answerAs, outputAs, writeAnswer, writeOutput}
 use Rattle.mrd_writer.specs.Sound.{Sound, passed-sound}
 use Rattle.mrd_writer.specs.Written.{message-length, written-well}

@@ -8,7 +8,7 @@ use lib.ListN.{length, length-append, length-replicate}
 use lib.Dec.{ltb}
 use borrow.Author.Tests.{eqb-true, ltb-false, not-false}
 use Rattle.bytes.specs.Bytes.{indexOf}
-use Rattle.mrd_numbers.specs.WriteLaws.{length-toBytes}
+use Rattle.mrd_numbers.specs.ToBytesLaws.{length-toBytes}
 use Rattle.mrd_logic.specs.Every.{Every}
 use Rattle.mrd_logic.specs.Choice.{both, neither}
 use Rattle.mrd_logic.specs.Answer.{answered}
@@ -22,7 +22,7 @@ use Rattle.mrd_format.specs.Parts.{Contents}
 use Rattle.mrd_format.specs.Content.{fixedOf, bodyOf, contentOf}
 use Rattle.mrd_write_checks.specs.declared.lengths.Lengths.{Lengths}
 use Rattle.mrd_write_checks.specs.WriteChecks.{nameUnfit, ownChecks, bodyLength, sizeOf, lengthsOf, dueLengths, sameLengths, sizedChecks, contentsChecks, judged}
-use Rattle.mrd_write_checks.specs.JudgeLaws.{unless-answered, contents-numbered}
+use Rattle.mrd_write_checks.specs.GivenLaws.{unless-answered, contents-numbered}
 use Rattle.mrd_put.specs.Room.{Ready}
 use Rattle.mrd_writer.specs.Write.{judgedContents, sizeGiven, givenChecks}
 

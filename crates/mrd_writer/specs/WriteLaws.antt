@@ -8,7 +8,7 @@ use lib.Dec.{ltb}
 use lib.ListN.{length, drop}
 use borrow.Author.Tests.{lt-ltb, le-ltb}
 use Rattle.mrd_numbers.specs.Little.{toBytes}
-use Rattle.mrd_numbers.specs.Stored.{stored, front, lentFrom, returned, stored-next, stored-lent}
+use Rattle.mrd_numbers.specs.Stored.{stored, front, partFrom, returned, stored-next, stored-part}
 use Rattle.mrd_logic.specs.Answer.{Answer, answered, number}
 use Rattle.mrd_logic.specs.Checks.{Check, _when_, first}
 use Rattle.mrd_format.specs.declared.kind.Kind.{Kind}
@@ -17,7 +17,7 @@ use Rattle.mrd_format.specs.Kinds.{idOf, identified}
 use Rattle.mrd_format.specs.Parts.{Contents}
 use Rattle.mrd_format.specs.Content.{contentOf, messageOf}
 use Rattle.mrd_write_checks.specs.WriteChecks.{lengthsOf, unless, judged}
-use Rattle.mrd_write_checks.specs.JudgeLaws.{unless-number, unless-passed, contents-numbered}
+use Rattle.mrd_write_checks.specs.GivenLaws.{unless-number, unless-passed, contents-numbered}
 use Rattle.mrd_put.specs.Room.{Ready}
 use Rattle.mrd_writer.specs.Write.{judgedContents, sizeGiven, givenChecks, writeChecks, answerAs, outputAs, writeAnswer, writeOutput}
 use Rattle.mrd_writer.specs.Sound.{passed-sound, judged-answered, content-length, sound-ready}
@@ -63,14 +63,14 @@ module _ (k : Kind) (c : Contents) (at : ℕ) (o : List ℕ) where
         (sound-ready k c s, rw (content-length k c s, d .1) h)
 
     -- the id put into the part from the position on, and the content into the part after it
-    pub room : at + z ≤ length o → (id : ℕ) (x y : List ℕ) → id ≡ idOf k → x ≡ toBytes 2 id ++ drop 2 (lentFrom at o) →
-        y ≡ front (contentOf k c) (lentFrom (at + 2) (returned at o x)) → Ends k c at o (answered (at + z)) (returned (at + 2) (returned at o x) y)
+    pub room : at + z ≤ length o → (id : ℕ) (x y : List ℕ) → id ≡ idOf k → x ≡ toBytes 2 id ++ drop 2 (partFrom at o) →
+        y ≡ front (contentOf k c) (partFrom (at + 2) (returned at o x)) → Ends k c at o (answered (at + z)) (returned (at + 2) (returned at o x) y)
     unfolding outputAs messageOf
     room h id x y i p q =
         let a : answerAs (Known k) c at o ≡ answered (at + z) = last ∙ rw (le-ltb _ _ h) in
-        let first : returned at o x ≡ stored at (toBytes 2 id) o = stored-lent at o (toBytes 2 id) x p in
+        let first : returned at o x ≡ stored at (toBytes 2 id) o = stored-part at o (toBytes 2 id) x p in
         let second : returned (at + 2) (returned at o x) y ≡ stored (at + 2) (contentOf k c) (returned at o x) =
-        stored-lent (at + 2) (returned at o x) (contentOf k c) y q in
+        stored-part (at + 2) (returned at o x) (contentOf k c) y q in
         let whole : stored (at + 2) (contentOf k c) (stored at (toBytes 2 id) o) ≡ stored at (toBytes 2 id ++ contentOf k c) o =
         stored-next at (toBytes 2 id) (contentOf k c) o (omega (arith, within h .1)) in
         (sym a, rw (a, ← i) (second ∙ ap (stored (at + 2) (contentOf k c)) first ∙ whole))

@@ -12,7 +12,7 @@ use lib.Seq.{take-at}
 use borrow.Author.Tests.{lt-leb}
 use Rattle.bytes.specs.Bytes.{indexOf, indexAfter}
 use Rattle.mrd_numbers.specs.Little.{toBytes, num}
-use Rattle.mrd_numbers.specs.PutLaws.{read-after-write}
+use Rattle.mrd_numbers.specs.HalfLaws.{read-after-write}
 use Rattle.mrd_logic.specs.Checks.{first}
 use Rattle.mrd_logic.specs.CheckLaws.{passed-first}
 use Rattle.mrd_format.specs.declared.kind.Kind.{Kind}

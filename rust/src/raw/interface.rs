@@ -125,6 +125,12 @@ const _: fn(mrd_cursor) -> usize = |of| of.start;
 const _: () = assert!(offset_of!(mrd_cursor, phase) == 16);
 const _: fn(mrd_cursor) -> u32 = |of| of.phase;
 
+const _: () = assert!(size_of::<mrd_cursor_answer>() == 32);
+const _: () = assert!(offset_of!(mrd_cursor_answer, refusal) == 0);
+const _: fn(mrd_cursor_answer) -> u32 = |of| of.refusal;
+const _: () = assert!(offset_of!(mrd_cursor_answer, cursor) == 8);
+const _: fn(mrd_cursor_answer) -> mrd_cursor = |of| of.cursor;
+
 const _: () = assert!(size_of::<mrd_step>() == 144);
 const _: () = assert!(offset_of!(mrd_step, ended) == 0);
 const _: fn(mrd_step) -> bool = |of| of.ended;
@@ -186,6 +192,8 @@ const _: unsafe extern "C" fn(
     usize,
 ) -> mrd_matched = mrd_columns_match;
 const _: unsafe extern "C" fn(u32, u32) -> i32 = mrd_counter_step;
+const _: unsafe extern "C" fn(*const u64, usize, *const u16, usize, usize) -> mrd_cursor_answer =
+    mrd_cursor_for;
 const _: unsafe extern "C" fn(*const u8, usize, usize, usize) -> mrd_field_answer = mrd_field;
 const _: unsafe extern "C" fn(*const u8, usize, mrd_cursor, usize) -> mrd_field_answer =
     mrd_field_at;

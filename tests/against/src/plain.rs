@@ -201,7 +201,8 @@ pub fn steps(tally: &Tally, bytes: &[u8], read: &crate::walk::Read) -> Outcome {
     tally.same_value(question, raw::next(bytes, cursor), expected)
 }
 
-/// Outputs without any room: every writing call refuses, and its length or position is 0.
+/// Outputs without any room: every writing call refuses, and its length or position is 0. Columns without a place
+/// give no cursor.
 pub fn refused_outputs(tally: &Tally, bytes: &[u8]) -> Outcome {
     let refused = match second::check(bytes) {
         Ok(_) => Refused::Other(14),
@@ -221,6 +222,12 @@ pub fn refused_outputs(tally: &Tally, bytes: &[u8]) -> Outcome {
     tally.same_value(|| question("mrd_write_index"), index, expected)?;
     let columns = raw::fill_columns(bytes, &mut [], &mut [], &mut []);
     tally.same_value(|| question("mrd_fill_columns"), columns, expected)?;
+    let cursor = raw::cursor_for(&[], &[], 0);
+    let expected = raw::mrd_cursor_answer {
+        refusal: 16,
+        cursor: raw::mrd_cursor::default(),
+    };
+    tally.same_value(|| "mrd_cursor_for no columns".into(), cursor, expected)?;
     let close = raw::write(4, &[], [&[]; 7], &mut [], 0);
     let expected = raw::mrd_put {
         refusal: 14,

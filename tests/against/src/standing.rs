@@ -1,11 +1,12 @@
-//! The questions about the record where a walk stands, against the second reader's answers by number.
+//! The questions about the record where a walk stands, or where a cursor from the stream's own columns does, against
+//! the second reader's answers by number.
 
 use crate::asked::{name_of, second_view, Lent};
 use crate::tally::{Family, Outcome, Tally};
 use crate::told;
 use crate::walk::Read;
-use cotterleaf::{Cursor, Part, Step, Stream};
-use second_reader::{self as second, Refused};
+use cotterleaf::{Cursor, Part, Refusal, Step, Stream};
+use second_reader as second;
 
 /// The cursor before record n, or that of the end or the fault where the stream has fewer.
 fn cursor_before(stream: &Stream, n: u64) -> Cursor {
@@ -19,8 +20,8 @@ fn cursor_before(stream: &Stream, n: u64) -> Cursor {
     cursor
 }
 
-/// A view and a field where the walk stands before record n. Of a refused stream the answer at the fault alone is
-/// compared: the second reader gives no views of the records before it.
+/// A view and a field where the walk stands before record n, and at the cursor for it from the columns. Of a refused
+/// stream the answer at the fault alone is compared: the second reader gives no views of the records before it.
 pub fn asked_at(
     tally: &mut Tally,
     bytes: &[u8],
@@ -28,35 +29,44 @@ pub fn asked_at(
     (n, part): (u64, Part),
     (m, offset): (u64, u64),
 ) -> Outcome {
+    let stream = Stream::new(bytes);
     if let Err(refusal) = read.answer {
-        let fault = Err(Refused::from(refusal));
-        view_at(tally, bytes, read.count(), part, fault)?;
-        return field_at(
-            tally,
-            bytes,
-            read.count(),
-            offset,
-            Err(Refused::from(refusal)),
-        );
+        let cursor = cursor_before(&stream, read.count());
+        view_at(tally, bytes, Ok(cursor), part, Err(refusal.into()))?;
+        return field_at(tally, bytes, Ok(cursor), offset, Err(refusal.into()));
     }
-    let lent = Lent::None;
-    let by_number = second_view(bytes, lent.second(), n, part);
-    view_at(tally, bytes, n, part, by_number)?;
-    let by_number = second::field(bytes, lent.second(), m, offset);
-    field_at(tally, bytes, m, offset, by_number)
+    let (starts, ids) = columns(bytes, read);
+    let walked = |n| Ok(cursor_before(&stream, n));
+    let indexed = |n| Cursor::for_record(&starts, &ids, n as usize);
+    let none = Lent::None;
+    let by_number = second_view(bytes, none.second(), n, part);
+    view_at(tally, bytes, walked(n), part, by_number)?;
+    view_at(tally, bytes, indexed(n), part, by_number)?;
+    let by_number = second::field(bytes, none.second(), m, offset);
+    field_at(tally, bytes, walked(m), offset, by_number)?;
+    field_at(tally, bytes, indexed(m), offset, by_number)
+}
+
+/// Starts and ids of an accepted stream, as the second reader has them.
+fn columns(bytes: &[u8], read: &Read) -> (Vec<u64>, Vec<u16>) {
+    let count = read.records.len();
+    let (mut starts, mut ids) = (vec![0; count], vec![0; count]);
+    let filled = second::fill_columns(bytes, &mut starts, &mut ids, &mut vec![0; count]);
+    assert_eq!(filled, Ok(count as u64));
+    (starts, ids)
 }
 
 fn view_at(
     tally: &mut Tally,
     bytes: &[u8],
-    n: u64,
+    cursor: Result<Cursor, Refusal>,
     part: Part,
     expected: told::Told<second::Part>,
 ) -> Outcome {
     let stream = Stream::new(bytes);
-    let cursor = cursor_before(&stream, n);
-    let place = stream.view_place_at(cursor, part).map(told::part);
-    let view = stream.view_at(cursor, part);
+    let place = cursor.and_then(|cursor| stream.view_place_at(cursor, part));
+    let place = place.map(told::part);
+    let view = cursor.and_then(|cursor| stream.view_at(cursor, part));
     let by_address = view.map(|view| told::part_by_address(bytes, view));
     let question = || format!("{part:?} at {cursor:?}");
     if expected.is_ok() {
@@ -71,13 +81,13 @@ fn view_at(
 fn field_at(
     tally: &mut Tally,
     bytes: &[u8],
-    n: u64,
+    cursor: Result<Cursor, Refusal>,
     offset: u64,
     expected: told::Told<second::Field>,
 ) -> Outcome {
     let stream = Stream::new(bytes);
-    let cursor = cursor_before(&stream, n);
-    let field = stream.field_at(cursor, offset as usize).map(told::field);
+    let field = cursor.and_then(|cursor| stream.field_at(cursor, offset as usize));
+    let field = field.map(told::field);
     let question = || format!("field {offset} at {cursor:?}");
     tally.same(
         Family::Field,

@@ -5,8 +5,8 @@ use mathlib.Core.Path.{sym, ap, _∙_}
 use borrow.Author.Needs.{needs}
 use denote.Ref.{now}
 use lib.ListN.{length}
-use Rattle.mrd_stream.specs.StepLaws.{on-less, step-handed}
-use Rattle.mrd_stream.specs.Told.{toldStep}
+use Rattle.mrd_stream.specs.StepLaws.{on-less, step-yields}
+use Rattle.mrd_stream.specs.ReaderMeaning.{stepMeaning}
 use Rattle.mrd_list.proofs.list_records.Statement.{statement}
 use Rattle.mrd_list.proofs.list_records.Tie as tie
 
@@ -36,7 +36,7 @@ loop-less c =
     let a = c .before .before .before .before .before .before .before .before .args in
     let loop = c .before .before .before .before .before .loop in
     let next = c .before .before .before .before .next in
-    on-less (now (a .s)) (step-handed (loop .c) (now (a .s)) (sym (next .ensures) ∙ ap toldStep (c .before .before .step .given .1)))
+    on-less (now (a .s)) (step-yields (loop .c) (now (a .s)) (sym (next .ensures) ∙ ap stepMeaning (c .before .before .step .given .1)))
 
 loop-again : tie.Need-loop-again Inv-loop μ-loop
 loop-again c = search needs

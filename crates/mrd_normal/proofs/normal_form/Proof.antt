@@ -6,7 +6,7 @@ use denote.Ref.{now}
 use lib.ListN.{length}
 use Rattle.mrd_stream.specs.Normal.{normal}
 use Rattle.mrd_stream.specs.Output.{stream-refused}
-use Rattle.mrd_stream.specs.Told.{toldChecked}
+use Rattle.mrd_stream.specs.ReaderMeaning.{checkedMeaning}
 use Rattle.mrd_normal.proofs.normal_form.Statement.{statement}
 use Rattle.mrd_normal.proofs.normal_form.Tie as tie
 
@@ -19,7 +19,7 @@ enum-told c = search needs
 write-requires : tie.Need-write-requires
 write-requires c κs =
     let checked = c .before .enum-told .given in
-    (checked .0 .0, sym (c .before .before .before .check .ensures) ∙ ap toldChecked (checked .1))
+    (checked .0 .0, sym (c .before .before .before .check .ensures) ∙ ap checkedMeaning (checked .1))
 
 enum-known-checked : tie.Need-enum-known-checked
 enum-known-checked c = search needs
@@ -35,7 +35,7 @@ returns-2 c =
     let check = c .before .before .before in
     let a = check .before .before .before .args in
     stream-refused (now (a .s)) (length (now (a .s))) (normal (now (a .s))) (now (a .out))
-    (sym (check .check .ensures) ∙ ap toldChecked (c .before .checked .given .1))
+    (sym (check .check .ensures) ∙ ap checkedMeaning (c .before .checked .given .1))
 
 pub normal-form-spec : {M : Type 1} → statement M
 normal-form-spec =

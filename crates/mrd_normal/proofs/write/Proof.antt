@@ -5,7 +5,7 @@ use denote.Ref.{now}
 use lib.ListN.{length}
 use Rattle.mrd_stream.specs.Normal.{normal}
 use Rattle.mrd_stream.specs.Output.{output-short}
-use Rattle.mrd_normal.specs.WrittenLaws.{copied, all-written}
+use Rattle.mrd_normal.specs.NormalOutputLaws.{copied, all-written}
 use Rattle.mrd_normal.proofs.write.Statement.{statement}
 use Rattle.mrd_normal.proofs.write.Tie as tie
 

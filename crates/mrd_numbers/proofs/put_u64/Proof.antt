@@ -2,7 +2,7 @@
 -- Assumes nothing.
 use denote.Ref.{now}
 use borrow.Author.Needs.{needs}
-use Rattle.mrd_numbers.specs.PutLaws.{halves-stored}
+use Rattle.mrd_numbers.specs.HalfLaws.{halves-stored}
 use Rattle.mrd_numbers.proofs.put_u64.Statement.{statement}
 use Rattle.mrd_numbers.proofs.put_u64.Tie as tie
 

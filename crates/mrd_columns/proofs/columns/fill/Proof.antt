@@ -3,7 +3,6 @@
 use mathlib.Core.Path.{refl, sym}
 use borrow.Author.Needs.{needs}
 use denote.Ref.{now}
-use lib.ListN.{length}
 use Rattle.mrd_index.specs.Counted.{entries-count}
 use Rattle.mrd_columns.specs.ColumnLaws.{column-short, columns-fit, rooms, filled}
 use Rattle.mrd_columns.proofs.columns.fill.Statement.{statement}

@@ -6,8 +6,8 @@ use mathlib.Core.Path.{sym, ap, _∙_}
 use borrow.Author.Needs.{needs}
 use denote.Ref.{now}
 use lib.ListN.{length}
-use Rattle.mrd_stream.specs.StepLaws.{Passes, step-handed, on-less}
-use Rattle.mrd_stream.specs.Told.{toldRecord, toldStep}
+use Rattle.mrd_stream.specs.StepLaws.{Passes, step-yields, on-less}
+use Rattle.mrd_stream.specs.ReaderMeaning.{recordMeaning, stepMeaning}
 use Rattle.mrd_index.specs.Entries.{passes-within}
 use Rattle.mrd_index.specs.Filling.{same-size}
 use Rattle.mrd_columns.specs.ColumnLaws.{FillingAll, start, has-place, next, finish}
@@ -35,8 +35,8 @@ enum-known-step c = search needs
 passed : (c : tie.After-step Inv-loop μ-loop) →
     let given = c .step .given .0 in
     Passes (c .before .before .before .loop .c) (now (c .before .before .before .before .before .before .before .before .before .args .s))
-    (toldRecord (given .0)) (given .1 .0)
-passed c = step-handed _ _ (sym (c .before .before .next .ensures) ∙ ap toldStep (c .step .given .1))
+    (recordMeaning (given .0)) (given .1 .0)
+passed c = step-yields _ _ (sym (c .before .before .next .ensures) ∙ ap stepMeaning (c .step .given .1))
 
 entry-of-requires : tie.Need-entry-of-requires Inv-loop μ-loop
 entry-of-requires c κs = passes-within (passed (c .before .before))
@@ -65,7 +65,7 @@ same-length-3 : tie.Need-same-length-3 Inv-loop μ-loop
 same-length-3 c = same-size (c .before .before .before .loop .inv .at-counters)
 
 returns : tie.Need-returns Inv-loop μ-loop
-returns c = finish (c .before .before .before .loop .inv) (sym (c .before .before .next .ensures) ∙ ap toldStep (c .enum-told .given .1))
+returns c = finish (c .before .before .before .loop .inv) (sym (c .before .before .next .ensures) ∙ ap stepMeaning (c .enum-told .given .1))
 
 pub put-places-spec : {M : Type 1} → statement M
 put-places-spec =

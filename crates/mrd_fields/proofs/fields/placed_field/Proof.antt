@@ -4,10 +4,10 @@ use mathlib.Core.Path.{_≡_, ap, _∙_}
 use denote.Ref.{now}
 use Rattle.mrd_format.specs.Message.{fixedPart}
 use Rattle.mrd_format.specs.Shapes.{kindOf}
-use Rattle.mrd_stream.specs.Told.{toldRecord}
-use Rattle.mrd_cut.specs.Places.{partAt}
+use Rattle.mrd_stream.specs.ReaderMeaning.{recordMeaning}
+use Rattle.mrd_cut.specs.CutPlaces.{partAt}
 use Rattle.mrd_element.specs.Field as header
-use Rattle.mrd_element.specs.Told.{told}
+use Rattle.mrd_element.specs.ValueMeaning.{valueMeaning}
 use Rattle.mrd_fields.specs.Fields.{valued}
 use Rattle.mrd_record.specs.RecordLaws.{fixed-long}
 use borrow.Author.Needs.{needs}
@@ -28,7 +28,7 @@ field-requires c κs =
     let placed = c .before .before .before .placed in
     let start = c .before .before .before .before .before .before in
     rw (c .before .kind .ensures, c .fixed-part .ensures)
-    (fixed-long (now (start .args .s)) (toldRecord (placed .given .0 .0)) (rw (placed .given .1) at (start .pre)))
+    (fixed-long (now (start .args .s)) (recordMeaning (placed .given .0 .0)) (rw (placed .given .1) at (start .pre)))
 
 valued-requires : tie.Need-valued-requires
 valued-requires c κs = c .field .ensures .apart
@@ -46,8 +46,8 @@ returns c =
     let here = placed .given .0 .0 in
     let k = c .before .before .before .kind .ensures in
     let h = c .before .before .fixed-part .ensures in
-    let says : told (c .before .field .result) ≡
-    header.fieldOf (kindOf (here .shape)) (fixedPart (kindOf (here .shape)) (partAt (now (a .s)) (toldRecord here))) (a .offset) = cc
+    let says : valueMeaning (c .before .field .result) ≡
+    header.fieldOf (kindOf (here .shape)) (fixedPart (kindOf (here .shape)) (partAt (now (a .s)) (recordMeaning here))) (a .offset) = cc
     (c .before .field .ensures .says) in
     record { says = rw (placed .given .1) (c .valued .ensures .says ∙ ap valued says); apart = c .valued .ensures .apart }
 

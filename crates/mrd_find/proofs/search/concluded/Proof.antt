@@ -2,9 +2,9 @@
 -- Assumes nothing.
 use mathlib.Core.Path.{sym, ap}
 use borrow.Author.Needs.{needs}
-use Rattle.mrd_stream.specs.Told.{toldChecked}
+use Rattle.mrd_stream.specs.ReaderMeaning.{checkedMeaning}
 use Rattle.mrd_logic.specs.Answer.{unlessRefused}
-use Rattle.mrd_find.specs.Told.{told}
+use Rattle.mrd_find.specs.FoundMeaning.{foundMeaning}
 use Rattle.mrd_find.proofs.search.concluded.Statement.{statement}
 use Rattle.mrd_find.proofs.search.concluded.Tie as tie
 
@@ -20,7 +20,7 @@ returns c = search needs
 returns-2 : tie.Need-returns-2
 returns-2 c =
     let a = c .before .before .before .args in
-    sym (ap (λ v. unlessRefused (toldChecked v) (told (a .found))) (c .before .answer .given .1))
+    sym (ap (λ v. unlessRefused (checkedMeaning v) (foundMeaning (a .found))) (c .before .answer .given .1))
 
 pub concluded-spec : {M : Type 1} → statement M
 concluded-spec = tie.close (tie.spec enum-told enum-known-answer returns returns-2)

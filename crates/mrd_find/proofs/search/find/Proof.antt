@@ -13,7 +13,7 @@ use Rattle.mrd_format.specs.Acquisition.{countersOf}
 use Rattle.mrd_format.specs.IdentityLaws.{counters-length}
 use Rattle.mrd_format.specs.Shapes.{kindOf}
 use Rattle.mrd_stream.specs.StepLaws.{on-end}
-use Rattle.mrd_stream.specs.Told.{toldStep}
+use Rattle.mrd_stream.specs.ReaderMeaning.{stepMeaning}
 use Rattle.mrd_find.specs.Alike.{Alike, start, step, differs, all-same}
 use Rattle.mrd_find.specs.Find.{candidate}
 use Rattle.mrd_find.specs.FindLaws.{findIn, Finding, finding-start, Turn, turned, nearer, no-candidate, header-fits, fixed-there, Read, header-long, no-match, match-found}
@@ -153,7 +153,7 @@ returns-2 : tie.Need-returns-2 Inv-loop μ-loop Inv-records μ-records
 returns-2 c =
     let s = c .before .before in
     let a = s .before .before .before .before .before .before .before .args in
-    let over = sym (s .before .before .next .ensures) ∙ ap toldStep (s .step2 .given .1) in
+    let over = sym (s .before .before .next .ensures) ∙ ap stepMeaning (s .step2 .given .1) in
     c .concluded2 .ensures ∙ on-end (findIn (a .n) (now (a .counters))) (now (a .s)) (s .before .before .before .records .inv) over
 
 pub find-spec : {M : Type 1} → statement M

@@ -9,8 +9,8 @@ use denote.Ref.{now}
 use lib.ListN.{length}
 use Rattle.mrd_numbers.specs.Stored.{stored}
 use Rattle.mrd_stream.specs.Index.{Entry, entryField}
-use Rattle.mrd_stream.specs.StepLaws.{Passes, step-handed, on-less}
-use Rattle.mrd_stream.specs.Told.{toldRecord, toldStep}
+use Rattle.mrd_stream.specs.StepLaws.{Passes, step-yields, on-less}
+use Rattle.mrd_stream.specs.ReaderMeaning.{recordMeaning, stepMeaning}
 use Rattle.mrd_index.specs.Entries.{passes-within}
 use Rattle.mrd_index.specs.Filling.{inFile, Filling, start, same-size, room, next, finish}
 use Rattle.mrd_index.proofs.file.put_entries.Statement.{statement}
@@ -37,8 +37,8 @@ enum-known-step c = search needs
 passed : (c : tie.After-step Inv-loop μ-loop) →
     let step = c .step .given .0 in
     Passes (c .before .before .before .loop .c) (now (c .before .before .before .before .before .before .before .args .s))
-    (toldRecord (step .0)) (step .1 .0)
-passed c = step-handed _ _ (sym (c .before .before .next .ensures) ∙ ap toldStep (c .step .given .1))
+    (recordMeaning (step .0)) (step .1 .0)
+passed c = step-yields _ _ (sym (c .before .before .next .ensures) ∙ ap stepMeaning (c .step .given .1))
 
 fits : (c : tie.After-step Inv-loop μ-loop) → 16 + 17 * c .step .given .0 .0 .place .number + 17 ≤ length (c .before .before .before .loop .out)
 fits c = room (c .before .before .before .loop .inv) (passed c)
@@ -73,7 +73,7 @@ same-length : tie.Need-same-length Inv-loop μ-loop
 same-length c = same-size (c .before .before .before .loop .inv)
 
 returns : tie.Need-returns Inv-loop μ-loop
-returns c = finish (c .before .before .before .loop .inv) (sym (c .before .before .next .ensures) ∙ ap toldStep (c .enum-told .given .1))
+returns c = finish (c .before .before .before .loop .inv) (sym (c .before .before .next .ensures) ∙ ap stepMeaning (c .enum-told .given .1))
 
 pub put-entries-spec : {M : Type 1} → statement M
 put-entries-spec =

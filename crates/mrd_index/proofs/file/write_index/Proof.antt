@@ -6,7 +6,7 @@ use denote.Ref.{now}
 use lib.ListN.{length}
 use Rattle.mrd_stream.specs.Index.{index}
 use Rattle.mrd_stream.specs.Output.{stream-refused}
-use Rattle.mrd_stream.specs.Told.{toldChecked}
+use Rattle.mrd_stream.specs.ReaderMeaning.{checkedMeaning}
 use Rattle.mrd_index.proofs.file.write_index.Statement.{statement}
 use Rattle.mrd_index.proofs.file.write_index.Tie as tie
 
@@ -17,7 +17,7 @@ enum-known-checked : tie.Need-enum-known-checked
 enum-known-checked c = search needs
 
 write-requires : tie.Need-write-requires
-write-requires c κs = sym (c .before .before .before .before .check .ensures) ∙ ap toldChecked (c .before .before .checked .given .1)
+write-requires c κs = sym (c .before .before .before .before .check .ensures) ∙ ap checkedMeaning (c .before .before .checked .given .1)
 
 enum-known-checked-2 : tie.Need-enum-known-checked-2
 enum-known-checked-2 c = search needs
@@ -33,7 +33,7 @@ returns-2 c =
     let check = c .before .before .before in
     let a = check .before .before .before .args in
     let s = now (a .s) in
-    stream-refused s (length (index s)) (index s) (now (a .out)) (sym (check .check .ensures) ∙ ap toldChecked (c .before .checked2 .given .1))
+    stream-refused s (length (index s)) (index s) (now (a .out)) (sym (check .check .ensures) ∙ ap checkedMeaning (c .before .checked2 .given .1))
 
 pub write-index-spec : {M : Type 1} → statement M
 write-index-spec =

@@ -10,7 +10,7 @@ use Rattle.mrd_numbers.specs.Little.{toBytes}
 use Rattle.mrd_tagged.specs.Tagged.{heading}
 use Rattle.mrd_tagged.specs.TaggedLaws.{four-same}
 use Rattle.mrd_stream.specs.Index.{entryField}
-use Rattle.mrd_index_fields.specs.IndexFields.{toldEntry}
+use Rattle.mrd_index_fields.specs.IndexFields.{entryMeaning}
 use Rattle.mrd_index_fields.proofs.same.entry_same.Statement.{statement}
 use Rattle.mrd_index_fields.proofs.same.entry_same.Tie as tie
 
@@ -20,7 +20,7 @@ add-if1 c = search needs
 returns : tie.Need-returns
 returns c =
     let a = c .before .before .args in
-    sym (rest-short (now (a .file)) (entryField (toldEntry (a .entry))) (a .at) (omega arith) (c .if1 .taken))
+    sym (rest-short (now (a .file)) (entryField (entryMeaning (a .entry))) (a .at) (omega arith) (c .if1 .taken))
 
 add-u16-same : tie.Need-add-u16-same
 add-u16-same c = search needs

@@ -6,8 +6,8 @@ use mathlib.Core.Path.{sym, ap, _∙_}
 use borrow.Author.Needs.{needs}
 use denote.Ref.{now}
 use lib.ListN.{length}
-use Rattle.mrd_stream.specs.StepLaws.{Passes, step-handed, on-less}
-use Rattle.mrd_stream.specs.Told.{toldRecord, toldStep}
+use Rattle.mrd_stream.specs.StepLaws.{Passes, step-yields, on-less}
+use Rattle.mrd_stream.specs.ReaderMeaning.{recordMeaning, stepMeaning}
 use Rattle.mrd_index.specs.Entries.{passes-within, passes-number}
 use Rattle.mrd_index_match.specs.Compare.{given}
 use Rattle.mrd_index_match.specs.Comparing.{Comparing, start, next-same, next-other, counts, finish}
@@ -36,8 +36,8 @@ enum-known-step : tie.Need-enum-known-step Inv-loop μ-loop
 enum-known-step c = search needs
 
 passed : (c : tie.After-step Inv-loop μ-loop) →
-    Passes (c .before .before .before .loop .c) (now (c .before .before .before .before .before .before .before .before .before .before .args .s)) (toldRecord (c .step .given .0 .0)) (c .step .given .0 .1 .0)
-passed c = step-handed _ _ (sym (c .before .before .next .ensures) ∙ ap toldStep (c .step .given .1))
+    Passes (c .before .before .before .loop .c) (now (c .before .before .before .before .before .before .before .before .before .before .args .s)) (recordMeaning (c .step .given .0 .0)) (c .step .given .0 .1 .0)
+passed c = step-yields _ _ (sym (c .before .before .next .ensures) ∙ ap stepMeaning (c .step .given .1))
 
 record-same-requires : tie.Need-record-same-requires Inv-loop μ-loop
 record-same-requires c κs =
@@ -65,12 +65,12 @@ enum-known-step-2 c = search needs
 
 concluded-requires : tie.Need-concluded-requires Inv-loop μ-loop
 concluded-requires c κs =
-    counts (c .before .before .before .before .loop .inv) (sym (c .before .before .before .next .ensures) ∙ ap toldStep (c .before .step2 .given .1))
+    counts (c .before .before .before .before .loop .inv) (sym (c .before .before .before .next .ensures) ∙ ap stepMeaning (c .before .step2 .given .1))
 
 returns : tie.Need-returns Inv-loop μ-loop
 returns c =
     c .concluded .ensures ∙
-    finish (c .before .before .before .before .before .loop .inv) (sym (c .before .before .before .before .next .ensures) ∙ ap toldStep (c .before .before .step2 .given .1))
+    finish (c .before .before .before .before .before .loop .inv) (sym (c .before .before .before .before .next .ensures) ∙ ap stepMeaning (c .before .before .step2 .given .1))
 
 pub compare-spec : {M : Type 1} → statement M
 compare-spec =

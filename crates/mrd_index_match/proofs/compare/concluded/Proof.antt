@@ -3,7 +3,7 @@
 use mathlib.Core.Path.{sym, ap}
 use borrow.Author.Needs.{needs}
 use denote.Ref.{now}
-use Rattle.mrd_stream.specs.Told.{toldChecked}
+use Rattle.mrd_stream.specs.ReaderMeaning.{checkedMeaning}
 use Rattle.mrd_index_match.specs.Compare.{conclusion}
 use Rattle.mrd_index_match.proofs.compare.concluded.Statement.{statement}
 use Rattle.mrd_index_match.proofs.compare.concluded.Tie as tie
@@ -26,7 +26,7 @@ returns-2 c = rw (c .before .before .before .answer .given .1, ← c .before .en
 returns-3 : tie.Need-returns-3
 returns-3 c =
     let a = c .before .before .before .before .args in
-    sym (ap (λ v. conclusion (a .form) (now (a .file)) (a .same) (toldChecked v)) (c .before .answer2 .given .1))
+    sym (ap (λ v. conclusion (a .form) (now (a .file)) (a .same) (checkedMeaning v)) (c .before .answer2 .given .1))
 
 pub concluded-spec : {M : Type 1} → statement M
 concluded-spec =

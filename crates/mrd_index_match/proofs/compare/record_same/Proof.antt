@@ -1,6 +1,5 @@
 -- `mrd_index_match::compare::record_same` meets its contract: it goes by the form.
 -- Assumes nothing.
-use Prim.Native.Nat.{_+_, _*_}
 use mathlib.Core.Path.{ap, _∙_}
 use borrow.Author.Needs.{needs}
 use denote.Ref.{now}

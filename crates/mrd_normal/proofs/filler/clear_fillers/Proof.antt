@@ -7,9 +7,9 @@ use mathlib.Core.Path.{sym, ap, _∙_}
 use borrow.Author.Needs.{needs}
 use denote.Ref.{now}
 use lib.ListN.{length}
-use Rattle.mrd_numbers.specs.Stored.{length-lent}
+use Rattle.mrd_numbers.specs.Stored.{length-part}
 use Rattle.mrd_stream.specs.StepLaws.{on-less}
-use Rattle.mrd_stream.specs.Told.{toldStep}
+use Rattle.mrd_stream.specs.ReaderMeaning.{stepMeaning}
 use Rattle.mrd_normal.specs.Clearing.{Clearing, start, never-past, Turn, turn, next, same-size, finish}
 use Rattle.mrd_normal.proofs.filler.clear_fillers.Statement.{statement}
 use Rattle.mrd_normal.proofs.filler.clear_fillers.Tie as tie
@@ -40,7 +40,7 @@ returns : tie.Need-returns Inv-loop μ-loop
 returns c =
     let step = c .before .before .step .given in
     let within : step .0 .1 .0 .start ≤ length (c .before .before .before .before .before .loop .out) =
-    never-past (c .before .before .before .before .before .loop .inv) (sym (c .before .before .before .before .next .ensures) ∙ ap toldStep (step .1)) in
+    never-past (c .before .before .before .before .before .loop .inv) (sym (c .before .before .before .before .next .ensures) ∙ ap stepMeaning (step .1)) in
     absurd (omega (arith, within, c .if1 .taken))
 
 filler-requires : tie.Need-filler-requires Inv-loop μ-loop
@@ -56,7 +56,7 @@ turn-at c =
     let step = c .before .before .before .step .given in
     turn (step .0 .0)
     (c .before .before .before .before .before .before .loop .inv)
-    (sym (c .before .before .before .before .before .next .ensures) ∙ ap toldStep (step .1)) (c .filler .ensures)
+    (sym (c .before .before .before .before .before .next .ensures) ∙ ap stepMeaning (step .1)) (c .filler .ensures)
 
 sub-start : tie.Need-sub-start Inv-loop μ-loop
 sub-start c = turn-at c .fits
@@ -71,7 +71,7 @@ part-put-zeros-end : tie.Need-part-put-zeros-end Inv-loop μ-loop
 part-put-zeros-end c = omega arith
 
 put-zeros-requires : tie.Need-put-zeros-requires Inv-loop μ-loop
-put-zeros-requires c κs = rw length-lent (omega (arith, c .before .before .if1 .left, turn-at (c .before) .fits))
+put-zeros-requires c κs = rw length-part (omega (arith, c .before .before .if1 .left, turn-at (c .before) .fits))
 
 loop-less : tie.Need-loop-less Inv-loop μ-loop
 loop-less c = on-less
@@ -90,7 +90,7 @@ same-length-2 : tie.Need-same-length-2 Inv-loop μ-loop
 same-length-2 c = same-size (c .before .before .before .loop .inv)
 
 returns-2 : tie.Need-returns-2 Inv-loop μ-loop
-returns-2 c = finish (c .before .before .before .loop .inv) (sym (c .before .before .next .ensures) ∙ ap toldStep (c .enum-told .given .1))
+returns-2 c = finish (c .before .before .before .loop .inv) (sym (c .before .before .next .ensures) ∙ ap stepMeaning (c .enum-told .given .1))
 
 pub clear-fillers-spec : {M : Type 1} → statement M
 clear-fillers-spec =

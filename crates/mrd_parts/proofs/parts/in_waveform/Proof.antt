@@ -1,14 +1,13 @@
 -- `mrd_parts::parts::in_waveform` meets its contract: a waveform has its data, to its end, and no other part.
 -- Assumes nothing.
-use Prim.Native.Nat.{ℕ}
 use native.Mathlib.Omega.{arith}
-use mathlib.Core.Path.{_≡_, refl, ap, _∙_}
+use mathlib.Core.Path.{_≡_, refl, _∙_}
 use mathlib.Core.List.{[], _∷_}
 use borrow.Author.Needs.{needs}
 use denote.Ref.{now}
 use Rattle.mrd_format.specs.declared.kind.Kind.{Kind}
 use Rattle.mrd_parts.specs.declared.parts.Part.{Part}
-use Rattle.mrd_format.specs.Parts.{lacks, lies, extent}
+use Rattle.mrd_format.specs.Parts.{lacks, lies}
 use Rattle.mrd_format.specs.Content.{extentOf}
 use Rattle.mrd_parts.specs.PartLaws.{waveform-rest, waveform-data}
 use Rattle.mrd_parts.specs.Sought.{partMeaning}

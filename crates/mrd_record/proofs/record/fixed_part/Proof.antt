@@ -9,7 +9,7 @@ use lib.ListN.{take, drop}
 use Rattle.mrd_format.specs.Kinds.{fixedSize}
 use Rattle.mrd_format.specs.Shapes.{kindOf}
 use Rattle.mrd_stream.specs.Places.{place}
-use Rattle.mrd_stream.specs.Told.{toldRecord}
+use Rattle.mrd_stream.specs.ReaderMeaning.{recordMeaning}
 use Rattle.mrd_record.specs.RecordLaws.{fixed-place, fixed-fits}
 use Rattle.mrd_record.proofs.record.fixed_part.Statement.{statement}
 use Rattle.mrd_record.proofs.record.fixed_part.Tie as tie
@@ -27,7 +27,7 @@ add-to : tie.Need-add-to
 add-to c =
     let a = c .before .before .before .before .before .args in
     let pre = c .before .before .before .before .before .pre in
-    omega (arith, fixed-fits (now (a .s)) (toldRecord (a .here)) (pre), c .fixed-size .ensures ∙ ap fixedSize (c .before .kind .ensures))
+    omega (arith, fixed-fits (now (a .s)) (recordMeaning (a .here)) (pre), c .fixed-size .ensures ∙ ap fixedSize (c .before .kind .ensures))
 
 sub-result : tie.Need-sub-result
 sub-result c = search needs
@@ -39,7 +39,7 @@ part-result-end : tie.Need-part-result-end
 part-result-end c =
     let a = c .before .before .before .before .before .args in
     let pre = c .before .before .before .before .before .pre in
-    omega (arith, fixed-fits (now (a .s)) (toldRecord (a .here)) (pre), c .fixed-size .ensures ∙ ap fixedSize (c .before .kind .ensures))
+    omega (arith, fixed-fits (now (a .s)) (recordMeaning (a .here)) (pre), c .fixed-size .ensures ∙ ap fixedSize (c .before .kind .ensures))
 
 returns : tie.Need-returns
 returns c =
@@ -49,7 +49,7 @@ returns c =
     let from = a .here .place .start + 2 in
     let size : from + c .before .fixed-size .result - from ≡ fixedSize (kindOf (a .here .shape)) = omega
     (arith, c .before .fixed-size .ensures ∙ ap fixedSize (c .before .before .kind .ensures)) in
-    ap (λ (k : ℕ). take k (drop from (now (a .s)))) size ∙ fixed-place (now (a′ .s)) (toldRecord (a′ .here)) (pre)
+    ap (λ (k : ℕ). take k (drop from (now (a .s)))) size ∙ fixed-place (now (a′ .s)) (recordMeaning (a′ .here)) (pre)
 
 pub fixed-part-spec : {M : Type 1} → statement M
 fixed-part-spec =

@@ -2,7 +2,7 @@
 -- Assumes nothing.
 use mathlib.Core.Path.{sym, ap, _∙_}
 use Rattle.mrd_record.specs.AtCursor.{placeBy, placeAt}
-use Rattle.mrd_stream.specs.Told.{toldStep}
+use Rattle.mrd_stream.specs.ReaderMeaning.{stepMeaning}
 use borrow.Author.Needs.{needs}
 use Rattle.mrd_record.proofs.record.place_at.Statement.{statement}
 use Rattle.mrd_record.proofs.record.place_at.Tie as tie
@@ -21,11 +21,11 @@ ended-requires c κs = search needs
 
 returns : tie.Need-returns
 unfolding placeAt
-returns c = ap placeBy (sym (ap toldStep (c .before .step .given .1)) ∙ c .before .before .before .next .ensures)
+returns c = ap placeBy (sym (ap stepMeaning (c .before .step .given .1)) ∙ c .before .before .before .next .ensures)
 
 returns-2 : tie.Need-returns-2
 unfolding placeAt
-returns-2 c = c .ended .ensures ∙ ap placeBy (sym (ap toldStep (c .before .before .step2 .given .1)) ∙
+returns-2 c = c .ended .ensures ∙ ap placeBy (sym (ap stepMeaning (c .before .before .step2 .given .1)) ∙
     c .before .before .before .before .next .ensures)
 
 pub place-at-spec : {M : Type 1} → statement M

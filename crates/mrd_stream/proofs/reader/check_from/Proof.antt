@@ -6,11 +6,11 @@ use mathlib.Core.Path.{_≡_, refl, sym, ap, _∙_}
 use borrow.Author.Needs.{needs}
 use denote.Ref.{now}
 use lib.ListN.{length, drop}
-use Rattle.mrd_numbers.specs.Stored.{lent-is}
+use Rattle.mrd_numbers.specs.Stored.{part-from}
 use Rattle.mrd_stream.specs.NextLaws as laws
 use Rattle.mrd_stream.specs.Walk.{from, verdict}
-use Rattle.mrd_stream.specs.StepLaws.{kept-next, kept-end, on-less, step-handed}
-use Rattle.mrd_judge.specs.Judge.{toldJudgement, judge, whole, faulty}
+use Rattle.mrd_stream.specs.StepLaws.{kept-next, kept-end, on-less, step-yields}
+use Rattle.mrd_judge.specs.Judge.{judgementMeaning, judge, whole, faulty}
 use Rattle.mrd_stream.proofs.reader.check_from.Statement.{statement}
 use Rattle.mrd_stream.proofs.reader.check_from.Tie as tie
 
@@ -56,8 +56,8 @@ found-whole : (c : tie.After-known-told Inv-loop μ-loop) →
 found-whole c =
     let loop = c .before .before .before .before .before .before .loop in
     let s = now (c .before .before .before .before .before .before .before .before .args .s) in
-    ap (judge (loop .c)) (sym (lent-is (loop .c .start) s)) ∙ sym (c .before .before .before .judge .ensures) ∙
-    ap toldJudgement (c .before .judgement .given .1)
+    ap (judge (loop .c)) (sym (part-from (loop .c .start) s)) ∙ sym (c .before .before .before .judge .ensures) ∙
+    ap judgementMeaning (c .before .judgement .given .1)
 
 after-requires : tie.Need-after-requires Inv-loop μ-loop
 after-requires c κs =
@@ -72,7 +72,7 @@ loop-less c =
     let test = c .before .before .before .before .before .before in
     let loop = test .before .loop in
     let s = now (test .before .before .before .args .s) in
-    rw (c .after .ensures) (on-less s (step-handed (loop .c) s (laws.step-whole (loop .c) s (test .if1 .left) (found-whole (c .before)))))
+    rw (c .after .ensures) (on-less s (step-yields (loop .c) s (laws.step-whole (loop .c) s (test .if1 .left) (found-whole (c .before)))))
 
 loop-again : tie.Need-loop-again Inv-loop μ-loop
 loop-again c =
@@ -80,7 +80,7 @@ loop-again c =
     let loop = test .before .loop in
     let s = now (test .before .before .before .args .s) in
     rw (c .after .ensures)
-    (kept-next verdict s verdict (loop .inv) (step-handed (loop .c) s
+    (kept-next verdict s verdict (loop .inv) (step-yields (loop .c) s
     (laws.step-whole (loop .c) s (test .if1 .left) (found-whole (c .before)))) (λ r. refl))
 
 enum-known-judgement-2 : tie.Need-enum-known-judgement-2 Inv-loop μ-loop
@@ -96,7 +96,7 @@ returns-2 c =
     let loop = test .before .loop in
     let s = now (test .before .before .before .args .s) in
     let due : judge (loop .c) (drop (loop .c .start) s) ≡ faulty (c .before .before .judgement2 .given .0 .0) =
-    ap (judge (loop .c)) (sym (lent-is (loop .c .start) s)) ∙ sym (judged .judge .ensures) ∙ ap toldJudgement
+    ap (judge (loop .c)) (sym (part-from (loop .c .start) s)) ∙ sym (judged .judge .ensures) ∙ ap judgementMeaning
     (c .before .before .judgement2 .given .1) in
     c .refused .ensures ∙ kept-end verdict s (loop .c) (loop .inv) (laws.step-faulty (loop .c) s (test .if1 .left) due)
 

@@ -3,7 +3,7 @@
 use mathlib.Core.Path.{sym, ap}
 use borrow.Author.Needs.{needs}
 use Rattle.mrd_logic.specs.Answer.{unlessRefused}
-use Rattle.mrd_stream.specs.Told.{toldPlaced, toldChecked}
+use Rattle.mrd_stream.specs.ReaderMeaning.{placedMeaning, checkedMeaning}
 use Rattle.mrd_stream.proofs.reader.concluded.Statement.{statement}
 use Rattle.mrd_stream.proofs.reader.concluded.Tie as tie
 
@@ -18,7 +18,7 @@ returns c = search needs
 
 returns-2 : tie.Need-returns-2
 returns-2 c = let a = c .before .before .before .args in sym
-    (ap (λ v. unlessRefused (toldChecked v) (toldPlaced (a .found))) (c .before .answer .given .1))
+    (ap (λ v. unlessRefused (checkedMeaning v) (placedMeaning (a .found))) (c .before .answer .given .1))
 
 pub concluded-spec : {M : Type 1} → statement M
 concluded-spec = tie.close (tie.spec enum-told enum-known-answer returns returns-2)

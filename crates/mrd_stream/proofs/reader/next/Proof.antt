@@ -6,10 +6,10 @@ use mathlib.Core.List.{List}
 use denote.Ref.{now}
 use lib.ListN.{length, drop}
 use Rattle.mrd_format.specs.Message.{fixedPart}
-use Rattle.mrd_numbers.specs.Stored.{lent-is}
+use Rattle.mrd_numbers.specs.Stored.{part-from}
 use Rattle.mrd_stream.specs.NextLaws as laws
-use Rattle.mrd_stream.specs.Places.{over, handedOut}
-use Rattle.mrd_judge.specs.Judge.{toldJudgement, judge, whole, faulty}
+use Rattle.mrd_stream.specs.Places.{over, yielded}
+use Rattle.mrd_judge.specs.Judge.{judgementMeaning, judge, whole, faulty}
 use borrow.Author.Needs.{needs}
 use Rattle.mrd_stream.proofs.reader.next.Statement.{statement}
 use Rattle.mrd_stream.proofs.reader.next.Tie as tie
@@ -53,15 +53,15 @@ found-whole : (c : tie.After-known-told) →
     judge (a .c) (drop (a .c .start) (now (a .s))) ≡ whole (given .0) (given .1 .0)
 found-whole c =
     let a = c .before .before .before .before .before .before .before .args in
-    ap (judge (a .c)) (sym (lent-is (a .c .start) (now (a .s)))) ∙ sym (c .before .before .before .judge .ensures) ∙
-    ap toldJudgement (c .before .judgement .given .1)
+    ap (judge (a .c)) (sym (part-from (a .c .start) (now (a .s)))) ∙ sym (c .before .before .before .judge .ensures) ∙
+    ap judgementMeaning (c .before .judgement .given .1)
 
 fixed-part-requires : tie.Need-fixed-part-requires
 fixed-part-requires c κs =
     let told = c .before in
     let test = told .before .before .before .before .before in
     let a = test .before .before .args in
-    rw lent-is (laws.whole-fixed (a .c) (now (a .s)) (test .if1 .left) (found-whole told))
+    rw part-from (laws.whole-fixed (a .c) (now (a .s)) (test .if1 .left) (found-whole told))
 
 -- and its fixed part is lent on
 fixed-is : (c : tie.After-fixed-part) →
@@ -69,10 +69,10 @@ fixed-is : (c : tie.After-fixed-part) →
     now (c .fixed-part .result) ≡ fixedPart (c .before .before .before .judgement .given .0 .0) (drop (a .c .start) (now (a .s)))
 fixed-is c =
     let a = c .before .before .before .before .before .before .before .before .before .args in
-    c .fixed-part .ensures ∙ ap (fixedPart (c .before .before .before .judgement .given .0 .0)) (lent-is (a .c .start) (now (a .s)))
+    c .fixed-part .ensures ∙ ap (fixedPart (c .before .before .before .judgement .given .0 .0)) (part-from (a .c .start) (now (a .s)))
 
-handed-requires : tie.Need-handed-requires
-handed-requires c κs =
+yields-requires : tie.Need-yields-requires
+yields-requires c κs =
     let told = c .before .before in
     let test = told .before .before .before .before .before in
     let a = test .before .before .args in
@@ -94,8 +94,8 @@ returns-2 c =
     let test = told .before .before .before .before .before in
     let a = test .before .before .args in
     let given = told .before .judgement .given .0 in
-    c .handed .ensures ∙ ap (λ (h : List ℕ). handedOut (a .c) (given .0) h (given .1 .0)) (fixed-is (c .before)) ∙
-    laws.step-handed-out (a .c) (now (a .s)) (test .if1 .left) (found-whole told)
+    c .yields .ensures ∙ ap (λ (h : List ℕ). yielded (a .c) (given .0) h (given .1 .0)) (fixed-is (c .before)) ∙
+    laws.step-yields-record (a .c) (now (a .s)) (test .if1 .left) (found-whole told)
 
 returns-3 : tie.Need-returns-3
 returns-3 c =
@@ -104,7 +104,7 @@ returns-3 c =
     let test = judged .before .before in
     let a = test .before .before .args in
     let due : judge (a .c) (drop (a .c .start) (now (a .s))) ≡ faulty (told .before .judgement2 .given .0 .0) =
-    ap (judge (a .c)) (sym (lent-is (a .c .start) (now (a .s)))) ∙ sym (judged .judge .ensures) ∙ ap toldJudgement
+    ap (judge (a .c)) (sym (part-from (a .c .start) (now (a .s)))) ∙ sym (judged .judge .ensures) ∙ ap judgementMeaning
     (told .before .judgement2 .given .1) in
     ap over (c .refused .ensures) ∙ sym (laws.step-faulty (a .c) (now (a .s)) (test .if1 .left) due)
 
@@ -123,7 +123,7 @@ next-spec =
     part-fixed-part-start
     part-fixed-part-end
     fixed-part-requires
-    handed-requires
+    yields-requires
     enum-known-judgement-2
     refused-requires
     returns-2

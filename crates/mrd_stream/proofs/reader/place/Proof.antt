@@ -9,13 +9,13 @@ use lib.ListN.{length}
 use Rattle.mrd_logic.specs.Answer.{number}
 use Rattle.mrd_stream.specs.Places.{place}
 use Rattle.mrd_stream.specs.Seek.{seek, seek-place, seek-next, keptBy}
-use Rattle.mrd_stream.specs.StepLaws.{On, on-start, on-next, on-end, on-less, step-handed}
-use Rattle.mrd_stream.specs.Told.{toldPlaced, toldRecord, toldStep}
+use Rattle.mrd_stream.specs.StepLaws.{On, on-start, on-next, on-end, on-less, step-yields}
+use Rattle.mrd_stream.specs.ReaderMeaning.{placedMeaning, recordMeaning, stepMeaning}
 use Rattle.mrd_stream.proofs.reader.place.Statement.{statement}
 use Rattle.mrd_stream.proofs.reader.place.Tie as tie
 
 abbrev Inv-loop : tie.InvT-loop
-Inv-loop s n c₀ found₀ c found = On (seek n (toldPlaced found)) (place s n) c s
+Inv-loop s n c₀ found₀ c found = On (seek n (placedMeaning found)) (place s n) c s
 
 abbrev μ-loop : tie.MeasureT-loop
 μ-loop s n c₀ found₀ c found = length s - c .start
@@ -42,7 +42,7 @@ loop-less c =
     let a = c .before .before .before .before .before .before .before .before .args in
     let loop = c .before .before .before .before .before .loop in
     let next = c .before .before .before .before .next in
-    on-less (now (a .s)) (step-handed (loop .c) (now (a .s)) (sym (next .ensures) ∙ ap toldStep (c .before .before .step .given .1)))
+    on-less (now (a .s)) (step-yields (loop .c) (now (a .s)) (sym (next .ensures) ∙ ap stepMeaning (c .before .before .step .given .1)))
 
 loop-again : tie.Need-loop-again Inv-loop μ-loop
 loop-again c =
@@ -50,12 +50,12 @@ loop-again c =
     let loop = c .before .before .before .before .before .loop in
     let next = c .before .before .before .before .next in
     let step = c .before .before .step in
-    let p = step-handed (loop .c) (now (a .s)) (sym (next .ensures) ∙ ap toldStep (step .given .1)) in
-    let before = toldPlaced (loop .found) in
+    let p = step-yields (loop .c) (now (a .s)) (sym (next .ensures) ∙ ap stepMeaning (step .given .1)) in
+    let before = placedMeaning (loop .found) in
     rw (c .kept .ensures)
     (on-next
     (seek (a .n) before) (now (a .s))
-    (seek (a .n) (keptBy (toldRecord (step .given .0 .0)) (a .n) before)) (loop .inv) p
+    (seek (a .n) (keptBy (recordMeaning (step .given .0 .0)) (a .n) before)) (loop .inv) p
     (seek-next (a .n) before (loop .c) (p .kind) (p .bytes) (p .place)))
 
 enum-known-step-2 : tie.Need-enum-known-step-2 Inv-loop μ-loop
@@ -70,8 +70,8 @@ returns c =
     let loop = c .before .before .before .before .before .loop in
     let next = c .before .before .before .before .next in
     c .concluded .ensures ∙ on-end
-    (seek (a .n) (toldPlaced (loop .found))) (now (a .s)) (loop .inv)
-    (sym (next .ensures) ∙ ap toldStep (c .before .before .step2 .given .1))
+    (seek (a .n) (placedMeaning (loop .found))) (now (a .s)) (loop .inv)
+    (sym (next .ensures) ∙ ap stepMeaning (c .before .before .step2 .given .1))
 
 pub place-spec : {M : Type 1} → statement M
 place-spec =

@@ -3,7 +3,7 @@
 use borrow.Author.Needs.{needs}
 use denote.Ref.{now}
 use Rattle.mrd_numbers.specs.Little.{toBytes}
-use Rattle.mrd_numbers.specs.Stored.{stored-lent}
+use Rattle.mrd_numbers.specs.Stored.{stored-part}
 use Rattle.mrd_tagged.proofs.put.put_u32_at.Statement.{statement}
 use Rattle.mrd_tagged.proofs.put.put_u32_at.Tie as tie
 
@@ -25,7 +25,7 @@ same-length c = search needs
 returns : tie.Need-returns
 returns c =
     let a = c .before .before .before .before .before .args in
-    stored-lent (a .at) (now (a .out)) (toBytes 4 (a .v)) _ (c .before .before .put-u32 .ensures)
+    stored-part (a .at) (now (a .out)) (toBytes 4 (a .v)) _ (c .before .before .put-u32 .ensures)
 
 pub put-u32-at-spec : {M : Type 1} → statement M
 put-u32-at-spec =

@@ -7,8 +7,8 @@ use denote.Ref.{now}
 use Rattle.mrd_format.specs.Message.{fixedPart}
 use Rattle.mrd_format.specs.Shapes.{kindOf}
 use Rattle.mrd_stream.specs.Places.{place}
-use Rattle.mrd_stream.specs.Told.{toldRecord}
-use Rattle.mrd_cut.specs.Places.{partAt}
+use Rattle.mrd_stream.specs.ReaderMeaning.{recordMeaning}
+use Rattle.mrd_cut.specs.CutPlaces.{partAt}
 use Rattle.mrd_format.specs.Parts.{Reach}
 use Rattle.mrd_format.specs.Content.{extentOf}
 use Rattle.mrd_parts.specs.Sought.{partMeaning, soughtMeaning}
@@ -27,7 +27,7 @@ locate-requires : tie.Need-locate-requires
 locate-requires c κs =
     let a = c .before .before .before .before .args in
     let pre = c .before .before .before .before .pre in
-    rw (c .before .kind .ensures, c .fixed-part .ensures) (fixed-sized (now (a .s)) (toldRecord (a .here)) (pre))
+    rw (c .before .kind .ensures, c .fixed-part .ensures) (fixed-sized (now (a .s)) (recordMeaning (a .here)) (pre))
 
 shifted-requires : tie.Need-shifted-requires
 shifted-requires c κs =
@@ -39,9 +39,9 @@ shifted-requires c κs =
     let h = c .before .fixed-part .ensures in
     let e : soughtMeaning
     (c .locate .result) ≡ extentOf (partMeaning (a .part)) (kindOf (a .here .shape))
-    (fixedPart (kindOf (a .here .shape)) (partAt (now (a .s)) (toldRecord (a .here)))) = cc
+    (fixedPart (kindOf (a .here .shape)) (partAt (now (a .s)) (recordMeaning (a .here)))) = cc
     (c .locate .ensures) in
-    rw e (omega (arith, start-fits (now (a′ .s)) (toldRecord (a′ .here)) (pre) (partMeaning (a .part)), good))
+    rw e (omega (arith, start-fits (now (a′ .s)) (recordMeaning (a′ .here)) (pre) (partMeaning (a .part)), good))
 
 returns : tie.Need-returns
 returns c =
@@ -51,7 +51,7 @@ returns c =
     let h = c .before .before .fixed-part .ensures in
     let e : soughtMeaning
     (c .before .locate .result) ≡ extentOf (partMeaning (a .part)) (kindOf (a .here .shape))
-    (fixedPart (kindOf (a .here .shape)) (partAt (now (a .s)) (toldRecord (a .here)))) = cc
+    (fixedPart (kindOf (a .here .shape)) (partAt (now (a .s)) (recordMeaning (a .here)))) = cc
     (c .before .locate .ensures) in
     c .shifted .ensures ∙ ap (λ (r : Reach). shownAt r (a .here .place .start)) e
 

@@ -3,7 +3,7 @@
 use mathlib.Core.Path.{sym, _∙_}
 use denote.Ref.{now}
 use borrow.Author.Needs.{needs}
-use Rattle.mrd_write_checks.specs.JudgeLaws.{fixed-own, fixed-limit, fixed-whole}
+use Rattle.mrd_write_checks.specs.GivenLaws.{fixed-own, fixed-limit, fixed-whole}
 use Rattle.mrd_write_checks.proofs.contents.checked_fixed.Statement.{statement}
 use Rattle.mrd_write_checks.proofs.contents.checked_fixed.Tie as tie
 

@@ -9,7 +9,7 @@ use Rattle.mrd_format.specs.declared.kind.Kind.{Kind}
 use Rattle.mrd_format.specs.declared.kind.Kind.the-variants.{Image}
 use Rattle.mrd_format.specs.Kinds.{fixedSize, headerSize}
 use Rattle.mrd_write_checks.specs.Sized.{sized, textSized, sizedBy}
-use Rattle.mrd_write_checks.specs.JudgeLaws.{sized-name, sized-text, sized-close, sized-header}
+use Rattle.mrd_write_checks.specs.GivenLaws.{sized-name, sized-text, sized-close, sized-header}
 use Rattle.mrd_write_checks.specs.ImageLaws.{image-sized}
 use Rattle.mrd_format.proofs.Arms.{arm}
 use Rattle.mrd_write_checks.proofs.contents.checked_size.Statement.{statement}

@@ -2,7 +2,7 @@
 -- Assumes nothing.
 use mathlib.Core.Path.{sym}
 use borrow.Author.Needs.{needs}
-use Rattle.mrd_write_checks.specs.JudgeLaws.{text-long, text-sound}
+use Rattle.mrd_write_checks.specs.GivenLaws.{text-long, text-sound}
 use Rattle.mrd_write_checks.proofs.contents.checked_text.Statement.{statement}
 use Rattle.mrd_write_checks.proofs.contents.checked_text.Tie as tie
 

@@ -7,7 +7,7 @@ use denote.Ref.{now}
 use borrow.Author.Needs.{needs}
 use Rattle.mrd_format.specs.declared.kind.Kind.{Kind}
 use Rattle.mrd_write_checks.specs.WriteChecks.{dueLengths}
-use Rattle.mrd_write_checks.specs.JudgeLaws.{due-acquisition, due-image, due-waveform}
+use Rattle.mrd_write_checks.specs.GivenLaws.{due-acquisition, due-image, due-waveform}
 use Rattle.mrd_format.proofs.Arms.{arm-same}
 use Rattle.mrd_write_checks.proofs.contents.due.Statement.{statement}
 use Rattle.mrd_write_checks.proofs.contents.due.Tie as tie

@@ -4,7 +4,7 @@ use mathlib.Core.Path.{sym, ap, _∙_}
 use denote.Ref.{now}
 use borrow.Author.Needs.{needs}
 use Rattle.mrd_write_checks.specs.WriteChecks.{judgedMeaning, sameLengths}
-use Rattle.mrd_write_checks.specs.JudgeLaws.{judged-header, judged-refused, judged-same, judged-differ, sized-size}
+use Rattle.mrd_write_checks.specs.GivenLaws.{judged-header, judged-refused, judged-same, judged-differ, sized-size}
 use Rattle.mrd_write_checks.proofs.contents.judge.Statement.{statement}
 use Rattle.mrd_write_checks.proofs.contents.judge.Tie as tie
 

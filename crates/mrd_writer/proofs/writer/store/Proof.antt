@@ -4,7 +4,7 @@ use Prim.Native.Nat.{_+_}
 use native.Mathlib.Omega.{arith}
 use denote.Ref.{now}
 use borrow.Author.Needs.{needs}
-use Rattle.mrd_numbers.specs.Stored.{returned, length-lent}
+use Rattle.mrd_numbers.specs.Stored.{returned, length-part}
 use Rattle.mrd_format.specs.Parts.{Contents, contents}
 use Rattle.mrd_writer.specs.WriteLaws.{no-room, within, room}
 use Rattle.mrd_writer.proofs.writer.store.Statement.{statement}
@@ -46,7 +46,7 @@ put-u16-requires c κs =
     let start = c .before .before .before .before .before .before .before .before .before .before .before .before .before in
     omega (
       arith,
-      length-lent (start .args .position) (now (start .args .out)),
+      length-part (start .args .position) (now (start .args .out)),
       within (start .args .kind) (given start)
           (start .args .position) (now (start .args .out)) (start .pre) (omega arith) .1,
     )
@@ -74,7 +74,7 @@ put-content-requires c κs =
       w .0,
       omega (
         arith,
-        length-lent (start .args .position + 2)
+        length-part (start .args .position + 2)
             (returned (start .args .position) (now (start .args .out)) (c .before .before .before .put-u16 .last .0)),
         w .1,
       ),

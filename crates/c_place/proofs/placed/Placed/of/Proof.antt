@@ -1,7 +1,7 @@
 -- `c_place::placed::Placed::of` meets its contract: it goes by the answer's case.
 -- Assumes nothing.
 use mathlib.Core.Path.{sym, ap, _∙_}
-use Rattle.mrd_stream.specs.Told.{toldPlaced}
+use Rattle.mrd_stream.specs.ReaderMeaning.{placedMeaning}
 use Rattle.c_place.specs.PlacedStruct.{cPlaced}
 use borrow.Author.Needs.{needs}
 use Rattle.c_place.proofs.placed.Placed.of.Statement.{statement}
@@ -26,13 +26,13 @@ refused-requires-2 : tie.Need-refused-requires-2
 refused-requires-2 c κs = search needs
 
 returns : tie.Need-returns
-returns c = c .found .ensures ∙ sym (ap (λ a. cPlaced (toldPlaced a)) (c .before .before .answer .given .1))
+returns c = c .found .ensures ∙ sym (ap (λ a. cPlaced (placedMeaning a)) (c .before .before .answer .given .1))
 
 returns-2 : tie.Need-returns-2
-returns-2 c = c .refused .ensures ∙ sym (ap (λ a. cPlaced (toldPlaced a)) (c .before .before .answer2 .given .1))
+returns-2 c = c .refused .ensures ∙ sym (ap (λ a. cPlaced (placedMeaning a)) (c .before .before .answer2 .given .1))
 
 returns-3 : tie.Need-returns-3
-returns-3 c = c .refused2 .ensures ∙ sym (ap (λ a. cPlaced (toldPlaced a)) (c .before .before .answer3 .given .1))
+returns-3 c = c .refused2 .ensures ∙ sym (ap (λ a. cPlaced (placedMeaning a)) (c .before .before .answer3 .given .1))
 
 pub of-spec : {M : Type 1} → statement M
 of-spec =

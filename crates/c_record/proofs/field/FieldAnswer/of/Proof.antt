@@ -1,7 +1,7 @@
 -- `c_record::FieldAnswer::of` meets its contract: it goes by the answer's case.
 -- Assumes nothing.
 use mathlib.Core.Path.{sym, ap, _∙_}
-use Rattle.mrd_fields.specs.Fields.{toldField}
+use Rattle.mrd_fields.specs.Fields.{fieldMeaning}
 use Rattle.c_record.specs.RecordStructs.{cField}
 use borrow.Author.Needs.{needs}
 use Rattle.c_record.proofs.field.FieldAnswer.of.Statement.{statement}
@@ -26,13 +26,13 @@ refused-requires-2 : tie.Need-refused-requires-2
 refused-requires-2 c κs = search needs
 
 returns : tie.Need-returns
-returns c = c .value .ensures ∙ sym (ap (λ a. cField (toldField a)) (c .before .before .answer .given .1))
+returns c = c .value .ensures ∙ sym (ap (λ a. cField (fieldMeaning a)) (c .before .before .answer .given .1))
 
 returns-2 : tie.Need-returns-2
-returns-2 c = c .refused .ensures ∙ sym (ap (λ a. cField (toldField a)) (c .before .before .answer2 .given .1))
+returns-2 c = c .refused .ensures ∙ sym (ap (λ a. cField (fieldMeaning a)) (c .before .before .answer2 .given .1))
 
 returns-3 : tie.Need-returns-3
-returns-3 c = c .refused2 .ensures ∙ sym (ap (λ a. cField (toldField a)) (c .before .before .answer3 .given .1))
+returns-3 c = c .refused2 .ensures ∙ sym (ap (λ a. cField (fieldMeaning a)) (c .before .before .answer3 .given .1))
 
 pub of-spec : {M : Type 1} → statement M
 of-spec =

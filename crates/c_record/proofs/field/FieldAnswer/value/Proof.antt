@@ -1,7 +1,7 @@
 -- `c_record::FieldAnswer::value` meets its contract: it goes by the value's case.
 -- Assumes nothing.
 use mathlib.Core.Path.{sym, ap, _∙_}
-use Rattle.mrd_element.specs.Told.{told}
+use Rattle.mrd_element.specs.ValueMeaning.{valueMeaning}
 use Rattle.c_record.specs.RecordStructs.{cValue}
 use mir.Syntax.{w32}
 use mir.ValLaws.{toZ-ofZ}
@@ -48,7 +48,7 @@ returns-4 : tie.Need-returns-4
 returns-4 c = rw (c .before .before .before .refused .ensures, c .before .value4 .given .1)
 
 returns-5 : tie.Need-returns-5
-returns-5 c = c .refused2 .ensures ∙ sym (ap (λ v. cValue (told v)) (c .before .enum-told .given .1))
+returns-5 c = c .refused2 .ensures ∙ sym (ap (λ v. cValue (valueMeaning v)) (c .before .enum-told .given .1))
 
 pub value-spec : {M : Type 1} → statement M
 value-spec =

@@ -1,7 +1,7 @@
 -- `c_record::ViewPlace::of` meets its contract: it goes by the answer's case.
 -- Assumes nothing.
 use mathlib.Core.Path.{sym, ap, _∙_}
-use Rattle.mrd_views.specs.Views.{toldView}
+use Rattle.mrd_views.specs.Views.{viewMeaning}
 use Rattle.c_record.specs.RecordStructs.{cView}
 use borrow.Author.Needs.{needs}
 use Rattle.c_record.proofs.view.ViewPlace.of.Statement.{statement}
@@ -26,13 +26,13 @@ new-requires-3 : tie.Need-new-requires-3
 new-requires-3 c κs = search needs
 
 returns : tie.Need-returns
-returns c = c .new .ensures ∙ sym (ap (λ a. cView (toldView a)) (c .before .before .answer .given .1))
+returns c = c .new .ensures ∙ sym (ap (λ a. cView (viewMeaning a)) (c .before .before .answer .given .1))
 
 returns-2 : tie.Need-returns-2
-returns-2 c = c .new2 .ensures ∙ sym (ap (λ a. cView (toldView a)) (c .before .before .answer2 .given .1))
+returns-2 c = c .new2 .ensures ∙ sym (ap (λ a. cView (viewMeaning a)) (c .before .before .answer2 .given .1))
 
 returns-3 : tie.Need-returns-3
-returns-3 c = c .new3 .ensures ∙ sym (ap (λ a. cView (toldView a)) (c .before .before .answer3 .given .1))
+returns-3 c = c .new3 .ensures ∙ sym (ap (λ a. cView (viewMeaning a)) (c .before .before .answer3 .given .1))
 
 pub of-spec : {M : Type 1} → statement M
 of-spec =

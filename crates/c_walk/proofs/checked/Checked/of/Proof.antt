@@ -1,7 +1,7 @@
 -- `c_walk::Checked::of` meets its contract: it goes by the answer's case.
 -- Assumes nothing.
 use mathlib.Core.Path.{sym, ap, _∙_}
-use Rattle.mrd_stream.specs.Told.{toldChecked}
+use Rattle.mrd_stream.specs.ReaderMeaning.{checkedMeaning}
 use Rattle.c_walk.specs.WalkStructs.{cChecked}
 use borrow.Author.Needs.{needs}
 use Rattle.c_walk.proofs.checked.Checked.of.Statement.{statement}
@@ -20,10 +20,10 @@ new-requires-2 : tie.Need-new-requires-2
 new-requires-2 c κs = search needs
 
 returns : tie.Need-returns
-returns c = c .new .ensures ∙ sym (ap (λ a. cChecked (toldChecked a)) (c .before .before .answer .given .1))
+returns c = c .new .ensures ∙ sym (ap (λ a. cChecked (checkedMeaning a)) (c .before .before .answer .given .1))
 
 returns-2 : tie.Need-returns-2
-returns-2 c = c .new2 .ensures ∙ sym (ap (λ a. cChecked (toldChecked a)) (c .before .before .answer2 .given .1))
+returns-2 c = c .new2 .ensures ∙ sym (ap (λ a. cChecked (checkedMeaning a)) (c .before .before .answer2 .given .1))
 
 pub of-spec : {M : Type 1} → statement M
 of-spec =

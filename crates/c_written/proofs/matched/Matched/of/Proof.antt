@@ -1,7 +1,7 @@
 -- `c_written::Matched::of` meets its contract: it goes by the answer's case.
 -- Assumes nothing.
 use mathlib.Core.Path.{sym, ap, _∙_}
-use Rattle.mrd_index_match.specs.Compare.{toldMatched}
+use Rattle.mrd_index_match.specs.Compare.{matchedMeaning}
 use Rattle.c_written.specs.WrittenStructs.{cMatched}
 use borrow.Author.Needs.{needs}
 use Rattle.c_written.proofs.matched.Matched.of.Statement.{statement}
@@ -26,13 +26,13 @@ new-requires-3 : tie.Need-new-requires-3
 new-requires-3 c κs = search needs
 
 returns : tie.Need-returns
-returns c = c .new .ensures ∙ sym (ap (λ a. cMatched (toldMatched a)) (c .before .enum-told .given .1))
+returns c = c .new .ensures ∙ sym (ap (λ a. cMatched (matchedMeaning a)) (c .before .enum-told .given .1))
 
 returns-2 : tie.Need-returns-2
-returns-2 c = c .new2 .ensures ∙ sym (ap (λ a. cMatched (toldMatched a)) (c .before .enum-told2 .given .1))
+returns-2 c = c .new2 .ensures ∙ sym (ap (λ a. cMatched (matchedMeaning a)) (c .before .enum-told2 .given .1))
 
 returns-3 : tie.Need-returns-3
-returns-3 c = c .new3 .ensures ∙ sym (ap (λ a. cMatched (toldMatched a)) (c .before .before .answer .given .1))
+returns-3 c = c .new3 .ensures ∙ sym (ap (λ a. cMatched (matchedMeaning a)) (c .before .before .answer .given .1))
 
 pub of-spec : {M : Type 1} → statement M
 of-spec =

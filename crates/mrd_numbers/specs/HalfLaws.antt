@@ -8,8 +8,8 @@ use mathlib.Core.List.{List, _++_}
 use lib.ListN.{length, drop}
 use lib.Seq.{take-at, drop-append-seam}
 use Rattle.mrd_numbers.specs.Little.{toBytes, num}
-use Rattle.mrd_numbers.specs.WriteLaws.{length-toBytes, from-to}
-use Rattle.mrd_numbers.specs.Stored.{front, lentFrom, returned, front-two}
+use Rattle.mrd_numbers.specs.ToBytesLaws.{length-toBytes, from-to}
+use Rattle.mrd_numbers.specs.Stored.{front, partFrom, returned, front-two}
 
 -- a number is written as its low part and, after that, its high part
 pub to-halves : (m n a b : ℕ) → a < 256 ^ m → toBytes (m + n) (a + b * 256 ^ m) ≡ toBytes m a ++ toBytes n b
@@ -30,8 +30,8 @@ power-pos zero = rw pow-zero (omega arith)
 power-pos (suc w) = let ih : 0 < 256 ^ w = power-pos w in rw pow-succ' (omega arith)
 
 -- a number's low half stored in a part lent from the front on, and then its high half in the part after it
-pub halves-stored : (w v : ℕ) (o x y : List ℕ) → w + w ≤ length o → x ≡ toBytes w (v % 256 ^ w) ++ drop w (lentFrom 0 o) →
-    y ≡ toBytes w (v / 256 ^ w) ++ drop w (lentFrom w (returned 0 o x)) → returned w (returned 0 o x) y ≡ toBytes (w + w) v ++ drop (w + w) o
+pub halves-stored : (w v : ℕ) (o x y : List ℕ) → w + w ≤ length o → x ≡ toBytes w (v % 256 ^ w) ++ drop w (partFrom 0 o) →
+    y ≡ toBytes w (v / 256 ^ w) ++ drop w (partFrom w (returned 0 o x)) → returned w (returned 0 o x) y ≡ toBytes (w + w) v ++ drop (w + w) o
 halves-stored w v o x y fits p q =
     let low = toBytes w (v % 256 ^ w) in
     let high = toBytes w (v / 256 ^ w) in

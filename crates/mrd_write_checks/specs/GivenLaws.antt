@@ -14,7 +14,7 @@ use Rattle.mrd_format.specs.declared.kind.Kind.the-variants.{ConfigurationName,
 use Rattle.mrd_logic.specs.Answer.{Answer, answered, number}
 use Rattle.mrd_logic.specs.Checks.{Check, _when_, first}
 use Rattle.mrd_logic.specs.CheckLaws.{numbered, first-skip, first-passed, first-stops, numbered-append}
-use Rattle.mrd_format.specs.CheckLaws as format
+use Rattle.mrd_format.specs.OwnCheckLaws as format
 use Rattle.mrd_format.specs.Acquisition as acquisition
 use Rattle.mrd_format.specs.Image as image
 use Rattle.mrd_format.specs.Waveform as waveform

@@ -5,7 +5,7 @@ use Rattle.mrd_find.specs.declared.search.Found.{Found}
 use Rattle.mrd_find.specs.declared.search.Found
 use Rattle.mrd_logic.specs.Answer.{Answer, answered, stream, number}
 
-abbrev pub told : Found → Answer ℕ
-told (Found.Record i) = answered i
-told (Found.Stream r) = stream (r .number) (r .record) (r .byte)
-told (Found.Refused n) = number n
+abbrev pub foundMeaning : Found → Answer ℕ
+foundMeaning (Found.Record i) = answered i
+foundMeaning (Found.Stream r) = stream (r .number) (r .record) (r .byte)
+foundMeaning (Found.Refused n) = number n

@@ -8,12 +8,12 @@ use Rattle.mrd_element.specs.declared.value.Value.{Value}
 use Rattle.mrd_element.specs.declared.value.Value
 use Rattle.mrd_element.specs.Field.{FieldAnswer, whole, signed, float, number}
 
-abbrev pub told : Value → FieldAnswer
-told (Value.Whole n) = whole n
-told (Value.Signed z) = signed z
-told (Value.Float x) = float (toBits binary32 x)
-told (Value.Nan n) = float n
-told Value.Absent = number 20
+abbrev pub valueMeaning : Value → FieldAnswer
+valueMeaning (Value.Whole n) = whole n
+valueMeaning (Value.Signed z) = signed z
+valueMeaning (Value.Float x) = float (toBits binary32 x)
+valueMeaning (Value.Nan n) = float n
+valueMeaning Value.Absent = number 20
 
 -- a NaN's bits, and no others, stand in the case for NaNs
 abbrev pub nanApart : Value → Bool
@@ -25,5 +25,5 @@ nanApart Value.Absent = true
 
 -- a value that says this answer, in the case that is meant for it
 pub record Tells (v : Value) (a : FieldAnswer) : Type 0 where
-  pub says : told v ≡ a
+  pub says : valueMeaning v ≡ a
   pub apart : T (nanApart v)

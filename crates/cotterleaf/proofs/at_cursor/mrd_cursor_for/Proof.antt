@@ -1,0 +1,19 @@
+-- `cotterleaf::mrd_cursor_for` meets its contract: the inner function meets the same.
+-- Assumes nothing.
+use mathlib.Core.Path.{ap, _∙_}
+use Rattle.c_walk.specs.WalkStructs.{cCursorAnswer}
+use borrow.Author.Needs.{needs}
+use Rattle.cotterleaf.proofs.at_cursor.mrd_cursor_for.Statement.{statement}
+use Rattle.cotterleaf.proofs.at_cursor.mrd_cursor_for.Tie as tie
+
+cursor-for-requires : tie.Need-cursor-for-requires
+cursor-for-requires c κs = search needs
+
+of-requires : tie.Need-of-requires
+of-requires c κs = search needs
+
+returns : tie.Need-returns
+returns c = c .of .ensures ∙ ap cCursorAnswer (c .before .cursor-for .ensures)
+
+pub mrd-cursor-for-spec : {M : Type 1} → statement M
+mrd-cursor-for-spec = tie.close (tie.spec cursor-for-requires of-requires returns)

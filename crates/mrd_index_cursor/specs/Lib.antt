@@ -1,0 +1,2 @@
+pub mod IndexCursor
+pub mod Indexed

@@ -60,10 +60,10 @@ typedef struct {
     size_t length;              /* of a name or text */
     uint64_t attribute_length;  /* of an image */
     uint16_t id;
-    uint16_t samples;           /* of an acquisition or waveform */
+    uint16_t number_of_samples; /* of an acquisition or waveform */
     uint16_t channels;          /* active, of an acquisition; of an image or waveform */
-    uint16_t dimensions;        /* of an acquisition's trajectory */
-    uint16_t matrix_x, matrix_y, matrix_z, data_type; /* of an image */
+    uint16_t trajectory_dimensions; /* of an acquisition */
+    uint16_t matrix_size_x, matrix_size_y, matrix_size_z, data_type; /* of an image */
 } mrd_placed;
 
 mrd_placed mrd_place(const uint8_t *stream, size_t stream_length, size_t n);
@@ -329,7 +329,7 @@ static inline float mrd_load_float(const uint8_t *bytes)
                         (uint32_t)bytes[3] << 24);
 }
 
-/* Sample i of a channel's view: the view has mrd_placed's `samples` of them. */
+/* Sample i of a channel's view: the view has mrd_placed's `number_of_samples` of them. */
 typedef struct {
     float re, im;
 } mrd_complex;

@@ -26,12 +26,12 @@ pub struct mrd_placed {
     pub length: usize,
     pub attribute_length: u64,
     pub id: u16,
-    pub samples: u16,
+    pub number_of_samples: u16,
     pub channels: u16,
-    pub dimensions: u16,
-    pub matrix_x: u16,
-    pub matrix_y: u16,
-    pub matrix_z: u16,
+    pub trajectory_dimensions: u16,
+    pub matrix_size_x: u16,
+    pub matrix_size_y: u16,
+    pub matrix_size_z: u16,
     pub data_type: u16,
 }
 

@@ -95,18 +95,18 @@ impl Kind {
             id::CLOSE => Kind::Close,
             id::TEXT => Kind::Text { length },
             id::ACQUISITION => Kind::Acquisition {
-                number_of_samples: placed.samples,
+                number_of_samples: placed.number_of_samples,
                 active_channels: placed.channels,
-                trajectory_dimensions: placed.dimensions,
+                trajectory_dimensions: placed.trajectory_dimensions,
             },
             id::IMAGE => Kind::Image {
-                matrix_size: [placed.matrix_x, placed.matrix_y, placed.matrix_z],
+                matrix_size: [placed.matrix_size_x, placed.matrix_size_y, placed.matrix_size_z],
                 channels: placed.channels,
                 data_type: placed.data_type,
                 attribute_length: placed.attribute_length,
             },
             id::WAVEFORM => Kind::Waveform {
-                number_of_samples: placed.samples,
+                number_of_samples: placed.number_of_samples,
                 channels: placed.channels,
             },
             other => unreachable!("the library hands out records of the eight kinds, not {other}"),

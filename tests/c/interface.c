@@ -32,12 +32,12 @@ MEMBER(mrd_placed, size, 40, size_t);
 MEMBER(mrd_placed, length, 48, size_t);
 MEMBER(mrd_placed, attribute_length, 56, uint64_t);
 MEMBER(mrd_placed, id, 64, uint16_t);
-MEMBER(mrd_placed, samples, 66, uint16_t);
+MEMBER(mrd_placed, number_of_samples, 66, uint16_t);
 MEMBER(mrd_placed, channels, 68, uint16_t);
-MEMBER(mrd_placed, dimensions, 70, uint16_t);
-MEMBER(mrd_placed, matrix_x, 72, uint16_t);
-MEMBER(mrd_placed, matrix_y, 74, uint16_t);
-MEMBER(mrd_placed, matrix_z, 76, uint16_t);
+MEMBER(mrd_placed, trajectory_dimensions, 70, uint16_t);
+MEMBER(mrd_placed, matrix_size_x, 72, uint16_t);
+MEMBER(mrd_placed, matrix_size_y, 74, uint16_t);
+MEMBER(mrd_placed, matrix_size_z, 76, uint16_t);
 MEMBER(mrd_placed, data_type, 78, uint16_t);
 
 _Static_assert(sizeof(mrd_field_answer) == 48, "mrd_field_answer: another size");

@@ -109,7 +109,7 @@ static void written_reads_back(void)
     CHECK(mrd_place(written, length, 1).size == 4438);
     mrd_placed placed = mrd_place(written, length, 2);
     CHECK(placed.size == 6486 && placed.start == second && placed.id == MRD_ID_ACQUISITION);
-    CHECK(placed.samples == SAMPLES && placed.channels == CHANNELS && placed.dimensions == 2);
+    CHECK(placed.number_of_samples == SAMPLES && placed.channels == CHANNELS && placed.trajectory_dimensions == 2);
     mrd_view_place channel = mrd_view(written, length, 2, MRD_PART_CHANNEL, 1);
     CHECK(channel.refusal == 0 && channel.length == SAMPLES * 8);
     CHECK(channel.start == second + 342 + TRAJECTORY + SAMPLES * 8);

@@ -25,12 +25,12 @@ placeAs p id n a s c d x y z t =
       length = n;
       «attribute_length» = a;
       id = id;
-      samples = s;
+      «number_of_samples» = s;
       channels = c;
-      dimensions = d;
-      «matrix_x» = x;
-      «matrix_y» = y;
-      «matrix_z» = z;
+      «trajectory_dimensions» = d;
+      «matrix_size_x» = x;
+      «matrix_size_y» = y;
+      «matrix_size_z» = z;
       «data_type» = t;
     }
 
@@ -47,12 +47,12 @@ refusedPlace f r b =
       length = 0;
       «attribute_length» = 0;
       id = 0;
-      samples = 0;
+      «number_of_samples» = 0;
       channels = 0;
-      dimensions = 0;
-      «matrix_x» = 0;
-      «matrix_y» = 0;
-      «matrix_z» = 0;
+      «trajectory_dimensions» = 0;
+      «matrix_size_x» = 0;
+      «matrix_size_y» = 0;
+      «matrix_size_z» = 0;
       «data_type» = 0;
     }
 

@@ -24,12 +24,12 @@ pub struct Placed {
     pub length: usize,
     pub attribute_length: u64,
     pub id: u16,
-    pub samples: u16,
+    pub number_of_samples: u16,
     pub channels: u16,
-    pub dimensions: u16,
-    pub matrix_x: u16,
-    pub matrix_y: u16,
-    pub matrix_z: u16,
+    pub trajectory_dimensions: u16,
+    pub matrix_size_x: u16,
+    pub matrix_size_y: u16,
+    pub matrix_size_z: u16,
     pub data_type: u16,
 }
 
@@ -48,12 +48,12 @@ impl Placed {
             length: 0,
             attribute_length: 0,
             id: 0,
-            samples: 0,
+            number_of_samples: 0,
             channels: 0,
-            dimensions: 0,
-            matrix_x: 0,
-            matrix_y: 0,
-            matrix_z: 0,
+            trajectory_dimensions: 0,
+            matrix_size_x: 0,
+            matrix_size_y: 0,
+            matrix_size_z: 0,
             data_type: 0,
         }
     }
@@ -82,9 +82,9 @@ impl Placed {
         ensures { λ r. ⌜ r ≡ placeAs place 1008 0 0 (shape .«number_of_samples») (shape .«active_channels») (shape .«trajectory_dimensions») 0 0 0 0 ⌝ }
     {
         let mut r = Placed::bare(place, Kind::ACQUISITION);
-        r.samples = shape.number_of_samples;
+        r.number_of_samples = shape.number_of_samples;
         r.channels = shape.active_channels;
-        r.dimensions = shape.trajectory_dimensions;
+        r.trajectory_dimensions = shape.trajectory_dimensions;
         r
     }
 
@@ -92,9 +92,9 @@ impl Placed {
         ensures { λ r. ⌜ r ≡ placeAs place 1022 0 (shape .«attribute_length») 0 (shape .channels) 0 (shape .«matrix_size_x») (shape .«matrix_size_y») (shape .«matrix_size_z») (shape .«data_type») ⌝ }
     {
         let mut r = Placed::bare(place, Kind::IMAGE);
-        r.matrix_x = shape.matrix_size_x;
-        r.matrix_y = shape.matrix_size_y;
-        r.matrix_z = shape.matrix_size_z;
+        r.matrix_size_x = shape.matrix_size_x;
+        r.matrix_size_y = shape.matrix_size_y;
+        r.matrix_size_z = shape.matrix_size_z;
         r.channels = shape.channels;
         r.data_type = shape.data_type;
         r.attribute_length = shape.attribute_length;
@@ -105,7 +105,7 @@ impl Placed {
         ensures { λ r. ⌜ r ≡ placeAs place 1026 0 0 (shape .«number_of_samples») (shape .channels) 0 0 0 0 0 ⌝ }
     {
         let mut r = Placed::bare(place, Kind::WAVEFORM);
-        r.samples = shape.number_of_samples;
+        r.number_of_samples = shape.number_of_samples;
         r.channels = shape.channels;
         r
     }

@@ -55,9 +55,9 @@ fn set_own_numbers(placed: &mut raw::mrd_placed, detail: Detail) {
             active_channels,
             dimensions,
         } => {
-            placed.samples = samples;
+            placed.number_of_samples = samples;
             placed.channels = active_channels;
-            placed.dimensions = dimensions;
+            placed.trajectory_dimensions = dimensions;
         }
         Detail::Image {
             matrix_size,
@@ -65,13 +65,13 @@ fn set_own_numbers(placed: &mut raw::mrd_placed, detail: Detail) {
             data_type,
             attribute_length,
         } => {
-            [placed.matrix_x, placed.matrix_y, placed.matrix_z] = matrix_size;
+            [placed.matrix_size_x, placed.matrix_size_y, placed.matrix_size_z] = matrix_size;
             placed.channels = channels;
             placed.data_type = data_type;
             placed.attribute_length = attribute_length;
         }
         Detail::Waveform { samples, channels } => {
-            placed.samples = samples;
+            placed.number_of_samples = samples;
             placed.channels = channels;
         }
     }

@@ -10,25 +10,10 @@ use Rattle.mrd_stream.specs.ReaderMeaning.{checkedMeaning}
 use Rattle.mrd_normal.proofs.normal_form.Statement.{statement}
 use Rattle.mrd_normal.proofs.normal_form.Tie as tie
 
-check-requires : tie.Need-check-requires
-check-requires c κs = search needs
-
-enum-told : tie.Need-enum-told
-enum-told c = search needs
-
 write-requires : tie.Need-write-requires
 write-requires c κs =
     let checked = c .before .enum-told .given in
     (checked .0 .0, sym (c .before .before .before .check .ensures) ∙ ap checkedMeaning (checked .1))
-
-enum-known-checked : tie.Need-enum-known-checked
-enum-known-checked c = search needs
-
-same-length : tie.Need-same-length
-same-length c = search needs
-
-returns : tie.Need-returns
-returns c = search needs
 
 returns-2 : tie.Need-returns-2
 returns-2 c =
@@ -41,10 +26,10 @@ pub normal-form-spec : {M : Type 1} → statement M
 normal-form-spec =
     tie.close
     (tie.spec
-    check-requires
-    enum-told
+    (λ c κs. search needs)
+    (λ c. search needs)
     write-requires
-    enum-known-checked
-    same-length
-    returns
+    (λ c. search needs)
+    (λ c. search needs)
+    (λ c. search needs)
     returns-2)

@@ -15,18 +15,12 @@ returns c =
     let s = now (start .args .s) in
     output-short s (length s) (normal s) (now (start .args .out)) (start .pre .1) (c .if1 .taken)
 
-copy-requires : tie.Need-copy-requires
-copy-requires c κs = search needs
-
 clear-fillers-requires : tie.Need-clear-fillers-requires
 clear-fillers-requires c κs =
     let copy = c .before .before .before in
     let test = copy .before .before in
     let start = test .before .before .before in
     copied (now (start .args .s)) (now (start .args .out)) (start .pre .1) (test .if1 .left) (copy .copy .ensures .1)
-
-same-length : tie.Need-same-length
-same-length c = search needs
 
 returns-2 : tie.Need-returns-2
 returns-2 c =
@@ -39,4 +33,4 @@ returns-2 c =
 
 pub write-spec : {M : Type 1} → statement M
 write-spec =
-    tie.close (tie.spec returns copy-requires clear-fillers-requires same-length returns-2)
+    tie.close (tie.spec returns (λ c κs. search needs) clear-fillers-requires (λ c. search needs) returns-2)

@@ -6,39 +6,6 @@ use Rattle.mrd_numbers.specs.HalfLaws.{halves-stored}
 use Rattle.mrd_numbers.proofs.put_u32.Statement.{statement}
 use Rattle.mrd_numbers.proofs.put_u32.Tie as tie
 
-sub-put-u16 : tie.Need-sub-put-u16
-sub-put-u16 c = search needs
-
-part-put-u16-start : tie.Need-part-put-u16-start
-part-put-u16-start c = search needs
-
-part-put-u16-end : tie.Need-part-put-u16-end
-part-put-u16-end c = search needs
-
-cast-put-u16 : tie.Need-cast-put-u16
-cast-put-u16 c = search needs
-
-put-u16-requires : tie.Need-put-u16-requires
-put-u16-requires c κs = search needs
-
-sub-put-u16-2 : tie.Need-sub-put-u16-2
-sub-put-u16-2 c = search needs
-
-part-put-u16-start-2 : tie.Need-part-put-u16-start-2
-part-put-u16-start-2 c = search needs
-
-part-put-u16-end-2 : tie.Need-part-put-u16-end-2
-part-put-u16-end-2 c = search needs
-
-cast-put-u16-2 : tie.Need-cast-put-u16-2
-cast-put-u16-2 c = search needs
-
-put-u16-requires-2 : tie.Need-put-u16-requires-2
-put-u16-requires-2 c κs = search needs
-
-same-length : tie.Need-same-length
-same-length c = search needs
-
 returns : tie.Need-returns
 returns c =
     let start = c .before .before .before .before .before .before .before .before .before in
@@ -50,15 +17,15 @@ pub put-u32-spec : {M : Type 1} → statement M
 put-u32-spec =
     tie.close
     (tie.spec
-    sub-put-u16
-    part-put-u16-start
-    part-put-u16-end
-    cast-put-u16
-    put-u16-requires
-    sub-put-u16-2
-    part-put-u16-start-2
-    part-put-u16-end-2
-    cast-put-u16-2
-    put-u16-requires-2
-    same-length
+    (λ c. search needs)
+    (λ c. search needs)
+    (λ c. search needs)
+    (λ c. search needs)
+    (λ c κs. search needs)
+    (λ c. search needs)
+    (λ c. search needs)
+    (λ c. search needs)
+    (λ c. search needs)
+    (λ c κs. search needs)
+    (λ c. search needs)
     returns)

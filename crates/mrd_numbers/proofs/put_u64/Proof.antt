@@ -6,39 +6,6 @@ use Rattle.mrd_numbers.specs.HalfLaws.{halves-stored}
 use Rattle.mrd_numbers.proofs.put_u64.Statement.{statement}
 use Rattle.mrd_numbers.proofs.put_u64.Tie as tie
 
-sub-put-u32 : tie.Need-sub-put-u32
-sub-put-u32 c = search needs
-
-part-put-u32-start : tie.Need-part-put-u32-start
-part-put-u32-start c = search needs
-
-part-put-u32-end : tie.Need-part-put-u32-end
-part-put-u32-end c = search needs
-
-cast-put-u32 : tie.Need-cast-put-u32
-cast-put-u32 c = search needs
-
-put-u32-requires : tie.Need-put-u32-requires
-put-u32-requires c κs = search needs
-
-sub-put-u32-2 : tie.Need-sub-put-u32-2
-sub-put-u32-2 c = search needs
-
-part-put-u32-start-2 : tie.Need-part-put-u32-start-2
-part-put-u32-start-2 c = search needs
-
-part-put-u32-end-2 : tie.Need-part-put-u32-end-2
-part-put-u32-end-2 c = search needs
-
-cast-put-u32-2 : tie.Need-cast-put-u32-2
-cast-put-u32-2 c = search needs
-
-put-u32-requires-2 : tie.Need-put-u32-requires-2
-put-u32-requires-2 c κs = search needs
-
-same-length : tie.Need-same-length
-same-length c = search needs
-
 returns : tie.Need-returns
 returns c =
     let start = c .before .before .before .before .before .before .before .before .before in
@@ -50,15 +17,15 @@ pub put-u64-spec : {M : Type 1} → statement M
 put-u64-spec =
     tie.close
     (tie.spec
-    sub-put-u32
-    part-put-u32-start
-    part-put-u32-end
-    cast-put-u32
-    put-u32-requires
-    sub-put-u32-2
-    part-put-u32-start-2
-    part-put-u32-end-2
-    cast-put-u32-2
-    put-u32-requires-2
-    same-length
+    (λ c. search needs)
+    (λ c. search needs)
+    (λ c. search needs)
+    (λ c. search needs)
+    (λ c κs. search needs)
+    (λ c. search needs)
+    (λ c. search needs)
+    (λ c. search needs)
+    (λ c. search needs)
+    (λ c κs. search needs)
+    (λ c. search needs)
     returns)

@@ -16,12 +16,6 @@ use borrow.Author.Needs.{needs}
 use Rattle.c_ask.proofs.question.question_of.Statement.{statement}
 use Rattle.c_ask.proofs.question.question_of.Tie as tie
 
-part-of-requires : tie.Need-part-of-requires
-part-of-requires c κs = search needs
-
-part-of-requires-2 : tie.Need-part-of-requires-2
-part-of-requires-2 c κs = search needs
-
 returns : tie.Need-returns
 unfolding questionOf
 returns c = rw (c .match .keys1)
@@ -47,4 +41,4 @@ returns-5 c =
 pub question-of-spec : {M : Type 1} → statement M
 question-of-spec =
     tie.close
-    (tie.spec part-of-requires part-of-requires-2 returns returns-2 returns-3 returns-4 returns-5)
+    (tie.spec (λ c κs. search needs) (λ c κs. search needs) returns returns-2 returns-3 returns-4 returns-5)

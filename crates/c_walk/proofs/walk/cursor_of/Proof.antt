@@ -4,11 +4,8 @@ use borrow.Author.Needs.{needs}
 use Rattle.c_walk.proofs.walk.cursor_of.Statement.{statement}
 use Rattle.c_walk.proofs.walk.cursor_of.Tie as tie
 
-phase-of-requires : tie.Need-phase-of-requires
-phase-of-requires c κs = search needs
-
 returns : tie.Need-returns
 returns c = rw (c .phase-of .ensures)
 
 pub cursor-of-spec : {M : Type 1} → statement M
-cursor-of-spec = tie.close (tie.spec phase-of-requires returns)
+cursor-of-spec = tie.close (tie.spec (λ c κs. search needs) returns)

@@ -6,18 +6,9 @@ use borrow.Author.Needs.{needs}
 use Rattle.cotterleaf.proofs.ask.mrd_ask_with_columns.Statement.{statement}
 use Rattle.cotterleaf.proofs.ask.mrd_ask_with_columns.Tie as tie
 
-question-of-requires : tie.Need-question-of-requires
-question-of-requires c κs = search needs
-
-ask-with-columns-requires : tie.Need-ask-with-columns-requires
-ask-with-columns-requires c κs = search needs
-
-of-requires : tie.Need-of-requires
-of-requires c κs = search needs
-
 returns : tie.Need-returns
 returns c = c .of .ensures ∙ ap cReply (rw (c .before .before .before .before .question-of .ensures) at (c .before .ask-with-columns .ensures .says))
 
 pub mrd-ask-with-columns-spec : {M : Type 1} → statement M
 mrd-ask-with-columns-spec =
-    tie.close (tie.spec question-of-requires ask-with-columns-requires of-requires returns)
+    tie.close (tie.spec (λ c κs. search needs) (λ c κs. search needs) (λ c κs. search needs) returns)

@@ -6,18 +6,9 @@ use borrow.Author.Needs.{needs}
 use Rattle.cotterleaf.proofs.ask.mrd_ask_with_file.Statement.{statement}
 use Rattle.cotterleaf.proofs.ask.mrd_ask_with_file.Tie as tie
 
-question-of-requires : tie.Need-question-of-requires
-question-of-requires c κs = search needs
-
-ask-with-file-requires : tie.Need-ask-with-file-requires
-ask-with-file-requires c κs = search needs
-
-of-requires : tie.Need-of-requires
-of-requires c κs = search needs
-
 returns : tie.Need-returns
 returns c = c .of .ensures ∙ ap cReply (rw (c .before .before .before .before .question-of .ensures) at (c .before .ask-with-file .ensures .says))
 
 pub mrd-ask-with-file-spec : {M : Type 1} → statement M
 mrd-ask-with-file-spec =
-    tie.close (tie.spec question-of-requires ask-with-file-requires of-requires returns)
+    tie.close (tie.spec (λ c κs. search needs) (λ c κs. search needs) (λ c κs. search needs) returns)

@@ -6,17 +6,8 @@ use borrow.Author.Needs.{needs}
 use Rattle.cotterleaf.proofs.at_cursor.mrd_field_at.Statement.{statement}
 use Rattle.cotterleaf.proofs.at_cursor.mrd_field_at.Tie as tie
 
-cursor-of-requires : tie.Need-cursor-of-requires
-cursor-of-requires c κs = search needs
-
-field-at-requires : tie.Need-field-at-requires
-field-at-requires c κs = search needs
-
-of-requires : tie.Need-of-requires
-of-requires c κs = search needs
-
 returns : tie.Need-returns
 returns c = c .of .ensures ∙ ap cField (rw (c .before .before .cursor-of .ensures) at (c .before .field-at .ensures .says))
 
 pub mrd-field-at-spec : {M : Type 1} → statement M
-mrd-field-at-spec = tie.close (tie.spec cursor-of-requires field-at-requires of-requires returns)
+mrd-field-at-spec = tie.close (tie.spec (λ c κs. search needs) (λ c κs. search needs) (λ c κs. search needs) returns)

@@ -6,18 +6,6 @@ use borrow.Author.Needs.{needs}
 use Rattle.cotterleaf.proofs.at_cursor.mrd_view_at.Statement.{statement}
 use Rattle.cotterleaf.proofs.at_cursor.mrd_view_at.Tie as tie
 
-cursor-of-requires : tie.Need-cursor-of-requires
-cursor-of-requires c κs = search needs
-
-part-of-requires : tie.Need-part-of-requires
-part-of-requires c κs = search needs
-
-view-place-at-requires : tie.Need-view-place-at-requires
-view-place-at-requires c κs = search needs
-
-of-requires : tie.Need-of-requires
-of-requires c κs = search needs
-
 returns : tie.Need-returns
 returns c = c .of .ensures ∙ ap cView (rw (c .before .before .part-of .ensures, c .before .before .before .cursor-of .ensures) at
     (c .before .view-place-at .ensures))
@@ -25,4 +13,4 @@ returns c = c .of .ensures ∙ ap cView (rw (c .before .before .part-of .ensures
 pub mrd-view-at-spec : {M : Type 1} → statement M
 mrd-view-at-spec =
     tie.close
-    (tie.spec cursor-of-requires part-of-requires view-place-at-requires of-requires returns)
+    (tie.spec (λ c κs. search needs) (λ c κs. search needs) (λ c κs. search needs) (λ c κs. search needs) returns)

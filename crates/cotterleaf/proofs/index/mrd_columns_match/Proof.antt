@@ -6,14 +6,8 @@ use borrow.Author.Needs.{needs}
 use Rattle.cotterleaf.proofs.index.mrd_columns_match.Statement.{statement}
 use Rattle.cotterleaf.proofs.index.mrd_columns_match.Tie as tie
 
-columns-match-requires : tie.Need-columns-match-requires
-columns-match-requires c κs = search needs
-
-of-requires : tie.Need-of-requires
-of-requires c κs = search needs
-
 returns : tie.Need-returns
 returns c = c .of .ensures ∙ ap cMatched (c .before .columns-match .ensures)
 
 pub mrd-columns-match-spec : {M : Type 1} → statement M
-mrd-columns-match-spec = tie.close (tie.spec columns-match-requires of-requires returns)
+mrd-columns-match-spec = tie.close (tie.spec (λ c κs. search needs) (λ c κs. search needs) returns)

@@ -16,21 +16,6 @@ use Rattle.cotterleaf.proofs.index.mrd_fill_columns.Tie as tie
 by : {x y : Answer ℕ} → x ≡ y → (w o : List ℕ) → outputBy x w o ≡ outputBy y w o
 by e w o = ap (λ (x : Answer ℕ). outputBy x w o) e
 
-fill-columns-requires : tie.Need-fill-columns-requires
-fill-columns-requires c κs = search needs
-
-of-requires : tie.Need-of-requires
-of-requires c κs = search needs
-
-same-length : tie.Need-same-length
-same-length c = search needs
-
-same-length-2 : tie.Need-same-length-2
-same-length-2 c = search needs
-
-same-length-3 : tie.Need-same-length-3
-same-length-3 c = search needs
-
 returns : tie.Need-returns
 returns c =
     let call = c .before .before .before .before .before .before .before in
@@ -47,4 +32,4 @@ returns c =
 pub mrd-fill-columns-spec : {M : Type 1} → statement M
 mrd-fill-columns-spec =
     tie.close
-    (tie.spec fill-columns-requires of-requires same-length same-length-2 same-length-3 returns)
+    (tie.spec (λ c κs. search needs) (λ c κs. search needs) (λ c. search needs) (λ c. search needs) (λ c. search needs) returns)

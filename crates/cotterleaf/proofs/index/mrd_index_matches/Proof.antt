@@ -6,14 +6,8 @@ use borrow.Author.Needs.{needs}
 use Rattle.cotterleaf.proofs.index.mrd_index_matches.Statement.{statement}
 use Rattle.cotterleaf.proofs.index.mrd_index_matches.Tie as tie
 
-index-matches-requires : tie.Need-index-matches-requires
-index-matches-requires c κs = search needs
-
-of-requires : tie.Need-of-requires
-of-requires c κs = search needs
-
 returns : tie.Need-returns
 returns c = c .of .ensures ∙ ap cMatched (c .before .index-matches .ensures)
 
 pub mrd-index-matches-spec : {M : Type 1} → statement M
-mrd-index-matches-spec = tie.close (tie.spec index-matches-requires of-requires returns)
+mrd-index-matches-spec = tie.close (tie.spec (λ c κs. search needs) (λ c κs. search needs) returns)

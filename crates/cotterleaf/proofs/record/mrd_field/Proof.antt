@@ -6,9 +6,6 @@ use borrow.Author.Needs.{needs}
 use Rattle.cotterleaf.proofs.record.mrd_field.Statement.{statement}
 use Rattle.cotterleaf.proofs.record.mrd_field.Tie as tie
 
-field-requires : tie.Need-field-requires
-field-requires c κs = search needs
-
 of-requires : tie.Need-of-requires
 of-requires c κs = c .field .ensures .apart
 
@@ -16,4 +13,4 @@ returns : tie.Need-returns
 returns c = c .of .ensures ∙ ap cField (c .before .field .ensures .says)
 
 pub mrd-field-spec : {M : Type 1} → statement M
-mrd-field-spec = tie.close (tie.spec field-requires of-requires returns)
+mrd-field-spec = tie.close (tie.spec (λ c κs. search needs) of-requires returns)

@@ -6,14 +6,8 @@ use borrow.Author.Needs.{needs}
 use Rattle.cotterleaf.proofs.record.mrd_find.Statement.{statement}
 use Rattle.cotterleaf.proofs.record.mrd_find.Tie as tie
 
-find-requires : tie.Need-find-requires
-find-requires c κs = search needs
-
-of-requires : tie.Need-of-requires
-of-requires c κs = search needs
-
 returns : tie.Need-returns
 returns c = c .of .ensures ∙ ap cFound (c .before .find .ensures)
 
 pub mrd-find-spec : {M : Type 1} → statement M
-mrd-find-spec = tie.close (tie.spec find-requires of-requires returns)
+mrd-find-spec = tie.close (tie.spec (λ c κs. search needs) (λ c κs. search needs) returns)

@@ -6,14 +6,8 @@ use borrow.Author.Needs.{needs}
 use Rattle.cotterleaf.proofs.stream.mrd_check.Statement.{statement}
 use Rattle.cotterleaf.proofs.stream.mrd_check.Tie as tie
 
-check-requires : tie.Need-check-requires
-check-requires c κs = search needs
-
-of-requires : tie.Need-of-requires
-of-requires c κs = search needs
-
 returns : tie.Need-returns
 returns c = c .of .ensures ∙ ap cChecked (c .before .check .ensures)
 
 pub mrd-check-spec : {M : Type 1} → statement M
-mrd-check-spec = tie.close (tie.spec check-requires of-requires returns)
+mrd-check-spec = tie.close (tie.spec (λ c κs. search needs) (λ c κs. search needs) returns)

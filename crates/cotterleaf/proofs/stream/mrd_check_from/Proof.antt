@@ -8,19 +8,10 @@ use borrow.Author.Needs.{needs}
 use Rattle.cotterleaf.proofs.stream.mrd_check_from.Statement.{statement}
 use Rattle.cotterleaf.proofs.stream.mrd_check_from.Tie as tie
 
-cursor-of-requires : tie.Need-cursor-of-requires
-cursor-of-requires c κs = search needs
-
-check-from-requires : tie.Need-check-from-requires
-check-from-requires c κs = search needs
-
-of-requires : tie.Need-of-requires
-of-requires c κs = search needs
-
 returns : tie.Need-returns
 returns c =
     let s = now (c .before .before .before .before .args .stream) in
     c .of .ensures ∙ ap cChecked (c .before .check-from .ensures ∙ ap (λ d. verdict (from d s)) (c .before .before .cursor-of .ensures))
 
 pub mrd-check-from-spec : {M : Type 1} → statement M
-mrd-check-from-spec = tie.close (tie.spec cursor-of-requires check-from-requires of-requires returns)
+mrd-check-from-spec = tie.close (tie.spec (λ c κs. search needs) (λ c κs. search needs) (λ c κs. search needs) returns)

@@ -8,19 +8,10 @@ use borrow.Author.Needs.{needs}
 use Rattle.cotterleaf.proofs.stream.mrd_next.Statement.{statement}
 use Rattle.cotterleaf.proofs.stream.mrd_next.Tie as tie
 
-cursor-of-requires : tie.Need-cursor-of-requires
-cursor-of-requires c κs = search needs
-
-next-requires : tie.Need-next-requires
-next-requires c κs = search needs
-
-of-requires : tie.Need-of-requires
-of-requires c κs = search needs
-
 returns : tie.Need-returns
 returns c =
     let s = now (c .before .before .before .before .args .stream) in
     c .of .ensures ∙ ap cStep (c .before .next .ensures ∙ ap (λ d. step d s) (c .before .before .cursor-of .ensures))
 
 pub mrd-next-spec : {M : Type 1} → statement M
-mrd-next-spec = tie.close (tie.spec cursor-of-requires next-requires of-requires returns)
+mrd-next-spec = tie.close (tie.spec (λ c κs. search needs) (λ c κs. search needs) (λ c κs. search needs) returns)

@@ -6,14 +6,8 @@ use borrow.Author.Needs.{needs}
 use Rattle.cotterleaf.proofs.stream.mrd_place.Statement.{statement}
 use Rattle.cotterleaf.proofs.stream.mrd_place.Tie as tie
 
-place-requires : tie.Need-place-requires
-place-requires c κs = search needs
-
-of-requires : tie.Need-of-requires
-of-requires c κs = search needs
-
 returns : tie.Need-returns
 returns c = c .of .ensures ∙ ap cPlaced (c .before .place .ensures)
 
 pub mrd-place-spec : {M : Type 1} → statement M
-mrd-place-spec = tie.close (tie.spec place-requires of-requires returns)
+mrd-place-spec = tie.close (tie.spec (λ c κs. search needs) (λ c κs. search needs) returns)

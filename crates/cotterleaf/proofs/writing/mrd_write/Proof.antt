@@ -6,19 +6,10 @@ use borrow.Author.Needs.{needs}
 use Rattle.cotterleaf.proofs.writing.mrd_write.Statement.{statement}
 use Rattle.cotterleaf.proofs.writing.mrd_write.Tie as tie
 
-write-requires : tie.Need-write-requires
-write-requires c κs = search needs
-
-of-requires : tie.Need-of-requires
-of-requires c κs = search needs
-
-same-length : tie.Need-same-length
-same-length c = search needs
-
 returns : tie.Need-returns
 returns c =
     let inner = c .before .before .before .write .ensures in
     (c .of .ensures ∙ ap cPut (inner .0), inner .1)
 
 pub mrd-write-spec : {M : Type 1} → statement M
-mrd-write-spec = tie.close (tie.spec write-requires of-requires same-length returns)
+mrd-write-spec = tie.close (tie.spec (λ c κs. search needs) (λ c κs. search needs) (λ c. search needs) returns)

@@ -5,17 +5,8 @@ use borrow.Author.Tests.{lt-ltb, le-ltb}
 use Rattle.mrd_acquisition.proofs.acquisition.channels_differ.Statement.{statement}
 use Rattle.mrd_acquisition.proofs.acquisition.channels_differ.Tie as tie
 
-read-u16-requires : tie.Need-read-u16-requires
-read-u16-requires c κs = search needs
-
-read-u16-requires-2 : tie.Need-read-u16-requires-2
-read-u16-requires-2 c κs = search needs
-
 returns : tie.Need-returns
 returns c = simp (← c .before .before .read-u16 .ensures, ← c .before .read-u162 .ensures, lt-ltb _ _ (c .if1 .taken))
-
-mask-differs-requires : tie.Need-mask-differs-requires
-mask-differs-requires c κs = search needs
 
 returns-2 : tie.Need-returns-2
 returns-2 c = simp (
@@ -28,4 +19,4 @@ returns-2 c = simp (
 pub channels-differ-spec : {M : Type 1} → statement M
 channels-differ-spec =
     tie.close
-    (tie.spec read-u16-requires read-u16-requires-2 returns mask-differs-requires returns-2)
+    (tie.spec (λ c κs. search needs) (λ c κs. search needs) returns (λ c κs. search needs) returns-2)

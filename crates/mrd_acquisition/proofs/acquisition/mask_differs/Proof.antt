@@ -7,18 +7,9 @@ use Rattle.mrd_format.specs.MaskLaws.{all-zero}
 use Rattle.mrd_acquisition.proofs.acquisition.mask_differs.Statement.{statement}
 use Rattle.mrd_acquisition.proofs.acquisition.mask_differs.Tie as tie
 
-mask-ones-requires : tie.Need-mask-ones-requires
-mask-ones-requires c κs = search needs
-
 returns : tie.Need-returns
 unfolding maskDiffers
 returns c = simp (all-zero, ← c .before .mask-ones .ensures, eq-eqb _ _ (c .if1 .taken))
-
-read-u16-requires : tie.Need-read-u16-requires
-read-u16-requires c κs = search needs
-
-cast-result : tie.Need-cast-result
-cast-result c = search needs
 
 returns-2 : tie.Need-returns-2
 unfolding maskDiffers
@@ -26,4 +17,4 @@ returns-2 c = simp (all-zero, ← c .before .before .mask-ones .ensures, ne-eqb 
 
 pub mask-differs-spec : {M : Type 1} → statement M
 mask-differs-spec =
-    tie.close (tie.spec mask-ones-requires returns read-u16-requires cast-result returns-2)
+    tie.close (tie.spec (λ c κs. search needs) returns (λ c κs. search needs) (λ c. search needs) returns-2)

@@ -4,14 +4,8 @@ use borrow.Author.Needs.{needs}
 use Rattle.mrd_ask.proofs.indexed.ask_with_file.Statement.{statement}
 use Rattle.mrd_ask.proofs.indexed.ask_with_file.Tie as tie
 
-index-matches-requires : tie.Need-index-matches-requires
-index-matches-requires c κs = search needs
-
-ask-if-requires : tie.Need-ask-if-requires
-ask-if-requires c κs = search needs
-
 returns : tie.Need-returns
 returns c = rw (← c .before .index-matches .ensures) (c .ask-if .ensures)
 
 pub ask-with-file-spec : {M : Type 1} → statement M
-ask-with-file-spec = tie.close (tie.spec index-matches-requires ask-if-requires returns)
+ask-with-file-spec = tie.close (tie.spec (λ c κs. search needs) (λ c κs. search needs) returns)

@@ -10,36 +10,15 @@ use borrow.Author.Needs.{needs}
 use Rattle.mrd_ask.proofs.view.part_at.Statement.{statement}
 use Rattle.mrd_ask.proofs.view.part_at.Tie as tie
 
-slice-aggregate-result : tie.Need-slice-aggregate-result
-slice-aggregate-result c = search needs
-
 returns : tie.Need-returns
 returns c =
     let a = c .before .before .args in
     rw (fitted-past (length (now (a .s))) (a .span) (c .before .if1 .taken)) (refl, (refl, omega arith))
 
-sub-if2 : tie.Need-sub-if2
-sub-if2 c = search needs
-
-slice-aggregate-result-2 : tie.Need-slice-aggregate-result-2
-slice-aggregate-result-2 c = search needs
-
 returns-2 : tie.Need-returns-2
 returns-2 c =
     let a = c .before .before .before .args in
     rw (fitted-long (length (now (a .s))) (a .span) (c .before .before .if1 .left) (c .before .if2 .taken)) (refl, (refl, omega arith))
-
-add-end : tie.Need-add-end
-add-end c = search needs
-
-sub-result : tie.Need-sub-result
-sub-result c = search needs
-
-part-result-start : tie.Need-part-result-start
-part-result-start c = search needs
-
-part-result-end : tie.Need-part-result-end
-part-result-end c = search needs
 
 returns-3 : tie.Need-returns-3
 returns-3 c =
@@ -52,13 +31,13 @@ pub part-at-spec : {M : Type 1} → statement M
 part-at-spec =
     tie.close
     (tie.spec
-    slice-aggregate-result
+    (λ c. search needs)
     returns
-    sub-if2
-    slice-aggregate-result-2
+    (λ c. search needs)
+    (λ c. search needs)
     returns-2
-    add-end
-    sub-result
-    part-result-start
-    part-result-end
+    (λ c. search needs)
+    (λ c. search needs)
+    (λ c. search needs)
+    (λ c. search needs)
     returns-3)

@@ -4,14 +4,8 @@ use borrow.Author.Needs.{needs}
 use Rattle.mrd_ask.proofs.view.reply_view.Statement.{statement}
 use Rattle.mrd_ask.proofs.view.reply_view.Tie as tie
 
-span-of-requires : tie.Need-span-of-requires
-span-of-requires c κs = search needs
-
-part-at-requires : tie.Need-part-at-requires
-part-at-requires c κs = search needs
-
 returns : tie.Need-returns
 returns c = rw (← c .before .span-of .ensures) (c .part-at .ensures)
 
 pub reply-view-spec : {M : Type 1} → statement M
-reply-view-spec = tie.close (tie.spec span-of-requires part-at-requires returns)
+reply-view-spec = tie.close (tie.spec (λ c κs. search needs) (λ c κs. search needs) returns)

@@ -20,15 +20,6 @@ put-places-requires c κs =
     let start = test .before .before .before .before .before in
     rw (entries-count (now (start .args .s)) (start .pre)) (rooms _ _ _ _ (test .if1 .left))
 
-same-length : tie.Need-same-length
-same-length c = search needs
-
-same-length-2 : tie.Need-same-length-2
-same-length-2 c = search needs
-
-same-length-3 : tie.Need-same-length-3
-same-length-3 c = search needs
-
 returns-2 : tie.Need-returns-2
 returns-2 c =
     let test = c .before .before .before .before .before .before .before .before .before .before in
@@ -41,4 +32,4 @@ returns-2 c =
 pub fill-spec : {M : Type 1} → statement M
 fill-spec =
     tie.close
-    (tie.spec returns put-places-requires same-length same-length-2 same-length-3 returns-2)
+    (tie.spec returns put-places-requires (λ c. search needs) (λ c. search needs) (λ c. search needs) returns-2)

@@ -8,30 +8,9 @@ use Rattle.mrd_columns.specs.ColumnLaws.{stream-refused}
 use Rattle.mrd_columns.proofs.columns.fill_columns.Statement.{statement}
 use Rattle.mrd_columns.proofs.columns.fill_columns.Tie as tie
 
-check-requires : tie.Need-check-requires
-check-requires c κs = search needs
-
-enum-known-checked : tie.Need-enum-known-checked
-enum-known-checked c = search needs
-
 fill-requires : tie.Need-fill-requires
 fill-requires c κs = sym (c .before .before .before .before .before .before .check .ensures) ∙ ap checkedMeaning
     (c .before .before .before .before .checked .given .1)
-
-enum-known-checked-2 : tie.Need-enum-known-checked-2
-enum-known-checked-2 c = search needs
-
-same-length : tie.Need-same-length
-same-length c = search needs
-
-same-length-2 : tie.Need-same-length-2
-same-length-2 c = search needs
-
-same-length-3 : tie.Need-same-length-3
-same-length-3 c = search needs
-
-returns : tie.Need-returns
-returns c = search needs
 
 returns-2 : tie.Need-returns-2
 returns-2 c =
@@ -43,12 +22,12 @@ pub fill-columns-spec : {M : Type 1} → statement M
 fill-columns-spec =
     tie.close
     (tie.spec
-    check-requires
-    enum-known-checked
+    (λ c κs. search needs)
+    (λ c. search needs)
     fill-requires
-    enum-known-checked-2
-    same-length
-    same-length-2
-    same-length-3
-    returns
+    (λ c. search needs)
+    (λ c. search needs)
+    (λ c. search needs)
+    (λ c. search needs)
+    (λ c. search needs)
     returns-2)

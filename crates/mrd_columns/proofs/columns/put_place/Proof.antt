@@ -14,33 +14,6 @@ returns c =
     let a = start .args in
     absurd (place-there (a .n) _ _ _ (start .pre) (c .if1 .taken))
 
-mul-starts : tie.Need-mul-starts
-mul-starts c = search needs
-
-slice-write-starts : tie.Need-slice-write-starts
-slice-write-starts c = search needs
-
-mul-ids : tie.Need-mul-ids
-mul-ids c = search needs
-
-slice-write-ids : tie.Need-slice-write-ids
-slice-write-ids c = search needs
-
-mul-counters : tie.Need-mul-counters
-mul-counters c = search needs
-
-slice-write-counters : tie.Need-slice-write-counters
-slice-write-counters c = search needs
-
-same-length : tie.Need-same-length
-same-length c = search needs
-
-same-length-2 : tie.Need-same-length-2
-same-length-2 c = search needs
-
-same-length-3 : tie.Need-same-length-3
-same-length-3 c = search needs
-
 returns-2 : tie.Need-returns-2
 returns-2 c =
     let start = c .before in
@@ -57,13 +30,13 @@ put-place-spec =
     tie.close
     (tie.spec
     returns
-    mul-starts
-    slice-write-starts
-    mul-ids
-    slice-write-ids
-    mul-counters
-    slice-write-counters
-    same-length
-    same-length-2
-    same-length-3
+    (λ c. search needs)
+    (λ c. search needs)
+    (λ c. search needs)
+    (λ c. search needs)
+    (λ c. search needs)
+    (λ c. search needs)
+    (λ c. search needs)
+    (λ c. search needs)
+    (λ c. search needs)
     returns-2)

@@ -9,12 +9,6 @@ use borrow.Author.Needs.{needs}
 use Rattle.mrd_counter_step.proofs.counter.as_signed.Statement.{statement}
 use Rattle.mrd_counter_step.proofs.counter.as_signed.Tie as tie
 
-cast-result : tie.Need-cast-result
-cast-result c = search needs
-
-cast-result-2 : tie.Need-cast-result-2
-cast-result-2 c = search needs
-
 -- what is known where the sign bit is set
 wide : (c : tie.Else1) → Wide (c .before .args .bits)
 wide c = signed-wide (c .before .args .bits) (c .if1 .left) (c .before .fits .bits .fits)
@@ -33,4 +27,4 @@ returns-2 c = rw (wide c .same, toZ-ofZ w64 _ (wide c .fits-wide), toZ-ofZ w32 _
 
 pub as-signed-spec : {M : Type 1} → statement M
 as-signed-spec =
-    tie.close (tie.spec cast-result cast-result-2 sub-result cast-result-3 returns returns-2)
+    tie.close (tie.spec (λ c. search needs) (λ c. search needs) sub-result cast-result-3 returns returns-2)

@@ -8,12 +8,6 @@ use borrow.Author.Needs.{needs}
 use Rattle.mrd_counter_step.proofs.counter.counter_step.Statement.{statement}
 use Rattle.mrd_counter_step.proofs.counter.counter_step.Tie as tie
 
-wrapping-sub-u32-requires : tie.Need-wrapping-sub-u32-requires
-wrapping-sub-u32-requires c κs = search needs
-
-as-signed-requires : tie.Need-as-signed-requires
-as-signed-requires c κs = search needs
-
 returns : tie.Need-returns
 returns c =
     let a = c .before .before .args in
@@ -22,4 +16,4 @@ returns c =
     ∙ step-wraps (a .earlier) (a .later) (c .before .wrapping-sub-u32 .result) (search needs) (search needs) (c .before .wrapping-sub-u32 .ensures)
 
 pub counter-step-spec : {M : Type 1} → statement M
-counter-step-spec = tie.close (tie.spec wrapping-sub-u32-requires as-signed-requires returns)
+counter-step-spec = tie.close (tie.spec (λ c κs. search needs) (λ c κs. search needs) returns)

@@ -36,20 +36,11 @@ at-i32 c = found (c .before) i32 (c .match .keys4)
 at-f32 : (c : tie.At-match-keys5) → FoundIn (c .before) f32
 at-f32 c = found (c .before) f32 (c .match .keys5)
 
-letter-requires : tie.Need-letter-requires
-letter-requires c κs = search needs
-
 read-u16-requires : tie.Need-read-u16-requires
 read-u16-requires c κs = at-u16 c .inside
 
-cast-t7 : tie.Need-cast-t7
-cast-t7 c = search needs
-
 read-u32-requires : tie.Need-read-u32-requires
 read-u32-requires c κs = at-u32 c .inside
-
-cast-t9 : tie.Need-cast-t9
-cast-t9 c = search needs
 
 read-u64-requires : tie.Need-read-u64-requires
 read-u64-requires c κs = at-u64 c .inside
@@ -57,14 +48,8 @@ read-u64-requires c κs = at-u64 c .inside
 read-u32-requires-2 : tie.Need-read-u32-requires-2
 read-u32-requires-2 c κs = at-i32 c .inside
 
-as-signed-requires : tie.Need-as-signed-requires
-as-signed-requires c κs = search needs
-
 read-u32-requires-3 : tie.Need-read-u32-requires-3
 read-u32-requires-3 c κs = at-f32 c .inside
-
-float-of-requires : tie.Need-float-of-requires
-float-of-requires c κs = search needs
 
 returns : tie.Need-returns
 returns c = record { says = ap whole (c .read-u16 .ensures) ∙ sym (at-u16 (c .before) .value); apart = tt }
@@ -112,16 +97,16 @@ pub field-spec : {M : Type 1} → statement M
 field-spec =
     tie.close
     (tie.spec
-    letter-requires
+    (λ c κs. search needs)
     read-u16-requires
-    cast-t7
+    (λ c. search needs)
     read-u32-requires
-    cast-t9
+    (λ c. search needs)
     read-u64-requires
     read-u32-requires-2
-    as-signed-requires
+    (λ c κs. search needs)
     read-u32-requires-3
-    float-of-requires
+    (λ c κs. search needs)
     returns
     returns-2
     returns-3

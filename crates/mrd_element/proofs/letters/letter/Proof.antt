@@ -14,33 +14,6 @@ use borrow.Author.Needs.{needs}
 use Rattle.mrd_element.proofs.letters.letter.Statement.{statement}
 use Rattle.mrd_element.proofs.letters.letter.Tie as tie
 
-enum-told : tie.Need-enum-told
-enum-told c = search needs
-
-slice-aggregate-letter-in : tie.Need-slice-aggregate-letter-in
-slice-aggregate-letter-in c = search needs
-
-letter-in-requires : tie.Need-letter-in-requires
-letter-in-requires c κs = search needs
-
-enum-told-2 : tie.Need-enum-told-2
-enum-told-2 c = search needs
-
-slice-aggregate-letter-in-2 : tie.Need-slice-aggregate-letter-in-2
-slice-aggregate-letter-in-2 c = search needs
-
-letter-in-requires-2 : tie.Need-letter-in-requires-2
-letter-in-requires-2 c κs = search needs
-
-enum-told-3 : tie.Need-enum-told-3
-enum-told-3 c = search needs
-
-slice-aggregate-letter-in-3 : tie.Need-slice-aggregate-letter-in-3
-slice-aggregate-letter-in-3 c = search needs
-
-letter-in-requires-3 : tie.Need-letter-in-requires-3
-letter-in-requires-3 c κs = search needs
-
 returns : tie.Need-returns
 unfolding typeAt
 returns c = rw
@@ -68,15 +41,15 @@ pub letter-spec : {M : Type 1} → statement M
 letter-spec =
     tie.close
     (tie.spec
-    enum-told
-    slice-aggregate-letter-in
-    letter-in-requires
-    enum-told-2
-    slice-aggregate-letter-in-2
-    letter-in-requires-2
-    enum-told-3
-    slice-aggregate-letter-in-3
-    letter-in-requires-3
+    (λ c. search needs)
+    (λ c. search needs)
+    (λ c κs. search needs)
+    (λ c. search needs)
+    (λ c. search needs)
+    (λ c κs. search needs)
+    (λ c. search needs)
+    (λ c. search needs)
+    (λ c κs. search needs)
     returns
     returns-2
     returns-3

@@ -7,9 +7,6 @@ use borrow.Author.Needs.{needs}
 use Rattle.mrd_element.proofs.letters.letter_in.Statement.{statement}
 use Rattle.mrd_element.proofs.letters.letter_in.Tie as tie
 
-shared-slice-read-result : tie.Need-shared-slice-read-result
-shared-slice-read-result c = search needs
-
 returns : tie.Need-returns
 returns c = getD-default (c .before .before .args .letters .now) (c .before .before .args .offset) 0 46 (c .before .if1 .taken)
 
@@ -17,4 +14,4 @@ returns-2 : tie.Need-returns-2
 returns-2 c = sym (List·getD-eq-default (c .before .args .letters .now) 46 (c .if1 .left))
 
 pub letter-in-spec : {M : Type 1} → statement M
-letter-in-spec = tie.close (tie.spec shared-slice-read-result returns returns-2)
+letter-in-spec = tie.close (tie.spec (λ c. search needs) returns returns-2)

@@ -7,9 +7,6 @@ use borrow.Author.Needs.{needs}
 use Rattle.mrd_fields.proofs.fields.field.Statement.{statement}
 use Rattle.mrd_fields.proofs.fields.field.Tie as tie
 
-place-requires : tie.Need-place-requires
-place-requires c κs = search needs
-
 placed-field-requires : tie.Need-placed-field-requires
 placed-field-requires c κs =
     let a = c .before .before .args in
@@ -20,4 +17,4 @@ unfolding fieldOf
 returns c = rw (← c .before .place .ensures) (c .placed-field .ensures)
 
 pub field-spec : {M : Type 1} → statement M
-field-spec = tie.close (tie.spec place-requires placed-field-requires returns)
+field-spec = tie.close (tie.spec (λ c κs. search needs) placed-field-requires returns)

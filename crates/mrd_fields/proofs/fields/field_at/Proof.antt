@@ -6,9 +6,6 @@ use borrow.Author.Needs.{needs}
 use Rattle.mrd_fields.proofs.fields.field_at.Statement.{statement}
 use Rattle.mrd_fields.proofs.fields.field_at.Tie as tie
 
-place-at-requires : tie.Need-place-at-requires
-place-at-requires c κs = search needs
-
 placed-field-requires : tie.Need-placed-field-requires
 placed-field-requires c κs =
     let a = c .before .before .args in
@@ -18,4 +15,4 @@ returns : tie.Need-returns
 returns c = rw (← c .before .place-at .ensures) (c .placed-field .ensures)
 
 pub field-at-spec : {M : Type 1} → statement M
-field-at-spec = tie.close (tie.spec place-at-requires placed-field-requires returns)
+field-at-spec = tie.close (tie.spec (λ c κs. search needs) placed-field-requires returns)

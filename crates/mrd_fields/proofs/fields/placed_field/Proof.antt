@@ -14,12 +14,6 @@ use borrow.Author.Needs.{needs}
 use Rattle.mrd_fields.proofs.fields.placed_field.Statement.{statement}
 use Rattle.mrd_fields.proofs.fields.placed_field.Tie as tie
 
-enum-known-placed : tie.Need-enum-known-placed
-enum-known-placed c = search needs
-
-kind-requires : tie.Need-kind-requires
-kind-requires c κs = search needs
-
 fixed-part-requires : tie.Need-fixed-part-requires
 fixed-part-requires c κs = rw (c .before .before .placed .given .1) at (c .before .before .before .before .before .pre)
 
@@ -32,12 +26,6 @@ field-requires c κs =
 
 valued-requires : tie.Need-valued-requires
 valued-requires c κs = c .field .ensures .apart
-
-enum-known-placed-2 : tie.Need-enum-known-placed-2
-enum-known-placed-2 c = search needs
-
-enum-known-placed-3 : tie.Need-enum-known-placed-3
-enum-known-placed-3 c = search needs
 
 returns : tie.Need-returns
 returns c =
@@ -61,13 +49,13 @@ pub placed-field-spec : {M : Type 1} → statement M
 placed-field-spec =
     tie.close
     (tie.spec
-    enum-known-placed
-    kind-requires
+    (λ c. search needs)
+    (λ c κs. search needs)
     fixed-part-requires
     field-requires
     valued-requires
-    enum-known-placed-2
-    enum-known-placed-3
+    (λ c. search needs)
+    (λ c. search needs)
     returns
     returns-2
     returns-3)

@@ -21,14 +21,8 @@ others (Float x) o = refl
 others (Nan n) o = refl
 others Absent o = absurd (miss (0 ∷ 1 ∷ 2 ∷ 3 ∷ []) 4 tt o)
 
-enum-told : tie.Need-enum-told
-enum-told c = search needs
-
-returns : tie.Need-returns
-returns c = search needs
-
 returns-2 : tie.Need-returns-2
 returns-2 c = record { says = others (c .before .args .value) (c .match .keys2); apart = c .before .pre }
 
 pub valued-spec : {M : Type 1} → statement M
-valued-spec = tie.close (tie.spec enum-told returns returns-2)
+valued-spec = tie.close (tie.spec (λ c. search needs) (λ c. search needs) returns-2)

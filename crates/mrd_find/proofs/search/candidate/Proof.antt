@@ -10,14 +10,8 @@ use Rattle.mrd_find.proofs.search.candidate.Tie as tie
 returns : tie.Need-returns
 returns c = rw (lt-leb _ _ (c .if1 .taken))
 
-kind-requires : tie.Need-kind-requires
-kind-requires c κs = search needs
-
-id-requires : tie.Need-id-requires
-id-requires c κs = search needs
-
 returns-2 : tie.Need-returns-2
 returns-2 c = rw (le-leb _ _ (c .before .before .if1 .left), c .id .ensures ∙ ap idOf (c .before .kind .ensures))
 
 pub candidate-spec : {M : Type 1} → statement M
-candidate-spec = tie.close (tie.spec returns kind-requires id-requires returns-2)
+candidate-spec = tie.close (tie.spec returns (λ c κs. search needs) (λ c κs. search needs) returns-2)

@@ -5,11 +5,8 @@ use borrow.Author.Needs.{needs}
 use Rattle.mrd_flags.proofs.flags.flag_clear.Statement.{statement}
 use Rattle.mrd_flags.proofs.flags.flag_clear.Tie as tie
 
-mask-requires : tie.Need-mask-requires
-mask-requires c κs = search needs
-
 returns : tie.Need-returns
 returns c = rw (c .mask .ensures) (clear-by-mask (c .before .args .n) (c .before .args .flags) (c .before .fits .flags .fits))
 
 pub flag-clear-spec : {M : Type 1} → statement M
-flag-clear-spec = tie.close (tie.spec mask-requires returns)
+flag-clear-spec = tie.close (tie.spec (λ c κs. search needs) returns)

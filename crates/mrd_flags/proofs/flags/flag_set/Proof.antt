@@ -5,11 +5,8 @@ use borrow.Author.Needs.{needs}
 use Rattle.mrd_flags.proofs.flags.flag_set.Statement.{statement}
 use Rattle.mrd_flags.proofs.flags.flag_set.Tie as tie
 
-mask-requires : tie.Need-mask-requires
-mask-requires c κs = search needs
-
 returns : tie.Need-returns
 returns c = rw (c .mask .ensures) (set-by-mask (c .before .args .n) (c .before .args .flags))
 
 pub flag-set-spec : {M : Type 1} → statement M
-flag-set-spec = tie.close (tie.spec mask-requires returns)
+flag-set-spec = tie.close (tie.spec (λ c κs. search needs) returns)

@@ -5,11 +5,8 @@ use borrow.Author.Needs.{needs}
 use Rattle.mrd_flags.proofs.flags.flag_test.Statement.{statement}
 use Rattle.mrd_flags.proofs.flags.flag_test.Tie as tie
 
-mask-requires : tie.Need-mask-requires
-mask-requires c κs = search needs
-
 returns : tie.Need-returns
 returns c = rw (c .mask .ensures) (test-by-mask (c .before .args .n) (c .before .args .flags))
 
 pub flag-test-spec : {M : Type 1} → statement M
-flag-test-spec = tie.close (tie.spec mask-requires returns)
+flag-test-spec = tie.close (tie.spec (λ c κs. search needs) returns)

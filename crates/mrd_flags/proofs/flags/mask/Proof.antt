@@ -16,14 +16,8 @@ returns-2 : tie.Need-returns-2
 unfolding flagSet
 returns-2 c = simp (lt-leb _ 64 (c .if2 .taken), and-false)
 
-cast-result : tie.Need-cast-result
-cast-result c = search needs
-
-shl-result : tie.Need-shl-result
-shl-result c = search needs
-
 returns-3 : tie.Need-returns-3
 returns-3 c = shifted-mask (c .before .before .args .n) (c .before .if1 .left) (c .if2 .left)
 
 pub mask-spec : {M : Type 1} → statement M
-mask-spec = tie.close (tie.spec returns returns-2 cast-result shl-result returns-3)
+mask-spec = tie.close (tie.spec returns returns-2 (λ c. search needs) (λ c. search needs) returns-3)

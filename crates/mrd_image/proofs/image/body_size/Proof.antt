@@ -7,24 +7,6 @@ use Rattle.mrd_format.specs.SizeLaws.{capped-twice, product, capped-product, ca
 use Rattle.mrd_image.proofs.image.body_size.Statement.{statement}
 use Rattle.mrd_image.proofs.image.body_size.Tie as tie
 
-attribute-length-requires : tie.Need-attribute-length-requires
-attribute-length-requires c κs = search needs
-
-cap-requires : tie.Need-cap-requires
-cap-requires c κs = search needs
-
-pixel-count-requires : tie.Need-pixel-count-requires
-pixel-count-requires c κs = search needs
-
-cap-requires-2 : tie.Need-cap-requires-2
-cap-requires-2 c κs = search needs
-
-read-u16-requires : tie.Need-read-u16-requires
-read-u16-requires c κs = search needs
-
-element-size-requires : tie.Need-element-size-requires
-element-size-requires c κs = search needs
-
 mul-pixels : tie.Need-mul-pixels
 mul-pixels c =
     let cap2 = c .before .before .cap2 in
@@ -72,12 +54,12 @@ pub body-size-spec : {M : Type 1} → statement M
 body-size-spec =
     tie.close
     (tie.spec
-    attribute-length-requires
-    cap-requires
-    pixel-count-requires
-    cap-requires-2
-    read-u16-requires
-    element-size-requires
+    (λ c κs. search needs)
+    (λ c κs. search needs)
+    (λ c κs. search needs)
+    (λ c κs. search needs)
+    (λ c κs. search needs)
+    (λ c κs. search needs)
     mul-pixels
     add-result
     returns)

@@ -10,12 +10,6 @@ use Rattle.mrd_format.specs.SizeLaws.{elementSize-small}
 use Rattle.mrd_image.proofs.image.element_size.Statement.{statement}
 use Rattle.mrd_image.proofs.image.element_size.Tie as tie
 
-mul-result : tie.Need-mul-result
-mul-result c = search needs
-
-array-read-result : tie.Need-array-read-result
-array-read-result c = search needs
-
 returns : tie.Need-returns
 unfolding elementSize
 returns c = (refl, elementSize-small (c .before .args .data-type))
@@ -25,4 +19,4 @@ unfolding elementSize
 returns-2 c = (sym (List·getD-eq-default (0 ∷ 2 ∷ 2 ∷ 4 ∷ 4 ∷ 4 ∷ 8 ∷ 8 ∷ 16 ∷ []) 0 (c .if1 .left)), omega arith)
 
 pub element-size-spec : {M : Type 1} → statement M
-element-size-spec = tie.close (tie.spec mul-result array-read-result returns returns-2)
+element-size-spec = tie.close (tie.spec (λ c. search needs) (λ c. search needs) returns returns-2)

@@ -5,18 +5,6 @@ use Rattle.mrd_format.specs.Image.{checks}
 use Rattle.mrd_image.proofs.image.fault.Statement.{statement}
 use Rattle.mrd_image.proofs.image.fault.Tie as tie
 
-read-u16-requires : tie.Need-read-u16-requires
-read-u16-requires c κs = search needs
-
-type-unknown-requires : tie.Need-type-unknown-requires
-type-unknown-requires c κs = search needs
-
-lengths-differ-requires : tie.Need-lengths-differ-requires
-lengths-differ-requires c κs = search needs
-
-first-fault-requires : tie.Need-first-fault-requires
-first-fault-requires c κs = search needs
-
 returns : tie.Need-returns
 unfolding checks
 returns c = simp (
@@ -30,8 +18,8 @@ pub fault-spec : {M : Type 1} → statement M
 fault-spec =
     tie.close
     (tie.spec
-    read-u16-requires
-    type-unknown-requires
-    lengths-differ-requires
-    first-fault-requires
+    (λ c κs. search needs)
+    (λ c κs. search needs)
+    (λ c κs. search needs)
+    (λ c κs. search needs)
     returns)

@@ -8,24 +8,6 @@ use Rattle.mrd_format.specs.SizeLaws.{product}
 use Rattle.mrd_image.proofs.image.pixel_count.Statement.{statement}
 use Rattle.mrd_image.proofs.image.pixel_count.Tie as tie
 
-read-u16-requires : tie.Need-read-u16-requires
-read-u16-requires c κs = search needs
-
-read-u16-requires-2 : tie.Need-read-u16-requires-2
-read-u16-requires-2 c κs = search needs
-
-product-requires : tie.Need-product-requires
-product-requires c κs = search needs
-
-read-u16-requires-3 : tie.Need-read-u16-requires-3
-read-u16-requires-3 c κs = search needs
-
-read-u16-requires-4 : tie.Need-read-u16-requires-4
-read-u16-requires-4 c κs = search needs
-
-product-requires-2 : tie.Need-product-requires-2
-product-requires-2 c κs = search needs
-
 mul-result : tie.Need-mul-result
 mul-result c = omega (
   arith,
@@ -52,11 +34,11 @@ pub pixel-count-spec : {M : Type 1} → statement M
 pixel-count-spec =
     tie.close
     (tie.spec
-    read-u16-requires
-    read-u16-requires-2
-    product-requires
-    read-u16-requires-3
-    read-u16-requires-4
-    product-requires-2
+    (λ c κs. search needs)
+    (λ c κs. search needs)
+    (λ c κs. search needs)
+    (λ c κs. search needs)
+    (λ c κs. search needs)
+    (λ c κs. search needs)
     mul-result
     returns)

@@ -5,24 +5,6 @@ use Rattle.mrd_format.specs.Image.{numbers}
 use Rattle.mrd_image.proofs.image.shape.Statement.{statement}
 use Rattle.mrd_image.proofs.image.shape.Tie as tie
 
-read-u16-requires : tie.Need-read-u16-requires
-read-u16-requires c κs = search needs
-
-read-u16-requires-2 : tie.Need-read-u16-requires-2
-read-u16-requires-2 c κs = search needs
-
-read-u16-requires-3 : tie.Need-read-u16-requires-3
-read-u16-requires-3 c κs = search needs
-
-read-u16-requires-4 : tie.Need-read-u16-requires-4
-read-u16-requires-4 c κs = search needs
-
-read-u16-requires-5 : tie.Need-read-u16-requires-5
-read-u16-requires-5 c κs = search needs
-
-attribute-length-requires : tie.Need-attribute-length-requires
-attribute-length-requires c κs = search needs
-
 returns : tie.Need-returns
 unfolding numbers
 returns c =
@@ -41,10 +23,10 @@ pub shape-spec : {M : Type 1} → statement M
 shape-spec =
     tie.close
     (tie.spec
-    read-u16-requires
-    read-u16-requires-2
-    read-u16-requires-3
-    read-u16-requires-4
-    read-u16-requires-5
-    attribute-length-requires
+    (λ c κs. search needs)
+    (λ c κs. search needs)
+    (λ c κs. search needs)
+    (λ c κs. search needs)
+    (λ c κs. search needs)
+    (λ c κs. search needs)
     returns)

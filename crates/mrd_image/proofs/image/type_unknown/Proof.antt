@@ -5,9 +5,6 @@ use borrow.Author.Tests.{ne-eqb, eq-eqb}
 use Rattle.mrd_image.proofs.image.type_unknown.Statement.{statement}
 use Rattle.mrd_image.proofs.image.type_unknown.Tie as tie
 
-read-u16-requires : tie.Need-read-u16-requires
-read-u16-requires c κs = search needs
-
 returns : tie.Need-returns
 returns c = simp (← c .before .read-u16 .ensures, eq-eqb _ _ (c .if1 .taken))
 
@@ -15,4 +12,4 @@ returns-2 : tie.Need-returns-2
 returns-2 c = simp (← c .before .read-u16 .ensures, ne-eqb _ _ (c .if1 .left))
 
 pub type-unknown-spec : {M : Type 1} → statement M
-type-unknown-spec = tie.close (tie.spec read-u16-requires returns returns-2)
+type-unknown-spec = tie.close (tie.spec (λ c κs. search needs) returns returns-2)

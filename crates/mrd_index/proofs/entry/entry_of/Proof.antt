@@ -8,21 +8,6 @@ use Rattle.mrd_judge.specs.JudgeLaws.{fixed-long}
 use Rattle.mrd_index.proofs.entry.entry_of.Statement.{statement}
 use Rattle.mrd_index.proofs.entry.entry_of.Tie as tie
 
-kind-requires : tie.Need-kind-requires
-kind-requires c κs = search needs
-
-id-requires : tie.Need-id-requires
-id-requires c κs = search needs
-
-sub-fixed-part : tie.Need-sub-fixed-part
-sub-fixed-part c = search needs
-
-part-fixed-part-start : tie.Need-part-fixed-part-start
-part-fixed-part-start c = search needs
-
-part-fixed-part-end : tie.Need-part-fixed-part-end
-part-fixed-part-end c = search needs
-
 fixed-part-requires : tie.Need-fixed-part-requires
 fixed-part-requires c κs = rw (c .before .before .kind .ensures, length-part) (omega (arith, c .before .before .before .before .before .pre))
 
@@ -38,11 +23,11 @@ pub entry-of-spec : {M : Type 1} → statement M
 entry-of-spec =
     tie.close
     (tie.spec
-    kind-requires
-    id-requires
-    sub-fixed-part
-    part-fixed-part-start
-    part-fixed-part-end
+    (λ c κs. search needs)
+    (λ c κs. search needs)
+    (λ c. search needs)
+    (λ c. search needs)
+    (λ c. search needs)
     fixed-part-requires
     scan-counter-requires
     returns)

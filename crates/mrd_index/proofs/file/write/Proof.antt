@@ -32,9 +32,6 @@ returns c =
     let s = now (start .args .s) in
     output-short s (length (index s)) (index s) (now (start .args .out)) (start .pre) (rw (index-long s (start .pre)) (c .if1 .taken))
 
-put-front-requires : tie.Need-put-front-requires
-put-front-requires c κs = search needs
-
 put-entries-requires : tie.Need-put-entries-requires
 put-entries-requires c κs =
     let test = c .before .before .before .before .before in
@@ -45,12 +42,6 @@ cast-put-end : tie.Need-cast-put-end
 cast-put-end c =
     let start = c .before .before .before .before .before .before .before .before .before .before .before .before in
     omega (arith, few (now (start .args .s)) (start .pre))
-
-put-end-requires : tie.Need-put-end-requires
-put-end-requires c κs = search needs
-
-same-length : tie.Need-same-length
-same-length c = search needs
 
 returns-2 : tie.Need-returns-2
 returns-2 c =
@@ -67,9 +58,9 @@ write-spec =
     add-end
     add-size
     returns
-    put-front-requires
+    (λ c κs. search needs)
     put-entries-requires
     cast-put-end
-    put-end-requires
-    same-length
+    (λ c κs. search needs)
+    (λ c. search needs)
     returns-2)

@@ -10,23 +10,8 @@ use Rattle.mrd_stream.specs.ReaderMeaning.{checkedMeaning}
 use Rattle.mrd_index.proofs.file.write_index.Statement.{statement}
 use Rattle.mrd_index.proofs.file.write_index.Tie as tie
 
-check-requires : tie.Need-check-requires
-check-requires c κs = search needs
-
-enum-known-checked : tie.Need-enum-known-checked
-enum-known-checked c = search needs
-
 write-requires : tie.Need-write-requires
 write-requires c κs = sym (c .before .before .before .before .check .ensures) ∙ ap checkedMeaning (c .before .before .checked .given .1)
-
-enum-known-checked-2 : tie.Need-enum-known-checked-2
-enum-known-checked-2 c = search needs
-
-same-length : tie.Need-same-length
-same-length c = search needs
-
-returns : tie.Need-returns
-returns c = search needs
 
 returns-2 : tie.Need-returns-2
 returns-2 c =
@@ -39,10 +24,10 @@ pub write-index-spec : {M : Type 1} → statement M
 write-index-spec =
     tie.close
     (tie.spec
-    check-requires
-    enum-known-checked
+    (λ c κs. search needs)
+    (λ c. search needs)
     write-requires
-    enum-known-checked-2
-    same-length
-    returns
+    (λ c. search needs)
+    (λ c. search needs)
+    (λ c. search needs)
     returns-2)

@@ -15,21 +15,6 @@ returns-2 : tie.Need-returns-2
 unfolding cursorFor
 returns-2 c = simp (le-ltb _ _ (c .if2 .taken), and-false)
 
-mul-t4 : tie.Need-mul-t4
-mul-t4 c = search needs
-
-shared-slice-read-t7 : tie.Need-shared-slice-read-t7
-shared-slice-read-t7 c = search needs
-
-mul-phase-for : tie.Need-mul-phase-for
-mul-phase-for c = search needs
-
-shared-slice-read-phase-for : tie.Need-shared-slice-read-phase-for
-shared-slice-read-phase-for c = search needs
-
-phase-for-requires : tie.Need-phase-for-requires
-phase-for-requires c κs = search needs
-
 returns-3 : tie.Need-returns-3
 unfolding cursorFor
 returns-3 c =
@@ -41,9 +26,9 @@ cursor-for-spec =
     (tie.spec
     returns
     returns-2
-    mul-t4
-    shared-slice-read-t7
-    mul-phase-for
-    shared-slice-read-phase-for
-    phase-for-requires
+    (λ c. search needs)
+    (λ c. search needs)
+    (λ c. search needs)
+    (λ c. search needs)
+    (λ c κs. search needs)
     returns-3)

@@ -5,18 +5,6 @@ use borrow.Author.Needs.{needs}
 use Rattle.mrd_index_cursor.proofs.jump.phase_for.Statement.{statement}
 use Rattle.mrd_index_cursor.proofs.jump.phase_for.Tie as tie
 
-of-id-requires : tie.Need-of-id-requires
-of-id-requires c κs = search needs
-
-enum-known-kind : tie.Need-enum-known-kind
-enum-known-kind c = search needs
-
-phase-before-requires : tie.Need-phase-before-requires
-phase-before-requires c κs = search needs
-
-enum-told : tie.Need-enum-told
-enum-told c = search needs
-
 returns : tie.Need-returns
 returns c = rw (sym (c .before .before .before .before .of-id .ensures) ∙ c .before .before .kind .given .1) (c .phase-before .ensures)
 
@@ -26,4 +14,4 @@ returns-2 c = rw (sym (c .before .before .of-id .ensures) ∙ c .enum-told .give
 pub phase-for-spec : {M : Type 1} → statement M
 phase-for-spec =
     tie.close
-    (tie.spec of-id-requires enum-known-kind phase-before-requires enum-told returns returns-2)
+    (tie.spec (λ c κs. search needs) (λ c. search needs) (λ c κs. search needs) (λ c. search needs) returns returns-2)

@@ -11,18 +11,6 @@ use Rattle.mrd_tagged.specs.TaggedLaws.{two-stored}
 use Rattle.mrd_index_fields.proofs.put.put_end.Statement.{statement}
 use Rattle.mrd_index_fields.proofs.put.put_end.Tie as tie
 
-put-tag-requires : tie.Need-put-tag-requires
-put-tag-requires c κs = search needs
-
-add-put-u32-at : tie.Need-add-put-u32-at
-add-put-u32-at c = search needs
-
-put-u32-at-requires : tie.Need-put-u32-at-requires
-put-u32-at-requires c κs = search needs
-
-same-length : tie.Need-same-length
-same-length c = search needs
-
 returns : tie.Need-returns
 returns c =
     let tag = c .before .before .before .before .before .before in
@@ -33,4 +21,4 @@ returns c =
 
 pub put-end-spec : {M : Type 1} → statement M
 put-end-spec =
-    tie.close (tie.spec put-tag-requires add-put-u32-at put-u32-at-requires same-length returns)
+    tie.close (tie.spec (λ c κs. search needs) (λ c. search needs) (λ c κs. search needs) (λ c. search needs) returns)

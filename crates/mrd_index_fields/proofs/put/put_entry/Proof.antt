@@ -11,35 +11,8 @@ use Rattle.mrd_tagged.specs.TaggedLaws.{four-stored}
 use Rattle.mrd_index_fields.proofs.put.put_entry.Statement.{statement}
 use Rattle.mrd_index_fields.proofs.put.put_entry.Tie as tie
 
-add-if1 : tie.Need-add-if1
-add-if1 c = search needs
-
 returns : tie.Need-returns
 returns c = absurd (omega (arith, c .if1 .taken, c .before .before .pre))
-
-put-tag-requires : tie.Need-put-tag-requires
-put-tag-requires c κs = search needs
-
-add-put-u64-at : tie.Need-add-put-u64-at
-add-put-u64-at c = search needs
-
-put-u64-at-requires : tie.Need-put-u64-at-requires
-put-u64-at-requires c κs = search needs
-
-add-put-u16-at : tie.Need-add-put-u16-at
-add-put-u16-at c = search needs
-
-put-u16-at-requires : tie.Need-put-u16-at-requires
-put-u16-at-requires c κs = search needs
-
-add-put-u32-at : tie.Need-add-put-u32-at
-add-put-u32-at c = search needs
-
-put-u32-at-requires : tie.Need-put-u32-at-requires
-put-u32-at-requires c κs = search needs
-
-same-length : tie.Need-same-length
-same-length c = search needs
 
 returns-2 : tie.Need-returns-2
 returns-2 c =
@@ -54,14 +27,14 @@ pub put-entry-spec : {M : Type 1} → statement M
 put-entry-spec =
     tie.close
     (tie.spec
-    add-if1
+    (λ c. search needs)
     returns
-    put-tag-requires
-    add-put-u64-at
-    put-u64-at-requires
-    add-put-u16-at
-    put-u16-at-requires
-    add-put-u32-at
-    put-u32-at-requires
-    same-length
+    (λ c κs. search needs)
+    (λ c. search needs)
+    (λ c κs. search needs)
+    (λ c. search needs)
+    (λ c κs. search needs)
+    (λ c. search needs)
+    (λ c κs. search needs)
+    (λ c. search needs)
     returns-2)

@@ -12,22 +12,10 @@ use Rattle.mrd_stream.specs.Index.{endField}
 use Rattle.mrd_index_fields.proofs.same.end_same.Statement.{statement}
 use Rattle.mrd_index_fields.proofs.same.end_same.Tie as tie
 
-add-if1 : tie.Need-add-if1
-add-if1 c = search needs
-
 returns : tie.Need-returns
 returns c =
     let a = c .before .before .args in
     sym (rest-other (now (a .file)) (endField (a .count)) (a .at) (omega arith) (λ e. omega (arith, c .if1 .taken, e)))
-
-tag-same-requires : tie.Need-tag-same-requires
-tag-same-requires c κs = search needs
-
-add-u32-same : tie.Need-add-u32-same
-add-u32-same c = search needs
-
-u32-same-requires : tie.Need-u32-same-requires
-u32-same-requires c κs = search needs
 
 returns-2 : tie.Need-returns-2
 returns-2 c =
@@ -39,4 +27,4 @@ returns-2 c =
 pub end-same-spec : {M : Type 1} → statement M
 end-same-spec =
     tie.close
-    (tie.spec add-if1 returns tag-same-requires add-u32-same u32-same-requires returns-2)
+    (tie.spec (λ c. search needs) returns (λ c κs. search needs) (λ c. search needs) (λ c κs. search needs) returns-2)

@@ -14,34 +14,10 @@ use Rattle.mrd_index_fields.specs.IndexFields.{entryMeaning}
 use Rattle.mrd_index_fields.proofs.same.entry_same.Statement.{statement}
 use Rattle.mrd_index_fields.proofs.same.entry_same.Tie as tie
 
-add-if1 : tie.Need-add-if1
-add-if1 c = search needs
-
 returns : tie.Need-returns
 returns c =
     let a = c .before .before .args in
     sym (rest-short (now (a .file)) (entryField (entryMeaning (a .entry))) (a .at) (omega arith) (c .if1 .taken))
-
-add-u16-same : tie.Need-add-u16-same
-add-u16-same c = search needs
-
-u16-same-requires : tie.Need-u16-same-requires
-u16-same-requires c κs = search needs
-
-add-u32-same : tie.Need-add-u32-same
-add-u32-same c = search needs
-
-u32-same-requires : tie.Need-u32-same-requires
-u32-same-requires c κs = search needs
-
-tag-same-requires : tie.Need-tag-same-requires
-tag-same-requires c κs = search needs
-
-add-u64-same : tie.Need-add-u64-same
-add-u64-same c = search needs
-
-u64-same-requires : tie.Need-u64-same-requires
-u64-same-requires c κs = search needs
 
 returns-2 : tie.Need-returns-2
 returns-2 c =
@@ -54,13 +30,13 @@ pub entry-same-spec : {M : Type 1} → statement M
 entry-same-spec =
     tie.close
     (tie.spec
-    add-if1
+    (λ c. search needs)
     returns
-    add-u16-same
-    u16-same-requires
-    add-u32-same
-    u32-same-requires
-    tag-same-requires
-    add-u64-same
-    u64-same-requires
+    (λ c. search needs)
+    (λ c κs. search needs)
+    (λ c. search needs)
+    (λ c κs. search needs)
+    (λ c κs. search needs)
+    (λ c. search needs)
+    (λ c κs. search needs)
     returns-2)

@@ -17,18 +17,6 @@ returns c =
     let a = c .before .before .args in
     sym (rest-short (now (a .file)) (frontField (a .total)) 0 (omega arith) (c .if1 .taken))
 
-tag-same-requires : tie.Need-tag-same-requires
-tag-same-requires c κs = search needs
-
-u64-same-requires : tie.Need-u64-same-requires
-u64-same-requires c κs = search needs
-
-tag-same-requires-2 : tie.Need-tag-same-requires-2
-tag-same-requires-2 c κs = search needs
-
-u16-same-requires : tie.Need-u16-same-requires
-u16-same-requires c κs = search needs
-
 returns-2 : tie.Need-returns-2
 returns-2 c =
     let a = c .before .before .before .before .before .before .args in
@@ -40,8 +28,8 @@ front-same-spec =
     tie.close
     (tie.spec
     returns
-    tag-same-requires
-    u64-same-requires
-    tag-same-requires-2
-    u16-same-requires
+    (λ c κs. search needs)
+    (λ c κs. search needs)
+    (λ c κs. search needs)
+    (λ c κs. search needs)
     returns-2)

@@ -7,16 +7,10 @@ use Rattle.mrd_index_match.specs.CompareLaws.{columns-match}
 use Rattle.mrd_index_match.proofs.compare.columns_match.Statement.{statement}
 use Rattle.mrd_index_match.proofs.compare.columns_match.Tie as tie
 
-slice-aggregate-compare : tie.Need-slice-aggregate-compare
-slice-aggregate-compare c = search needs
-
-compare-requires : tie.Need-compare-requires
-compare-requires c κs = search needs
-
 returns : tie.Need-returns
 returns c =
     let a = c .before .before .before .before .before .before .args in
     c .compare .ensures ∙ columns-match (now (a .s)) _ (now (a .starts)) (now (a .ids)) (now (a .counters))
 
 pub columns-match-spec : {M : Type 1} → statement M
-columns-match-spec = tie.close (tie.spec slice-aggregate-compare compare-requires returns)
+columns-match-spec = tie.close (tie.spec (λ c. search needs) (λ c κs. search needs) returns)

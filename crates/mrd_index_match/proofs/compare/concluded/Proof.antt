@@ -8,17 +8,11 @@ use Rattle.mrd_index_match.specs.Compare.{conclusion}
 use Rattle.mrd_index_match.proofs.compare.concluded.Statement.{statement}
 use Rattle.mrd_index_match.proofs.compare.concluded.Tie as tie
 
-enum-known-answer : tie.Need-enum-known-answer
-enum-known-answer c = search needs
-
 end-same-requires : tie.Need-end-same-requires
 end-same-requires c κs = rw (c .before .answer .given .1) at (c .before .before .before .before .pre)
 
 returns : tie.Need-returns
 returns c = rw (c .before .before .before .answer .given .1, ← c .before .end-same .ensures, c .if1 .taken)
-
-enum-known-answer-2 : tie.Need-enum-known-answer-2
-enum-known-answer-2 c = search needs
 
 returns-2 : tie.Need-returns-2
 returns-2 c = rw (c .before .before .before .answer .given .1, ← c .before .end-same .ensures, c .if1 .left)
@@ -31,4 +25,4 @@ returns-3 c =
 pub concluded-spec : {M : Type 1} → statement M
 concluded-spec =
     tie.close
-    (tie.spec enum-known-answer end-same-requires returns enum-known-answer-2 returns-2 returns-3)
+    (tie.spec (λ c. search needs) end-same-requires returns (λ c. search needs) returns-2 returns-3)

@@ -8,27 +8,6 @@ use Rattle.mrd_index_match.specs.Compare.{given, entryBy}
 use Rattle.mrd_index_match.proofs.compare.record_same.Statement.{statement}
 use Rattle.mrd_index_match.proofs.compare.record_same.Tie as tie
 
-entry-of-requires : tie.Need-entry-of-requires
-entry-of-requires c κs = search needs
-
-enum-told : tie.Need-enum-told
-enum-told c = search needs
-
-mul-entry-same : tie.Need-mul-entry-same
-mul-entry-same c = search needs
-
-add-entry-same : tie.Need-add-entry-same
-add-entry-same c = search needs
-
-entry-same-requires : tie.Need-entry-same-requires
-entry-same-requires c κs = search needs
-
-enum-told-2 : tie.Need-enum-told-2
-enum-told-2 c = search needs
-
-places-same-requires : tie.Need-places-same-requires
-places-same-requires c κs = search needs
-
 returns : tie.Need-returns
 returns c =
     let a = c .before .before .before .before .before .before .before .before .before .before .before .args in
@@ -48,12 +27,12 @@ pub record-same-spec : {M : Type 1} → statement M
 record-same-spec =
     tie.close
     (tie.spec
-    entry-of-requires
-    enum-told
-    mul-entry-same
-    add-entry-same
-    entry-same-requires
-    enum-told-2
-    places-same-requires
+    (λ c κs. search needs)
+    (λ c. search needs)
+    (λ c. search needs)
+    (λ c. search needs)
+    (λ c κs. search needs)
+    (λ c. search needs)
+    (λ c κs. search needs)
     returns
     returns-2)

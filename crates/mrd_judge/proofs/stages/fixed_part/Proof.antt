@@ -9,21 +9,6 @@ use Rattle.mrd_format.specs.Message.{fixedPart}
 use Rattle.mrd_judge.proofs.stages.fixed_part.Statement.{statement}
 use Rattle.mrd_judge.proofs.stages.fixed_part.Tie as tie
 
-fixed-size-requires : tie.Need-fixed-size-requires
-fixed-size-requires c κs = search needs
-
-add-end : tie.Need-add-end
-add-end c = search needs
-
-sub-result : tie.Need-sub-result
-sub-result c = search needs
-
-part-result-start : tie.Need-part-result-start
-part-result-start c = search needs
-
-part-result-end : tie.Need-part-result-end
-part-result-end c = search needs
-
 returns : tie.Need-returns
 unfolding fixedPart
 returns c = let k = c .before .before .before .args .kind in
@@ -33,4 +18,4 @@ returns c = let k = c .before .before .before .args .kind in
 pub fixed-part-spec : {M : Type 1} → statement M
 fixed-part-spec =
     tie.close
-    (tie.spec fixed-size-requires add-end sub-result part-result-start part-result-end returns)
+    (tie.spec (λ c κs. search needs) (λ c. search needs) (λ c. search needs) (λ c. search needs) (λ c. search needs) returns)

@@ -9,9 +9,6 @@ use Rattle.mrd_judge.specs.JudgeLaws as laws
 use Rattle.mrd_judge.proofs.stages.judge.Statement.{statement}
 use Rattle.mrd_judge.proofs.stages.judge.Tie as tie
 
-judge-front-requires : tie.Need-judge-front-requires
-judge-front-requires c κs = search needs
-
 returns : tie.Need-returns
 unfolding judge
 returns c =
@@ -22,15 +19,6 @@ read-u16-requires : tie.Need-read-u16-requires
 read-u16-requires c κs =
     let start = c .before .before .before in
     laws.front-two (start .args .c) (now (start .args .t)) (start .pre) (sym (c .before .judge-front .ensures) ∙ c .if1 .left)
-
-of-id-requires : tie.Need-of-id-requires
-of-id-requires c κs = search needs
-
-judge-id-requires : tie.Need-judge-id-requires
-judge-id-requires c κs = search needs
-
-enum-known-identified : tie.Need-enum-known-identified
-enum-known-identified c = search needs
 
 returns-2 : tie.Need-returns-2
 unfolding judge
@@ -48,9 +36,6 @@ judge-body-requires c κs =
     let test = c .before .before .before .before .before .before .before in
     let start = test .before .before .before in
     laws.front-two (start .args .c) (now (start .args .t)) (start .pre) (sym (test .before .judge-front .ensures) ∙ test .if1 .left)
-
-enum-told : tie.Need-enum-told
-enum-told c = search needs
 
 returns-3 : tie.Need-returns-3
 unfolding judge
@@ -77,14 +62,14 @@ pub judge-spec : {M : Type 1} → statement M
 judge-spec =
     tie.close
     (tie.spec
-    judge-front-requires
+    (λ c κs. search needs)
     returns
     read-u16-requires
-    of-id-requires
-    judge-id-requires
-    enum-known-identified
+    (λ c κs. search needs)
+    (λ c κs. search needs)
+    (λ c. search needs)
     returns-2
     judge-body-requires
-    enum-told
+    (λ c. search needs)
     returns-3
     returns-4)

@@ -12,9 +12,6 @@ use Rattle.mrd_judge.specs.JudgeLaws as laws
 use Rattle.mrd_judge.proofs.stages.judge_body.Statement.{statement}
 use Rattle.mrd_judge.proofs.stages.judge_body.Tie as tie
 
-judge-fixed-requires : tie.Need-judge-fixed-requires
-judge-fixed-requires c κs = search needs
-
 returns : tie.Need-returns
 returns c =
     let a = c .before .before .before .args in
@@ -31,9 +28,6 @@ size-requires c κs =
     let a = test .before .before .before .args in
     ap length (c .fixed-part .ensures) ∙ laws.fixed-long (a .kind) (now (a .t))
     (laws.fixed-fits (a .kind) (now (a .t)) (sym (test .before .judge-fixed .ensures) ∙ test .if1 .left))
-
-judge-size-requires : tie.Need-judge-size-requires
-judge-size-requires c κs = search needs
 
 returns-2 : tie.Need-returns-2
 returns-2 c =
@@ -57,10 +51,10 @@ pub judge-body-spec : {M : Type 1} → statement M
 judge-body-spec =
     tie.close
     (tie.spec
-    judge-fixed-requires
+    (λ c κs. search needs)
     returns
     fixed-part-requires
     size-requires
-    judge-size-requires
+    (λ c κs. search needs)
     returns-2
     returns-3)

@@ -13,21 +13,12 @@ use Rattle.mrd_judge.specs.Stages.{fixedChecks}
 use Rattle.mrd_judge.proofs.stages.judge_fixed.Statement.{statement}
 use Rattle.mrd_judge.proofs.stages.judge_fixed.Tie as tie
 
-sub-if1 : tie.Need-sub-if1
-sub-if1 c = search needs
-
-fixed-size-requires : tie.Need-fixed-size-requires
-fixed-size-requires c κs = search needs
-
 returns : tie.Need-returns
 unfolding fixedChecks
 returns c =
     let start = c .before .before .before in
     let short : length (now (start .args .t)) < 2 + fixedSize (start .args .kind) = omega (arith, c .before .fixed-size .ensures, start .pre) in
     rw (lt-ltb _ _ short)
-
-fixed-part-requires : tie.Need-fixed-part-requires
-fixed-part-requires c κs = search needs
 
 fault-requires : tie.Need-fault-requires
 fault-requires c κs =
@@ -46,4 +37,4 @@ returns-2 c =
 pub judge-fixed-spec : {M : Type 1} → statement M
 judge-fixed-spec =
     tie.close
-    (tie.spec sub-if1 fixed-size-requires returns fixed-part-requires fault-requires returns-2)
+    (tie.spec (λ c. search needs) (λ c κs. search needs) returns (λ c κs. search needs) fault-requires returns-2)

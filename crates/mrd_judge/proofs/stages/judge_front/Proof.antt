@@ -6,9 +6,6 @@ use Rattle.mrd_judge.specs.Stages.{frontChecks}
 use Rattle.mrd_judge.proofs.stages.judge_front.Statement.{statement}
 use Rattle.mrd_judge.proofs.stages.judge_front.Tie as tie
 
-is-closed-requires : tie.Need-is-closed-requires
-is-closed-requires c κs = search needs
-
 returns : tie.Need-returns
 unfolding frontChecks
 returns c = simp (← c .before .is-closed .ensures, c .if1 .taken)
@@ -30,4 +27,4 @@ returns-4 c =
     simp (← closed .before .is-closed .ensures, closed .if1 .left, lt-leb _ _ (c .before .if2 .left), ne-eqb _ _ (c .if3 .left))
 
 pub judge-front-spec : {M : Type 1} → statement M
-judge-front-spec = tie.close (tie.spec is-closed-requires returns returns-2 returns-3 returns-4)
+judge-front-spec = tie.close (tie.spec (λ c κs. search needs) returns returns-2 returns-3 returns-4)

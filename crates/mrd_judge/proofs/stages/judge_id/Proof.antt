@@ -6,18 +6,9 @@ use Rattle.mrd_judge.specs.Stages.{idChecks}
 use Rattle.mrd_judge.proofs.stages.judge_id.Statement.{statement}
 use Rattle.mrd_judge.proofs.stages.judge_id.Tie as tie
 
-enum-known-identified : tie.Need-enum-known-identified
-enum-known-identified c = search needs
-
-allows-requires : tie.Need-allows-requires
-allows-requires c κs = search needs
-
 returns : tie.Need-returns
 unfolding idChecks
 returns c = rw (c .before .before .before .identified .given .1, sym (c .before .allows .ensures) ∙ c .if1 .taken)
-
-enum-told : tie.Need-enum-told
-enum-told c = search needs
 
 returns-2 : tie.Need-returns-2
 unfolding idChecks
@@ -30,4 +21,4 @@ returns-3 c = rw (c .enum-told .given .1)
 pub judge-id-spec : {M : Type 1} → statement M
 judge-id-spec =
     tie.close
-    (tie.spec enum-known-identified allows-requires returns enum-told returns-2 returns-3)
+    (tie.spec (λ c. search needs) (λ c κs. search needs) returns (λ c. search needs) returns-2 returns-3)

@@ -20,9 +20,6 @@ read-u32-requires c κs =
     let long = arm (λ (k : Kind). 14 ≤ fixedSize k) (5 ∷ 7 ∷ []) (a .kind) (c .match .keys1) (omega arith, (omega arith, tt)) in
     omega (arith, c .before .before .pre, long)
 
-enum-told : tie.Need-enum-told
-enum-told c = search needs
-
 read-u32-requires-2 : tie.Need-read-u32-requires-2
 read-u32-requires-2 c κs = omega (arith, c .before .before .before .pre, ap fixedSize (c .enum-told .given .1))
 
@@ -44,4 +41,4 @@ returns-3 c =
 
 pub measurement-uid-spec : {M : Type 1} → statement M
 measurement-uid-spec =
-    tie.close (tie.spec read-u32-requires enum-told read-u32-requires-2 returns returns-2 returns-3)
+    tie.close (tie.spec read-u32-requires (λ c. search needs) read-u32-requires-2 returns returns-2 returns-3)

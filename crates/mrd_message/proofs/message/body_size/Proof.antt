@@ -18,20 +18,11 @@ text-length-requires : tie.Need-text-length-requires
 text-length-requires c κs =
     c .before .before .pre ∙ arm-same fixedSize 4 (1 ∷ 2 ∷ 4 ∷ []) (c .before .before .args .kind) (c .match .keys2) refl
 
-enum-told : tie.Need-enum-told
-enum-told c = search needs
-
 body-size-requires : tie.Need-body-size-requires
 body-size-requires c κs = c .before .before .before .pre ∙ ap fixedSize (c .enum-told .given .1)
 
-enum-told-2 : tie.Need-enum-told-2
-enum-told-2 c = search needs
-
 body-size-requires-2 : tie.Need-body-size-requires-2
 body-size-requires-2 c κs = c .before .before .before .pre ∙ ap fixedSize (c .enum-told2 .given .1)
-
-enum-told-3 : tie.Need-enum-told-3
-enum-told-3 c = search needs
 
 body-size-requires-3 : tie.Need-body-size-requires-3
 body-size-requires-3 c κs = c .before .before .before .pre ∙ ap fixedSize (c .enum-told3 .given .1)
@@ -66,11 +57,11 @@ body-size-spec =
     tie.close
     (tie.spec
     text-length-requires
-    enum-told
+    (λ c. search needs)
     body-size-requires
-    enum-told-2
+    (λ c. search needs)
     body-size-requires-2
-    enum-told-3
+    (λ c. search needs)
     body-size-requires-3
     returns
     returns-2

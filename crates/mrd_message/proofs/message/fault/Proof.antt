@@ -12,26 +12,14 @@ use Rattle.mrd_format.proofs.Arms.{arm-same}
 use Rattle.mrd_message.proofs.message.fault.Statement.{statement}
 use Rattle.mrd_message.proofs.message.fault.Tie as tie
 
-enum-told : tie.Need-enum-told
-enum-told c = search needs
-
 name-fault-requires : tie.Need-name-fault-requires
 name-fault-requires c κs = c .before .before .before .pre ∙ ap fixedSize (c .enum-told .given .1)
-
-enum-told-2 : tie.Need-enum-told-2
-enum-told-2 c = search needs
 
 fault-requires : tie.Need-fault-requires
 fault-requires c κs = c .before .before .before .pre ∙ ap fixedSize (c .enum-told2 .given .1)
 
-enum-told-3 : tie.Need-enum-told-3
-enum-told-3 c = search needs
-
 fault-requires-2 : tie.Need-fault-requires-2
 fault-requires-2 c κs = c .before .before .before .pre ∙ ap fixedSize (c .enum-told3 .given .1)
-
-enum-told-4 : tie.Need-enum-told-4
-enum-told-4 c = search needs
 
 fault-requires-3 : tie.Need-fault-requires-3
 fault-requires-3 c κs = c .before .before .before .pre ∙ ap fixedSize (c .enum-told4 .given .1)
@@ -62,13 +50,13 @@ pub fault-spec : {M : Type 1} → statement M
 fault-spec =
     tie.close
     (tie.spec
-    enum-told
+    (λ c. search needs)
     name-fault-requires
-    enum-told-2
+    (λ c. search needs)
     fault-requires
-    enum-told-3
+    (λ c. search needs)
     fault-requires-2
-    enum-told-4
+    (λ c. search needs)
     fault-requires-3
     returns
     returns-2

@@ -6,9 +6,6 @@ use Rattle.mrd_format.specs.Message.{ownChecks}
 use Rattle.mrd_message.proofs.message.name_fault.Statement.{statement}
 use Rattle.mrd_message.proofs.message.name_fault.Tie as tie
 
-name-length-requires : tie.Need-name-length-requires
-name-length-requires c κs = search needs
-
 returns : tie.Need-returns
 unfolding ownChecks
 returns c = simp (← c .before .name-length .ensures .0, le-leb _ _ (c .if1 .taken))
@@ -18,4 +15,4 @@ unfolding ownChecks
 returns-2 c = simp (← c .before .name-length .ensures .0, lt-leb _ _ (c .if1 .left))
 
 pub name-fault-spec : {M : Type 1} → statement M
-name-fault-spec = tie.close (tie.spec name-length-requires returns returns-2)
+name-fault-spec = tie.close (tie.spec (λ c κs. search needs) returns returns-2)

@@ -10,9 +10,6 @@ use Rattle.mrd_format.specs.Message.{nameLength}
 use Rattle.mrd_message.proofs.message.name_length.Statement.{statement}
 use Rattle.mrd_message.proofs.message.name_length.Tie as tie
 
-find-requires : tie.Need-find-requires
-find-requires c κs = search needs
-
 returns : tie.Need-returns
 unfolding nameLength slice
 returns c = (
@@ -22,4 +19,4 @@ returns c = (
 )
 
 pub name-length-spec : {M : Type 1} → statement M
-name-length-spec = tie.close (tie.spec find-requires returns)
+name-length-spec = tie.close (tie.spec (λ c κs. search needs) returns)

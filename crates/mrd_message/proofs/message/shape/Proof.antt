@@ -7,47 +7,23 @@ use Rattle.mrd_format.specs.Message.{numbersOf}
 use Rattle.mrd_message.proofs.message.shape.Statement.{statement}
 use Rattle.mrd_message.proofs.message.shape.Tie as tie
 
-enum-told : tie.Need-enum-told
-enum-told c = search needs
-
 name-length-requires : tie.Need-name-length-requires
 name-length-requires c κs = c .before .before .before .pre ∙ ap fixedSize (c .enum-told .given .1)
-
-enum-told-2 : tie.Need-enum-told-2
-enum-told-2 c = search needs
 
 text-length-requires : tie.Need-text-length-requires
 text-length-requires c κs = c .before .before .before .pre ∙ ap fixedSize (c .enum-told2 .given .1)
 
-enum-told-3 : tie.Need-enum-told-3
-enum-told-3 c = search needs
-
 text-length-requires-2 : tie.Need-text-length-requires-2
 text-length-requires-2 c κs = c .before .before .before .pre ∙ ap fixedSize (c .enum-told3 .given .1)
-
-enum-told-4 : tie.Need-enum-told-4
-enum-told-4 c = search needs
-
-enum-told-5 : tie.Need-enum-told-5
-enum-told-5 c = search needs
 
 text-length-requires-3 : tie.Need-text-length-requires-3
 text-length-requires-3 c κs = c .before .before .before .pre ∙ ap fixedSize (c .enum-told5 .given .1)
 
-enum-told-6 : tie.Need-enum-told-6
-enum-told-6 c = search needs
-
 shape-requires : tie.Need-shape-requires
 shape-requires c κs = c .before .before .before .pre ∙ ap fixedSize (c .enum-told6 .given .1)
 
-enum-told-7 : tie.Need-enum-told-7
-enum-told-7 c = search needs
-
 shape-requires-2 : tie.Need-shape-requires-2
 shape-requires-2 c κs = c .before .before .before .pre ∙ ap fixedSize (c .enum-told7 .given .1)
-
-enum-told-8 : tie.Need-enum-told-8
-enum-told-8 c = search needs
 
 shape-requires-3 : tie.Need-shape-requires-3
 shape-requires-3 c κs = c .before .before .before .pre ∙ ap fixedSize (c .enum-told8 .given .1)
@@ -88,20 +64,20 @@ pub shape-spec : {M : Type 1} → statement M
 shape-spec =
     tie.close
     (tie.spec
-    enum-told
+    (λ c. search needs)
     name-length-requires
-    enum-told-2
+    (λ c. search needs)
     text-length-requires
-    enum-told-3
+    (λ c. search needs)
     text-length-requires-2
-    enum-told-4
-    enum-told-5
+    (λ c. search needs)
+    (λ c. search needs)
     text-length-requires-3
-    enum-told-6
+    (λ c. search needs)
     shape-requires
-    enum-told-7
+    (λ c. search needs)
     shape-requires-2
-    enum-told-8
+    (λ c. search needs)
     shape-requires-3
     returns
     returns-2

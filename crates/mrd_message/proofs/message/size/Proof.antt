@@ -9,21 +9,6 @@ use Rattle.mrd_format.specs.Sizes.{capped}
 use Rattle.mrd_message.proofs.message.size.Statement.{statement}
 use Rattle.mrd_message.proofs.message.size.Tie as tie
 
-fixed-size-requires : tie.Need-fixed-size-requires
-fixed-size-requires c κs = search needs
-
-add-all : tie.Need-add-all
-add-all c = search needs
-
-body-size-requires : tie.Need-body-size-requires
-body-size-requires c κs = search needs
-
-add-all-2 : tie.Need-add-all-2
-add-all-2 c = search needs
-
-cap-requires : tie.Need-cap-requires
-cap-requires c κs = search needs
-
 returns : tie.Need-returns
 unfolding sizeOf
 returns c = c .cap .ensures ∙ capped-sum _ _ _ _
@@ -33,4 +18,4 @@ returns c = c .cap .ensures ∙ capped-sum _ _ _ _
 pub size-spec : {M : Type 1} → statement M
 size-spec =
     tie.close
-    (tie.spec fixed-size-requires add-all body-size-requires add-all-2 cap-requires returns)
+    (tie.spec (λ c κs. search needs) (λ c. search needs) (λ c κs. search needs) (λ c. search needs) (λ c κs. search needs) returns)

@@ -5,15 +5,9 @@ use Rattle.mrd_format.specs.Message.{textLength}
 use Rattle.mrd_message.proofs.message.text_length.Statement.{statement}
 use Rattle.mrd_message.proofs.message.text_length.Tie as tie
 
-read-u32-requires : tie.Need-read-u32-requires
-read-u32-requires c κs = search needs
-
-cast-result : tie.Need-cast-result
-cast-result c = search needs
-
 returns : tie.Need-returns
 unfolding textLength
 returns c = (c .read-u32 .ensures, search needs)
 
 pub text-length-spec : {M : Type 1} → statement M
-text-length-spec = tie.close (tie.spec read-u32-requires cast-result returns)
+text-length-spec = tie.close (tie.spec (λ c κs. search needs) (λ c. search needs) returns)

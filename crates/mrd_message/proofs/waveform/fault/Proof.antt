@@ -6,9 +6,6 @@ use Rattle.mrd_format.specs.Waveform.{checks}
 use Rattle.mrd_message.proofs.waveform.fault.Statement.{statement}
 use Rattle.mrd_message.proofs.waveform.fault.Tie as tie
 
-read-u16-requires : tie.Need-read-u16-requires
-read-u16-requires c κs = search needs
-
 returns : tie.Need-returns
 unfolding checks
 returns c = simp (← c .before .read-u16 .ensures, ne-eqb _ _ (c .if1 .taken))
@@ -18,4 +15,4 @@ unfolding checks
 returns-2 c = simp (← c .before .read-u16 .ensures, eq-eqb _ _ (c .if1 .left))
 
 pub fault-spec : {M : Type 1} → statement M
-fault-spec = tie.close (tie.spec read-u16-requires returns returns-2)
+fault-spec = tie.close (tie.spec (λ c κs. search needs) returns returns-2)

@@ -5,15 +5,9 @@ use Rattle.mrd_format.specs.Waveform.{numbers}
 use Rattle.mrd_message.proofs.waveform.shape.Statement.{statement}
 use Rattle.mrd_message.proofs.waveform.shape.Tie as tie
 
-read-u16-requires : tie.Need-read-u16-requires
-read-u16-requires c κs = search needs
-
-read-u16-requires-2 : tie.Need-read-u16-requires-2
-read-u16-requires-2 c κs = search needs
-
 returns : tie.Need-returns
 unfolding numbers
 returns c = simp (c .before .read-u16 .ensures, c .read-u162 .ensures)
 
 pub shape-spec : {M : Type 1} → statement M
-shape-spec = tie.close (tie.spec read-u16-requires read-u16-requires-2 returns)
+shape-spec = tie.close (tie.spec (λ c κs. search needs) (λ c κs. search needs) returns)

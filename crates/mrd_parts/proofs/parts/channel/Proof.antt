@@ -13,33 +13,15 @@ use Rattle.mrd_parts.proofs.parts.channel.Tie as tie
 near : {c n s : ℕ} → c < n → n < 65536 → s < 524288 → c * s ≤ 65535 * 524287
 near {c} {n} {s} a b d = product {a = c} {b = s} {x = 65535} {y = 524287} (omega (arith, a, b)) (omega (arith, d))
 
-active-channels-requires : tie.Need-active-channels-requires
-active-channels-requires c κs = search needs
-
 returns : tie.Need-returns
 unfolding extentOf
 returns c = simp (← c .before .active-channels .ensures .0, le-ltb _ _ (c .if1 .taken))
-
-channel-size-requires : tie.Need-channel-size-requires
-channel-size-requires c κs = search needs
-
-add-first : tie.Need-add-first
-add-first c = search needs
-
-trajectory-size-requires : tie.Need-trajectory-size-requires
-trajectory-size-requires c κs = search needs
-
-add-first-2 : tie.Need-add-first-2
-add-first-2 c = search needs
 
 mul-lies : tie.Need-mul-lies
 mul-lies c = omega (arith, near (c .before .before .if1 .left) (c .before .before .before .active-channels .ensures .1) (c .before .channel-size .ensures .1))
 
 add-lies : tie.Need-add-lies
 add-lies c = omega (arith, near (c .before .before .if1 .left) (c .before .before .before .active-channels .ensures .1) (c .before .channel-size .ensures .1), c .trajectory-size .ensures .1)
-
-lies-requires : tie.Need-lies-requires
-lies-requires c κs = search needs
 
 returns-2 : tie.Need-returns-2
 unfolding extentOf
@@ -49,4 +31,4 @@ returns-2 c =
     (simp (c .lies .ensures, c .before .trajectory-size .ensures .0, c .before .before .channel-size .ensures .0))
 
 pub channel-spec : {M : Type 1} → statement M
-channel-spec = tie.close (tie.spec active-channels-requires returns channel-size-requires add-first trajectory-size-requires add-first-2 mul-lies add-lies lies-requires returns-2)
+channel-spec = tie.close (tie.spec (λ c κs. search needs) returns (λ c κs. search needs) (λ c. search needs) (λ c κs. search needs) (λ c. search needs) mul-lies add-lies (λ c κs. search needs) returns-2)

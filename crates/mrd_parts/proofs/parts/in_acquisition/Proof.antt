@@ -14,24 +14,6 @@ use Rattle.mrd_parts.proofs.Rest.{rest}
 use Rattle.mrd_parts.proofs.parts.in_acquisition.Statement.{statement}
 use Rattle.mrd_parts.proofs.parts.in_acquisition.Tie as tie
 
-enum-told : tie.Need-enum-told
-enum-told c = search needs
-
-add-lies : tie.Need-add-lies
-add-lies c = search needs
-
-trajectory-size-requires : tie.Need-trajectory-size-requires
-trajectory-size-requires c κs = search needs
-
-lies-requires : tie.Need-lies-requires
-lies-requires c κs = search needs
-
-enum-known-part : tie.Need-enum-known-part
-enum-known-part c = search needs
-
-channel-requires : tie.Need-channel-requires
-channel-requires c κs = search needs
-
 returns : tie.Need-returns
 unfolding extentOf
 returns c = rw (c .before .before .enum-told .given .1) (c .lies .ensures ∙ ap (λ (n : ℕ). lies (extent 342 n)) (c .before .trajectory-size .ensures .0))
@@ -47,4 +29,4 @@ returns-3 c =
     (refl, (refl, (refl, (refl, (refl, tt)))))
 
 pub in-acquisition-spec : {M : Type 1} → statement M
-in-acquisition-spec = tie.close (tie.spec enum-told add-lies trajectory-size-requires lies-requires enum-known-part channel-requires returns returns-2 returns-3)
+in-acquisition-spec = tie.close (tie.spec (λ c. search needs) (λ c. search needs) (λ c κs. search needs) (λ c κs. search needs) (λ c. search needs) (λ c κs. search needs) returns returns-2 returns-3)

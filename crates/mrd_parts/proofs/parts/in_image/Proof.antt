@@ -16,21 +16,6 @@ use Rattle.mrd_parts.proofs.Rest.{rest}
 use Rattle.mrd_parts.proofs.parts.in_image.Statement.{statement}
 use Rattle.mrd_parts.proofs.parts.in_image.Tie as tie
 
-attribute-length-requires : tie.Need-attribute-length-requires
-attribute-length-requires c κs = search needs
-
-add-after : tie.Need-add-after
-add-after c = search needs
-
-enum-told : tie.Need-enum-told
-enum-told c = search needs
-
-lies-requires : tie.Need-lies-requires
-lies-requires c κs = search needs
-
-enum-told-2 : tie.Need-enum-told-2
-enum-told-2 c = search needs
-
 add-lies : tie.Need-add-lies
 add-lies c =
     let start = c .before .before .before .before in
@@ -49,9 +34,6 @@ sub-lies-2 c =
     let n = c .before .before .attribute-length .ensures in
     omega (arith, image-rest (start .pre), n)
 
-lies-requires-2 : tie.Need-lies-requires-2
-lies-requires-2 c κs = search needs
-
 returns : tie.Need-returns
 unfolding extentOf
 returns c = rw (c .before .enum-told .given .1) (c .lies .ensures ∙ ap (λ (n : ℕ). lies (extent 208 n)) (c .before .before .before .attribute-length .ensures))
@@ -69,4 +51,4 @@ returns-3 c =
     (refl, (refl, (refl, ((λ n. refl), (refl, tt)))))
 
 pub in-image-spec : {M : Type 1} → statement M
-in-image-spec = tie.close (tie.spec attribute-length-requires add-after enum-told lies-requires enum-told-2 add-lies sub-lies sub-lies-2 lies-requires-2 returns returns-2 returns-3)
+in-image-spec = tie.close (tie.spec (λ c κs. search needs) (λ c. search needs) (λ c. search needs) (λ c κs. search needs) (λ c. search needs) add-lies sub-lies sub-lies-2 (λ c κs. search needs) returns returns-2 returns-3)

@@ -14,15 +14,6 @@ use Rattle.mrd_parts.proofs.Rest.{rest}
 use Rattle.mrd_parts.proofs.parts.in_name.Statement.{statement}
 use Rattle.mrd_parts.proofs.parts.in_name.Tie as tie
 
-enum-told : tie.Need-enum-told
-enum-told c = search needs
-
-name-length-requires : tie.Need-name-length-requires
-name-length-requires c κs = search needs
-
-lies-requires : tie.Need-lies-requires
-lies-requires c κs = search needs
-
 returns : tie.Need-returns
 unfolding extentOf
 returns c = rw (c .before .before .enum-told .given .1) (c .lies .ensures ∙ ap (λ (n : ℕ). lies (extent 2 n)) (c .before .name-length .ensures .0))
@@ -35,4 +26,4 @@ returns-2 c =
     (refl, (refl, (refl, ((λ n. refl), (refl, (refl, tt))))))
 
 pub in-name-spec : {M : Type 1} → statement M
-in-name-spec = tie.close (tie.spec enum-told name-length-requires lies-requires returns returns-2)
+in-name-spec = tie.close (tie.spec (λ c. search needs) (λ c κs. search needs) (λ c κs. search needs) returns returns-2)

@@ -14,18 +14,6 @@ use Rattle.mrd_parts.proofs.Rest.{rest}
 use Rattle.mrd_parts.proofs.parts.in_text.Statement.{statement}
 use Rattle.mrd_parts.proofs.parts.in_text.Tie as tie
 
-enum-told : tie.Need-enum-told
-enum-told c = search needs
-
-add-lies : tie.Need-add-lies
-add-lies c = search needs
-
-text-length-requires : tie.Need-text-length-requires
-text-length-requires c κs = search needs
-
-lies-requires : tie.Need-lies-requires
-lies-requires c κs = search needs
-
 returns : tie.Need-returns
 unfolding extentOf
 returns c = rw (c .before .before .enum-told .given .1) (c .lies .ensures ∙ ap (λ (n : ℕ). lies (extent 6 n)) (c .before .text-length .ensures .0))
@@ -38,4 +26,4 @@ returns-2 c =
     (refl, (refl, (refl, ((λ n. refl), (refl, (refl, tt))))))
 
 pub in-text-spec : {M : Type 1} → statement M
-in-text-spec = tie.close (tie.spec enum-told add-lies text-length-requires lies-requires returns returns-2)
+in-text-spec = tie.close (tie.spec (λ c. search needs) (λ c. search needs) (λ c κs. search needs) (λ c κs. search needs) returns returns-2)

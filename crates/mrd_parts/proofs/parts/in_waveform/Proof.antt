@@ -15,17 +15,8 @@ use Rattle.mrd_parts.proofs.Rest.{rest}
 use Rattle.mrd_parts.proofs.parts.in_waveform.Statement.{statement}
 use Rattle.mrd_parts.proofs.parts.in_waveform.Tie as tie
 
-add-after : tie.Need-add-after
-add-after c = search needs
-
-enum-told : tie.Need-enum-told
-enum-told c = search needs
-
 sub-lies : tie.Need-sub-lies
 sub-lies c = omega (arith, waveform-rest (c .before .before .before .pre))
-
-lies-requires : tie.Need-lies-requires
-lies-requires c κs = search needs
 
 returns : tie.Need-returns
 unfolding extentOf
@@ -39,4 +30,4 @@ returns-2 c =
     (refl, (refl, (refl, (refl, ((λ n. refl), (refl, tt))))))
 
 pub in-waveform-spec : {M : Type 1} → statement M
-in-waveform-spec = tie.close (tie.spec add-after enum-told sub-lies lies-requires returns returns-2)
+in-waveform-spec = tie.close (tie.spec (λ c. search needs) (λ c. search needs) sub-lies (λ c κs. search needs) returns returns-2)

@@ -13,34 +13,13 @@ use Rattle.mrd_parts.specs.PartLaws.{close-lacks}
 use Rattle.mrd_parts.proofs.parts.locate.Statement.{statement}
 use Rattle.mrd_parts.proofs.parts.locate.Tie as tie
 
-enum-told : tie.Need-enum-told
-enum-told c = search needs
-
-in-name-requires : tie.Need-in-name-requires
-in-name-requires c κs = search needs
-
 in-text-requires : tie.Need-in-text-requires
 in-text-requires c κs =
     let start = c .before .before in
     start .pre .long ∙ arm-same fixedSize 4 (1 ∷ 2 ∷ 4 ∷ []) (start .args .kind) (c .match .keys2) refl
 
-enum-told-2 : tie.Need-enum-told-2
-enum-told-2 c = search needs
-
-enum-told-3 : tie.Need-enum-told-3
-enum-told-3 c = search needs
-
-in-acquisition-requires : tie.Need-in-acquisition-requires
-in-acquisition-requires c κs = search needs
-
-enum-told-4 : tie.Need-enum-told-4
-enum-told-4 c = search needs
-
 in-image-requires : tie.Need-in-image-requires
 in-image-requires c κs = rw (c .enum-told4 .given .1) at (c .before .before .before .pre)
-
-enum-told-5 : tie.Need-enum-told-5
-enum-told-5 c = search needs
 
 in-waveform-requires : tie.Need-in-waveform-requires
 in-waveform-requires c κs = rw (c .enum-told5 .given .1) at (c .before .before .before .pre)
@@ -70,4 +49,4 @@ returns-6 : tie.Need-returns-6
 returns-6 c = rw (c .before .enum-told5 .given .1) (c .in-waveform .ensures)
 
 pub locate-spec : {M : Type 1} → statement M
-locate-spec = tie.close (tie.spec enum-told in-name-requires in-text-requires enum-told-2 enum-told-3 in-acquisition-requires enum-told-4 in-image-requires enum-told-5 in-waveform-requires returns returns-2 returns-3 returns-4 returns-5 returns-6)
+locate-spec = tie.close (tie.spec (λ c. search needs) (λ c κs. search needs) in-text-requires (λ c. search needs) (λ c. search needs) (λ c κs. search needs) (λ c. search needs) in-image-requires (λ c. search needs) in-waveform-requires returns returns-2 returns-3 returns-4 returns-5 returns-6)

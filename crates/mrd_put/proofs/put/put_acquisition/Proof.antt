@@ -8,33 +8,6 @@ use Rattle.mrd_put.specs.PutLaws.{headed-put}
 use Rattle.mrd_put.proofs.put.put_acquisition.Statement.{statement}
 use Rattle.mrd_put.proofs.put.put_acquisition.Tie as tie
 
-sub-copy : tie.Need-sub-copy
-sub-copy c = search needs
-
-part-copy-start : tie.Need-part-copy-start
-part-copy-start c = search needs
-
-part-copy-end : tie.Need-part-copy-end
-part-copy-end c = search needs
-
-copy-requires : tie.Need-copy-requires
-copy-requires c κs = search needs
-
-sub-put-joined : tie.Need-sub-put-joined
-sub-put-joined c = search needs
-
-part-put-joined-start : tie.Need-part-put-joined-start
-part-put-joined-start c = search needs
-
-part-put-joined-end : tie.Need-part-put-joined-end
-part-put-joined-end c = search needs
-
-put-joined-requires : tie.Need-put-joined-requires
-put-joined-requires c κs = search needs
-
-same-length : tie.Need-same-length
-same-length c = search needs
-
 returns : tie.Need-returns
 returns c =
     let start = c .before .before .before .before .before .before .before .before .before .before .before .before in
@@ -47,13 +20,13 @@ pub put-acquisition-spec : {M : Type 1} → statement M
 put-acquisition-spec =
     tie.close
     (tie.spec
-    sub-copy
-    part-copy-start
-    part-copy-end
-    copy-requires
-    sub-put-joined
-    part-put-joined-start
-    part-put-joined-end
-    put-joined-requires
-    same-length
+    (λ c. search needs)
+    (λ c. search needs)
+    (λ c. search needs)
+    (λ c κs. search needs)
+    (λ c. search needs)
+    (λ c. search needs)
+    (λ c. search needs)
+    (λ c κs. search needs)
+    (λ c. search needs)
     returns)

@@ -29,9 +29,6 @@ text-made : (c : Contents) (k : Kind) → OneOf (1 ∷ 2 ∷ 4 ∷ []) (tagOf th
 unfolding contentOf fixedOf bodyOf
 text-made c k o = arm-same (λ (j : Kind). contentOf j c) _ (1 ∷ 2 ∷ 4 ∷ []) k o refl
 
-enum-told : tie.Need-enum-told
-enum-told c = search needs
-
 put-name-requires : tie.Need-put-name-requires
 put-name-requires c κs =
     let s = c .before .before .before .before .before .before .before .before .before .before .before .before in
@@ -42,41 +39,23 @@ put-text-requires c κs =
     let s = c .before .before .before .before .before .before .before .before .before .before .before in
     text-room (s .args .kind) (given s) (now (s .args .out)) (s .pre .0) (s .pre .1) (text-made (given s) (s .args .kind) (c .before .match .keys2))
 
-enum-told-2 : tie.Need-enum-told-2
-enum-told-2 c = search needs
-
-enum-told-3 : tie.Need-enum-told-3
-enum-told-3 c = search needs
-
 put-acquisition-requires : tie.Need-put-acquisition-requires
 put-acquisition-requires c κs =
     let s = c .before .before .before .before .before .before .before .before .before .before .before .before in
     acquisition-room (s .args .kind) (given s) (now (s .args .out)) (s .pre .0) (s .pre .1) (c .before .enum-told3 .given .1)
-
-enum-told-4 : tie.Need-enum-told-4
-enum-told-4 c = search needs
 
 put-image-requires : tie.Need-put-image-requires
 put-image-requires c κs =
     let s = c .before .before .before .before .before .before .before .before .before .before .before .before in
     image-room (s .args .kind) (given s) (now (s .args .out)) (s .pre .0) (s .pre .1) (c .before .enum-told4 .given .1)
 
-enum-told-5 : tie.Need-enum-told-5
-enum-told-5 c = search needs
-
 put-joined-requires : tie.Need-put-joined-requires
 put-joined-requires c κs =
     let s = c .before .before .before .before .before .before .before .before .before .before .before .before in
     waveform-room (s .args .kind) (given s) (now (s .args .out)) (s .pre .0) (s .pre .1) (c .before .enum-told5 .given .1)
 
-same-length : tie.Need-same-length
-same-length c = search needs
-
 returns : tie.Need-returns
 returns c = rw (c .before .before .before .before .enum-told .given .1, content-name) (c .before .before .put-name .ensures)
-
-same-length-2 : tie.Need-same-length-2
-same-length-2 c = search needs
 
 returns-2 : tie.Need-returns-2
 returns-2 c =
@@ -87,22 +66,13 @@ returns-3 : tie.Need-returns-3
 unfolding contentOf fixedOf bodyOf
 returns-3 c = rw (c .enum-told2 .given .1)
 
-same-length-3 : tie.Need-same-length-3
-same-length-3 c = search needs
-
 returns-4 : tie.Need-returns-4
 unfolding contentOf fixedOf bodyOf
 returns-4 c = rw (c .before .before .before .before .enum-told3 .given .1) (c .before .before .put-acquisition .ensures)
 
-same-length-4 : tie.Need-same-length-4
-same-length-4 c = search needs
-
 returns-5 : tie.Need-returns-5
 unfolding contentOf fixedOf bodyOf
 returns-5 c = rw (c .before .before .before .before .enum-told4 .given .1) (c .before .before .put-image .ensures)
-
-same-length-5 : tie.Need-same-length-5
-same-length-5 c = search needs
 
 returns-6 : tie.Need-returns-6
 unfolding contentOf fixedOf bodyOf
@@ -112,24 +82,24 @@ pub put-content-spec : {M : Type 1} → statement M
 put-content-spec =
     tie.close
     (tie.spec
-    enum-told
+    (λ c. search needs)
     put-name-requires
     put-text-requires
-    enum-told-2
-    enum-told-3
+    (λ c. search needs)
+    (λ c. search needs)
     put-acquisition-requires
-    enum-told-4
+    (λ c. search needs)
     put-image-requires
-    enum-told-5
+    (λ c. search needs)
     put-joined-requires
-    same-length
+    (λ c. search needs)
     returns
-    same-length-2
+    (λ c. search needs)
     returns-2
     returns-3
-    same-length-3
+    (λ c. search needs)
     returns-4
-    same-length-4
+    (λ c. search needs)
     returns-5
-    same-length-5
+    (λ c. search needs)
     returns-6)

@@ -6,36 +6,6 @@ use Rattle.mrd_put.specs.PutLaws.{text-put}
 use Rattle.mrd_put.proofs.put.put_text.Statement.{statement}
 use Rattle.mrd_put.proofs.put.put_text.Tie as tie
 
-sub-put-u32 : tie.Need-sub-put-u32
-sub-put-u32 c = search needs
-
-part-put-u32-start : tie.Need-part-put-u32-start
-part-put-u32-start c = search needs
-
-part-put-u32-end : tie.Need-part-put-u32-end
-part-put-u32-end c = search needs
-
-cast-put-u32 : tie.Need-cast-put-u32
-cast-put-u32 c = search needs
-
-put-u32-requires : tie.Need-put-u32-requires
-put-u32-requires c κs = search needs
-
-sub-copy : tie.Need-sub-copy
-sub-copy c = search needs
-
-part-copy-start : tie.Need-part-copy-start
-part-copy-start c = search needs
-
-part-copy-end : tie.Need-part-copy-end
-part-copy-end c = search needs
-
-copy-requires : tie.Need-copy-requires
-copy-requires c κs = search needs
-
-same-length : tie.Need-same-length
-same-length c = search needs
-
 returns : tie.Need-returns
 returns c =
     let start = c .before .before .before .before .before .before .before .before .before .before in
@@ -47,14 +17,14 @@ pub put-text-spec : {M : Type 1} → statement M
 put-text-spec =
     tie.close
     (tie.spec
-    sub-put-u32
-    part-put-u32-start
-    part-put-u32-end
-    cast-put-u32
-    put-u32-requires
-    sub-copy
-    part-copy-start
-    part-copy-end
-    copy-requires
-    same-length
+    (λ c. search needs)
+    (λ c. search needs)
+    (λ c. search needs)
+    (λ c. search needs)
+    (λ c κs. search needs)
+    (λ c. search needs)
+    (λ c. search needs)
+    (λ c. search needs)
+    (λ c κs. search needs)
+    (λ c. search needs)
     returns)

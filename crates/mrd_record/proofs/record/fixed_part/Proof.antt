@@ -14,26 +14,11 @@ use Rattle.mrd_record.specs.RecordLaws.{fixed-place, fixed-fits}
 use Rattle.mrd_record.proofs.record.fixed_part.Statement.{statement}
 use Rattle.mrd_record.proofs.record.fixed_part.Tie as tie
 
-add-from : tie.Need-add-from
-add-from c = search needs
-
-kind-requires : tie.Need-kind-requires
-kind-requires c κs = search needs
-
-fixed-size-requires : tie.Need-fixed-size-requires
-fixed-size-requires c κs = search needs
-
 add-to : tie.Need-add-to
 add-to c =
     let a = c .before .before .before .before .before .args in
     let pre = c .before .before .before .before .before .pre in
     omega (arith, fixed-fits (now (a .s)) (recordMeaning (a .here)) (pre), c .fixed-size .ensures ∙ ap fixedSize (c .before .kind .ensures))
-
-sub-result : tie.Need-sub-result
-sub-result c = search needs
-
-part-result-start : tie.Need-part-result-start
-part-result-start c = search needs
 
 part-result-end : tie.Need-part-result-end
 part-result-end c =
@@ -55,11 +40,11 @@ pub fixed-part-spec : {M : Type 1} → statement M
 fixed-part-spec =
     tie.close
     (tie.spec
-    add-from
-    kind-requires
-    fixed-size-requires
+    (λ c. search needs)
+    (λ c κs. search needs)
+    (λ c κs. search needs)
     add-to
-    sub-result
-    part-result-start
+    (λ c. search needs)
+    (λ c. search needs)
     part-result-end
     returns)

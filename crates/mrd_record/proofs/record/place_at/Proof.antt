@@ -7,18 +7,6 @@ use borrow.Author.Needs.{needs}
 use Rattle.mrd_record.proofs.record.place_at.Statement.{statement}
 use Rattle.mrd_record.proofs.record.place_at.Tie as tie
 
-next-requires : tie.Need-next-requires
-next-requires c κs = search needs
-
-enum-known-step : tie.Need-enum-known-step
-enum-known-step c = search needs
-
-enum-known-step-2 : tie.Need-enum-known-step-2
-enum-known-step-2 c = search needs
-
-ended-requires : tie.Need-ended-requires
-ended-requires c κs = search needs
-
 returns : tie.Need-returns
 unfolding placeAt
 returns c = ap placeBy (sym (ap stepMeaning (c .before .step .given .1)) ∙ c .before .before .before .next .ensures)
@@ -31,4 +19,4 @@ returns-2 c = c .ended .ensures ∙ ap placeBy (sym (ap stepMeaning (c .before .
 pub place-at-spec : {M : Type 1} → statement M
 place-at-spec =
     tie.close
-    (tie.spec next-requires enum-known-step enum-known-step-2 ended-requires returns returns-2)
+    (tie.spec (λ c κs. search needs) (λ c. search needs) (λ c. search needs) (λ c κs. search needs) returns returns-2)

@@ -7,18 +7,9 @@ use Rattle.mrd_stream.specs.ReaderMeaning.{placedMeaning, checkedMeaning
 use Rattle.mrd_stream.proofs.reader.concluded.Statement.{statement}
 use Rattle.mrd_stream.proofs.reader.concluded.Tie as tie
 
-enum-told : tie.Need-enum-told
-enum-told c = search needs
-
-enum-known-answer : tie.Need-enum-known-answer
-enum-known-answer c = search needs
-
-returns : tie.Need-returns
-returns c = search needs
-
 returns-2 : tie.Need-returns-2
 returns-2 c = let a = c .before .before .before .args in sym
     (ap (λ v. unlessRefused (checkedMeaning v) (placedMeaning (a .found))) (c .before .answer .given .1))
 
 pub concluded-spec : {M : Type 1} → statement M
-concluded-spec = tie.close (tie.spec enum-told enum-known-answer returns returns-2)
+concluded-spec = tie.close (tie.spec (λ c. search needs) (λ c. search needs) (λ c. search needs) returns-2)

@@ -14,37 +14,10 @@ use borrow.Author.Needs.{needs}
 use Rattle.mrd_stream.proofs.reader.next.Statement.{statement}
 use Rattle.mrd_stream.proofs.reader.next.Tie as tie
 
-ended-requires : tie.Need-ended-requires
-ended-requires c κs = search needs
-
 returns : tie.Need-returns
 returns c =
     let a = c .before .before .before .args in
     ap over (c .ended .ensures) ∙ sym (laws.step-ended (a .c) (now (a .s)) (c .before .if1 .taken))
-
-sub-judge : tie.Need-sub-judge
-sub-judge c = search needs
-
-part-judge-start : tie.Need-part-judge-start
-part-judge-start c = search needs
-
-part-judge-end : tie.Need-part-judge-end
-part-judge-end c = search needs
-
-judge-requires : tie.Need-judge-requires
-judge-requires c κs = search needs
-
-enum-known-judgement : tie.Need-enum-known-judgement
-enum-known-judgement c = search needs
-
-sub-fixed-part : tie.Need-sub-fixed-part
-sub-fixed-part c = search needs
-
-part-fixed-part-start : tie.Need-part-fixed-part-start
-part-fixed-part-start c = search needs
-
-part-fixed-part-end : tie.Need-part-fixed-part-end
-part-fixed-part-end c = search needs
 
 -- the message that is due is whole
 found-whole : (c : tie.After-known-told) →
@@ -82,12 +55,6 @@ yields-requires c κs =
       search needs,
     )
 
-enum-known-judgement-2 : tie.Need-enum-known-judgement-2
-enum-known-judgement-2 c = search needs
-
-refused-requires : tie.Need-refused-requires
-refused-requires c κs = search needs
-
 returns-2 : tie.Need-returns-2
 returns-2 c =
     let told = c .before .before .before in
@@ -112,19 +79,19 @@ pub next-spec : {M : Type 1} → statement M
 next-spec =
     tie.close
     (tie.spec
-    ended-requires
+    (λ c κs. search needs)
     returns
-    sub-judge
-    part-judge-start
-    part-judge-end
-    judge-requires
-    enum-known-judgement
-    sub-fixed-part
-    part-fixed-part-start
-    part-fixed-part-end
+    (λ c. search needs)
+    (λ c. search needs)
+    (λ c. search needs)
+    (λ c κs. search needs)
+    (λ c. search needs)
+    (λ c. search needs)
+    (λ c. search needs)
+    (λ c. search needs)
     fixed-part-requires
     yields-requires
-    enum-known-judgement-2
-    refused-requires
+    (λ c. search needs)
+    (λ c κs. search needs)
     returns-2
     returns-3)

@@ -9,12 +9,6 @@ use Rattle.mrd_tagged.specs.TaggedLaws.{heading-stored}
 use Rattle.mrd_tagged.proofs.put.put_tag.Statement.{statement}
 use Rattle.mrd_tagged.proofs.put.put_tag.Tie as tie
 
-slice-write-out : tie.Need-slice-write-out
-slice-write-out c = search needs
-
-add-put-u16-at : tie.Need-add-put-u16-at
-add-put-u16-at c = search needs
-
 put-u16-at-requires : tie.Need-put-u16-at-requires
 put-u16-at-requires c κs = simp length-set (omega (arith, c .before .before .pre))
 
@@ -31,4 +25,4 @@ returns c =
 
 pub put-tag-spec : {M : Type 1} → statement M
 put-tag-spec =
-    tie.close (tie.spec slice-write-out add-put-u16-at put-u16-at-requires same-length returns)
+    tie.close (tie.spec (λ c. search needs) (λ c. search needs) put-u16-at-requires same-length returns)

@@ -7,21 +7,6 @@ use Rattle.mrd_numbers.specs.Stored.{stored-part}
 use Rattle.mrd_tagged.proofs.put.put_u16_at.Statement.{statement}
 use Rattle.mrd_tagged.proofs.put.put_u16_at.Tie as tie
 
-sub-put-u16 : tie.Need-sub-put-u16
-sub-put-u16 c = search needs
-
-part-put-u16-start : tie.Need-part-put-u16-start
-part-put-u16-start c = search needs
-
-part-put-u16-end : tie.Need-part-put-u16-end
-part-put-u16-end c = search needs
-
-put-u16-requires : tie.Need-put-u16-requires
-put-u16-requires c κs = search needs
-
-same-length : tie.Need-same-length
-same-length c = search needs
-
 returns : tie.Need-returns
 returns c =
     let a = c .before .before .before .before .before .args in
@@ -30,4 +15,4 @@ returns c =
 pub put-u16-at-spec : {M : Type 1} → statement M
 put-u16-at-spec =
     tie.close
-    (tie.spec sub-put-u16 part-put-u16-start part-put-u16-end put-u16-requires same-length returns)
+    (tie.spec (λ c. search needs) (λ c. search needs) (λ c. search needs) (λ c κs. search needs) (λ c. search needs) returns)

@@ -6,15 +6,6 @@ use Rattle.mrd_tagged.specs.TaggedLaws.{heading-same}
 use Rattle.mrd_tagged.proofs.same.tag_same.Statement.{statement}
 use Rattle.mrd_tagged.proofs.same.tag_same.Tie as tie
 
-shared-slice-read-result : tie.Need-shared-slice-read-result
-shared-slice-read-result c = search needs
-
-add-u16-same : tie.Need-add-u16-same
-add-u16-same c = search needs
-
-u16-same-requires : tie.Need-u16-same-requires
-u16-same-requires c κs = search needs
-
 returns : tie.Need-returns
 returns c =
     let start = c .before .before .before in
@@ -23,4 +14,4 @@ returns c =
 
 pub tag-same-spec : {M : Type 1} → statement M
 tag-same-spec =
-    tie.close (tie.spec shared-slice-read-result add-u16-same u16-same-requires returns)
+    tie.close (tie.spec (λ c. search needs) (λ c. search needs) (λ c κs. search needs) returns)

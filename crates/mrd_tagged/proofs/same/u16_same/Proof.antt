@@ -8,9 +8,6 @@ use Rattle.mrd_tagged.specs.TaggedLaws.{number-same}
 use Rattle.mrd_tagged.proofs.same.u16_same.Statement.{statement}
 use Rattle.mrd_tagged.proofs.same.u16_same.Tie as tie
 
-read-u16-requires : tie.Need-read-u16-requires
-read-u16-requires c κs = search needs
-
 returns : tie.Need-returns
 returns c =
     let start = c .before .before in
@@ -19,4 +16,4 @@ returns c =
     sym (number-same 2 (a .v) (now (a .s)) (a .at) (c .before .shared-slice-known .given) (start .pre) (start .fits .v .fits))
 
 pub u16-same-spec : {M : Type 1} → statement M
-u16-same-spec = tie.close (tie.spec read-u16-requires returns)
+u16-same-spec = tie.close (tie.spec (λ c κs. search needs) returns)

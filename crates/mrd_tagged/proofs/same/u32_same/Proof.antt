@@ -8,9 +8,6 @@ use Rattle.mrd_tagged.specs.TaggedLaws.{number-same}
 use Rattle.mrd_tagged.proofs.same.u32_same.Statement.{statement}
 use Rattle.mrd_tagged.proofs.same.u32_same.Tie as tie
 
-read-u32-requires : tie.Need-read-u32-requires
-read-u32-requires c κs = search needs
-
 returns : tie.Need-returns
 returns c =
     let start = c .before .before in
@@ -19,4 +16,4 @@ returns c =
     sym (number-same 4 (a .v) (now (a .s)) (a .at) (c .before .shared-slice-known .given) (start .pre) (start .fits .v .fits))
 
 pub u32-same-spec : {M : Type 1} → statement M
-u32-same-spec = tie.close (tie.spec read-u32-requires returns)
+u32-same-spec = tie.close (tie.spec (λ c κs. search needs) returns)

@@ -8,9 +8,6 @@ use borrow.Author.Needs.{needs}
 use Rattle.mrd_views.proofs.at_cursor.view_at.Statement.{statement}
 use Rattle.mrd_views.proofs.at_cursor.view_at.Tie as tie
 
-view-place-at-requires : tie.Need-view-place-at-requires
-view-place-at-requires c κs = search needs
-
 viewed-requires : tie.Need-viewed-requires
 viewed-requires c κs =
     let a = c .before .before .args in
@@ -20,4 +17,4 @@ returns : tie.Need-returns
 returns c = rw (← c .before .view-place-at .ensures) (c .viewed .ensures)
 
 pub view-at-spec : {M : Type 1} → statement M
-view-at-spec = tie.close (tie.spec view-place-at-requires viewed-requires returns)
+view-at-spec = tie.close (tie.spec (λ c κs. search needs) viewed-requires returns)

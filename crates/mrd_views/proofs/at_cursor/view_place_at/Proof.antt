@@ -6,9 +6,6 @@ use borrow.Author.Needs.{needs}
 use Rattle.mrd_views.proofs.at_cursor.view_place_at.Statement.{statement}
 use Rattle.mrd_views.proofs.at_cursor.view_place_at.Tie as tie
 
-place-at-requires : tie.Need-place-at-requires
-place-at-requires c κs = search needs
-
 placed-view-requires : tie.Need-placed-view-requires
 placed-view-requires c κs =
     let a = c .before .before .args in
@@ -18,4 +15,4 @@ returns : tie.Need-returns
 returns c = rw (← c .before .place-at .ensures) (c .placed-view .ensures)
 
 pub view-place-at-spec : {M : Type 1} → statement M
-view-place-at-spec = tie.close (tie.spec place-at-requires placed-view-requires returns)
+view-place-at-spec = tie.close (tie.spec (λ c κs. search needs) placed-view-requires returns)

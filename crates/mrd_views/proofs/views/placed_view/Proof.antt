@@ -4,17 +4,8 @@ use borrow.Author.Needs.{needs}
 use Rattle.mrd_views.proofs.views.placed_view.Statement.{statement}
 use Rattle.mrd_views.proofs.views.placed_view.Tie as tie
 
-enum-known-placed : tie.Need-enum-known-placed
-enum-known-placed c = search needs
-
 record-view-requires : tie.Need-record-view-requires
 record-view-requires c κs = rw (c .before .placed .given .1) at (c .before .before .before .before .pre)
-
-enum-known-placed-2 : tie.Need-enum-known-placed-2
-enum-known-placed-2 c = search needs
-
-enum-known-placed-3 : tie.Need-enum-known-placed-3
-enum-known-placed-3 c = search needs
 
 returns : tie.Need-returns
 returns c = rw (c .before .before .placed .given .1) (c .record-view .ensures)
@@ -29,10 +20,10 @@ pub placed-view-spec : {M : Type 1} → statement M
 placed-view-spec =
     tie.close
     (tie.spec
-    enum-known-placed
+    (λ c. search needs)
     record-view-requires
-    enum-known-placed-2
-    enum-known-placed-3
+    (λ c. search needs)
+    (λ c. search needs)
     returns
     returns-2
     returns-3)

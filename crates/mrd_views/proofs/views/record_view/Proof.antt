@@ -17,12 +17,6 @@ use Rattle.mrd_views.specs.Views.{shownAt}
 use Rattle.mrd_views.proofs.views.record_view.Statement.{statement}
 use Rattle.mrd_views.proofs.views.record_view.Tie as tie
 
-kind-requires : tie.Need-kind-requires
-kind-requires c κs = search needs
-
-fixed-part-requires : tie.Need-fixed-part-requires
-fixed-part-requires c κs = search needs
-
 locate-requires : tie.Need-locate-requires
 locate-requires c κs =
     let a = c .before .before .before .before .args in
@@ -57,4 +51,4 @@ returns c =
 
 pub record-view-spec : {M : Type 1} → statement M
 record-view-spec =
-    tie.close (tie.spec kind-requires fixed-part-requires locate-requires shifted-requires returns)
+    tie.close (tie.spec (λ c κs. search needs) (λ c κs. search needs) locate-requires shifted-requires returns)

@@ -8,22 +8,13 @@ use Rattle.mrd_views.specs.Views.{shownAt, startOf}
 use Rattle.mrd_views.proofs.views.shifted.Statement.{statement}
 use Rattle.mrd_views.proofs.views.shifted.Tie as tie
 
-enum-known-sought : tie.Need-enum-known-sought
-enum-known-sought c = search needs
-
 add-t7 : tie.Need-add-t7
 add-t7 c =
     let start = c .before .before .before in
     omega (arith, ap (λ v. startOf (shownAt (soughtMeaning v) (start .args .start))) (c .before .sought .given .1), start .pre)
 
-enum-told : tie.Need-enum-told
-enum-told c = search needs
-
 returns : tie.Need-returns
 returns c = sym (ap (λ v. shownAt (soughtMeaning v) (c .before .before .before .args .start)) (c .before .sought .given .1))
 
-returns-2 : tie.Need-returns-2
-returns-2 c = search needs
-
 pub shifted-spec : {M : Type 1} → statement M
-shifted-spec = tie.close (tie.spec enum-known-sought add-t7 enum-told returns returns-2)
+shifted-spec = tie.close (tie.spec (λ c. search needs) add-t7 (λ c. search needs) returns (λ c. search needs))

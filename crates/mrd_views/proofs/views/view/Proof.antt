@@ -9,9 +9,6 @@ use borrow.Author.Needs.{needs}
 use Rattle.mrd_views.proofs.views.view.Statement.{statement}
 use Rattle.mrd_views.proofs.views.view.Tie as tie
 
-view-place-requires : tie.Need-view-place-requires
-view-place-requires c κs = search needs
-
 viewed-requires : tie.Need-viewed-requires
 unfolding viewOf
 viewed-requires c κs =
@@ -22,4 +19,4 @@ returns : tie.Need-returns
 returns c = rw (← c .before .view-place .ensures) (c .viewed .ensures)
 
 pub view-spec : {M : Type 1} → statement M
-view-spec = tie.close (tie.spec view-place-requires viewed-requires returns)
+view-spec = tie.close (tie.spec (λ c κs. search needs) viewed-requires returns)

@@ -7,9 +7,6 @@ use borrow.Author.Needs.{needs}
 use Rattle.mrd_views.proofs.views.view_place.Statement.{statement}
 use Rattle.mrd_views.proofs.views.view_place.Tie as tie
 
-place-requires : tie.Need-place-requires
-place-requires c κs = search needs
-
 placed-view-requires : tie.Need-placed-view-requires
 placed-view-requires c κs =
     let a = c .before .before .args in
@@ -20,4 +17,4 @@ unfolding viewOf
 returns c = rw (← c .before .place .ensures) (c .placed-view .ensures)
 
 pub view-place-spec : {M : Type 1} → statement M
-view-place-spec = tie.close (tie.spec place-requires placed-view-requires returns)
+view-place-spec = tie.close (tie.spec (λ c κs. search needs) placed-view-requires returns)

@@ -4,23 +4,8 @@ use borrow.Author.Needs.{needs}
 use Rattle.mrd_views.proofs.views.viewed.Statement.{statement}
 use Rattle.mrd_views.proofs.views.viewed.Tie as tie
 
-enum-known-place : tie.Need-enum-known-place
-enum-known-place c = search needs
-
 spanned-requires : tie.Need-spanned-requires
 spanned-requires c κs = rw (c .before .place .given .1) at (c .before .before .before .before .pre)
-
-enum-told : tie.Need-enum-told
-enum-told c = search needs
-
-spanned-requires-2 : tie.Need-spanned-requires-2
-spanned-requires-2 c κs = search needs
-
-enum-told-2 : tie.Need-enum-told-2
-enum-told-2 c = search needs
-
-spanned-requires-3 : tie.Need-spanned-requires-3
-spanned-requires-3 c κs = search needs
 
 returns : tie.Need-returns
 returns c = rw (c .before .before .place .given .1) (c .spanned .ensures)
@@ -35,12 +20,12 @@ pub viewed-spec : {M : Type 1} → statement M
 viewed-spec =
     tie.close
     (tie.spec
-    enum-known-place
+    (λ c. search needs)
     spanned-requires
-    enum-told
-    spanned-requires-2
-    enum-told-2
-    spanned-requires-3
+    (λ c. search needs)
+    (λ c κs. search needs)
+    (λ c. search needs)
+    (λ c κs. search needs)
     returns
     returns-2
     returns-3)

@@ -7,16 +7,10 @@ use Rattle.mrd_write_checks.specs.GivenLaws.{fixed-own, fixed-limit, fix
 use Rattle.mrd_write_checks.proofs.contents.checked_fixed.Statement.{statement}
 use Rattle.mrd_write_checks.proofs.contents.checked_fixed.Tie as tie
 
-fault-requires : tie.Need-fault-requires
-fault-requires c κs = search needs
-
 returns : tie.Need-returns
 returns c =
     let a = c .before .before .before .args in
     sym (fixed-own (a .kind) (now (a .h)) _ (sym (c .before .fault .ensures)) (c .if1 .taken))
-
-size-requires : tie.Need-size-requires
-size-requires c κs = search needs
 
 returns-2 : tie.Need-returns-2
 returns-2 c =
@@ -33,4 +27,4 @@ returns-3 c =
     (c .before .size .ensures) (c .if2 .left))
 
 pub checked-fixed-spec : {M : Type 1} → statement M
-checked-fixed-spec = tie.close (tie.spec fault-requires returns size-requires returns-2 returns-3)
+checked-fixed-spec = tie.close (tie.spec (λ c κs. search needs) returns (λ c κs. search needs) returns-2 returns-3)

@@ -13,18 +13,12 @@ use Rattle.mrd_write_checks.proofs.contents.checked_name.Tie as tie
 returns : tie.Need-returns
 returns c = sym (name-long (now (c .before .before .args .name)) (c .if1 .taken))
 
-find-requires : tie.Need-find-requires
-find-requires c κs = search needs
-
 returns-2 : tie.Need-returns-2
 unfolding slice
 returns-2 c =
     let name = now (c .before .before .before .before .args .name) in
     let at : c .before .find .result ≡ indexOf 0 name = c .before .find .ensures .0 ∙ zero-add _ ∙ ap (indexOf 0) (take-length name) in
     sym (name-zero name (c .before .before .if1 .left) (rw (← at) (c .if2 .taken)))
-
-add-t2 : tie.Need-add-t2
-add-t2 c = search needs
 
 returns-3 : tie.Need-returns-3
 unfolding slice
@@ -34,4 +28,4 @@ returns-3 c =
     sym (name-sound name (c .before .before .if1 .left) (rw (← at) (c .if2 .left)))
 
 pub checked-name-spec : {M : Type 1} → statement M
-checked-name-spec = tie.close (tie.spec returns find-requires returns-2 add-t2 returns-3)
+checked-name-spec = tie.close (tie.spec returns (λ c κs. search needs) returns-2 (λ c. search needs) returns-3)

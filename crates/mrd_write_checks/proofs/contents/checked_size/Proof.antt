@@ -15,34 +15,13 @@ use Rattle.mrd_format.proofs.Arms.{arm}
 use Rattle.mrd_write_checks.proofs.contents.checked_size.Statement.{statement}
 use Rattle.mrd_write_checks.proofs.contents.checked_size.Tie as tie
 
-enum-told : tie.Need-enum-told
-enum-told c = search needs
-
-checked-name-requires : tie.Need-checked-name-requires
-checked-name-requires c κs = search needs
-
-checked-text-requires : tie.Need-checked-text-requires
-checked-text-requires c κs = search needs
-
-enum-told-2 : tie.Need-enum-told-2
-enum-told-2 c = search needs
-
 checked-fixed-requires : tie.Need-checked-fixed-requires
 checked-fixed-requires c κs =
     c .before .before .before .pre ∙
     arm (λ (k : Kind). headerSize k ≡ fixedSize k) (5 ∷ 7 ∷ []) (c .before .before .before .args .kind) (c .match .keys4) (refl, (refl, tt))
 
-enum-told-3 : tie.Need-enum-told-3
-enum-told-3 c = search needs
-
 image-fixed-requires : tie.Need-image-fixed-requires
 image-fixed-requires c κs = rw (c .enum-told3 .given .1) at (c .before .before .before .before .pre)
-
-slice-aggregate-checked-fixed : tie.Need-slice-aggregate-checked-fixed
-slice-aggregate-checked-fixed c = search needs
-
-checked-fixed-requires-2 : tie.Need-checked-fixed-requires-2
-checked-fixed-requires-2 c κs = search needs
 
 returns : tie.Need-returns
 returns c = rw (c .before .enum-told .given .1) (c .checked-name .ensures ∙ sym (sized-name _ _ _))
@@ -80,15 +59,15 @@ pub checked-size-spec : {M : Type 1} → statement M
 checked-size-spec =
     tie.close
     (tie.spec
-    enum-told
-    checked-name-requires
-    checked-text-requires
-    enum-told-2
+    (λ c. search needs)
+    (λ c κs. search needs)
+    (λ c κs. search needs)
+    (λ c. search needs)
     checked-fixed-requires
-    enum-told-3
+    (λ c. search needs)
     image-fixed-requires
-    slice-aggregate-checked-fixed
-    checked-fixed-requires-2
+    (λ c. search needs)
+    (λ c κs. search needs)
     returns
     returns-2
     returns-3

@@ -6,20 +6,11 @@ use Rattle.mrd_write_checks.specs.GivenLaws.{text-long, text-sound}
 use Rattle.mrd_write_checks.proofs.contents.checked_text.Statement.{statement}
 use Rattle.mrd_write_checks.proofs.contents.checked_text.Tie as tie
 
-add-head : tie.Need-add-head
-add-head c = search needs
-
-sub-if1 : tie.Need-sub-if1
-sub-if1 c = search needs
-
 returns : tie.Need-returns
 returns c = sym (text-long (c .before .args .text) (c .if1 .taken))
-
-add-t7 : tie.Need-add-t7
-add-t7 c = search needs
 
 returns-2 : tie.Need-returns-2
 returns-2 c = sym (text-sound (c .before .args .text) (c .if1 .left))
 
 pub checked-text-spec : {M : Type 1} → statement M
-checked-text-spec = tie.close (tie.spec add-head sub-if1 returns add-t7 returns-2)
+checked-text-spec = tie.close (tie.spec (λ c. search needs) (λ c. search needs) returns (λ c. search needs) returns-2)

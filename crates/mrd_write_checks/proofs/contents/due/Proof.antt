@@ -12,23 +12,8 @@ use Rattle.mrd_format.proofs.Arms.{arm-same}
 use Rattle.mrd_write_checks.proofs.contents.due.Statement.{statement}
 use Rattle.mrd_write_checks.proofs.contents.due.Tie as tie
 
-none-requires : tie.Need-none-requires
-none-requires c κs = search needs
-
-enum-told : tie.Need-enum-told
-enum-told c = search needs
-
-enum-told-2 : tie.Need-enum-told-2
-enum-told-2 c = search needs
-
-enum-told-3 : tie.Need-enum-told-3
-enum-told-3 c = search needs
-
 trajectory-size-requires : tie.Need-trajectory-size-requires
 trajectory-size-requires c κs = rw (c .enum-told3 .given .1) at (c .before .before .before .before .pre .0)
-
-add-due : tie.Need-add-due
-add-due c = search needs
 
 sub-due : tie.Need-sub-due
 sub-due c =
@@ -44,12 +29,6 @@ sub-due-2 c =
       due-acquisition _ (now (start .args .header)) (start .args .given) (start .pre .1) (c .before .before .enum-told3 .given .1) .0,
     )
 
-enum-told-4 : tie.Need-enum-told-4
-enum-told-4 c = search needs
-
-add-due-2 : tie.Need-add-due-2
-add-due-2 c = search needs
-
 sub-due-3 : tie.Need-sub-due-3
 sub-due-3 c =
     let start = c .before .before .before .before in
@@ -59,12 +38,6 @@ sub-due-4 : tie.Need-sub-due-4
 sub-due-4 c =
     let start = c .before .before .before .before .before in
     omega (arith, due-image _ (now (start .args .header)) (start .args .given) (start .pre .1) (c .before .enum-told4 .given .1) .0)
-
-enum-told-5 : tie.Need-enum-told-5
-enum-told-5 c = search needs
-
-add-due-3 : tie.Need-add-due-3
-add-due-3 c = search needs
 
 sub-due-5 : tie.Need-sub-due-5
 sub-due-5 c =
@@ -108,20 +81,20 @@ pub due-spec : {M : Type 1} → statement M
 due-spec =
     tie.close
     (tie.spec
-    none-requires
-    enum-told
-    enum-told-2
-    enum-told-3
+    (λ c κs. search needs)
+    (λ c. search needs)
+    (λ c. search needs)
+    (λ c. search needs)
     trajectory-size-requires
-    add-due
+    (λ c. search needs)
     sub-due
     sub-due-2
-    enum-told-4
-    add-due-2
+    (λ c. search needs)
+    (λ c. search needs)
     sub-due-3
     sub-due-4
-    enum-told-5
-    add-due-3
+    (λ c. search needs)
+    (λ c. search needs)
     sub-due-5
     returns
     returns-2

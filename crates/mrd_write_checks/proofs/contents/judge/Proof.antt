@@ -8,21 +8,12 @@ use Rattle.mrd_write_checks.specs.GivenLaws.{judged-header, judged-refus
 use Rattle.mrd_write_checks.proofs.contents.judge.Statement.{statement}
 use Rattle.mrd_write_checks.proofs.contents.judge.Tie as tie
 
-header-size-requires : tie.Need-header-size-requires
-header-size-requires c κs = search needs
-
 returns : tie.Need-returns
 returns c =
     let a = c .before .before .before .before .args in
     sym
     (judged-header (a .kind) (now (a .header)) (now (a .name)) (a .given)
     (λ e. c .if1 .taken (e ∙ sym (c .before .header-size .ensures))))
-
-checked-size-requires : tie.Need-checked-size-requires
-checked-size-requires c κs = search needs
-
-enum-known-checked : tie.Need-enum-known-checked
-enum-known-checked c = search needs
 
 due-requires : tie.Need-due-requires
 due-requires c κs =
@@ -31,12 +22,6 @@ due-requires c κs =
       sized-size (a .kind) (now (a .header)) (now (a .name)) (a .given)
           (sym (c .before .before .before .checked-size .ensures) ∙ ap judgedMeaning (c .before .checked .given .1)),
     )
-
-same-requires : tie.Need-same-requires
-same-requires c κs = search needs
-
-enum-known-checked-2 : tie.Need-enum-known-checked-2
-enum-known-checked-2 c = search needs
 
 returns-2 : tie.Need-returns-2
 returns-2 c =
@@ -70,13 +55,13 @@ pub judge-spec : {M : Type 1} → statement M
 judge-spec =
     tie.close
     (tie.spec
-    header-size-requires
+    (λ c κs. search needs)
     returns
-    checked-size-requires
-    enum-known-checked
+    (λ c κs. search needs)
+    (λ c. search needs)
     due-requires
-    same-requires
-    enum-known-checked-2
+    (λ c κs. search needs)
+    (λ c. search needs)
     returns-2
     returns-3
     returns-4)

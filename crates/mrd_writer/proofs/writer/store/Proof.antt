@@ -21,25 +21,10 @@ returns c =
     let start = c .before .before .before .before .before .before .before .before .before .before in
     no-room (start .args .kind) (given start) (start .args .position) (now (start .args .out)) (start .pre) (omega arith)
 
-sub-if2 : tie.Need-sub-if2
-sub-if2 c = search needs
-
 returns-2 : tie.Need-returns-2
 returns-2 c =
     let start = c .before .before .before .before .before .before .before .before .before .before .before in
     no-room (start .args .kind) (given start) (start .args .position) (now (start .args .out)) (start .pre) (omega arith)
-
-sub-put-u16 : tie.Need-sub-put-u16
-sub-put-u16 c = search needs
-
-part-put-u16-start : tie.Need-part-put-u16-start
-part-put-u16-start c = search needs
-
-part-put-u16-end : tie.Need-part-put-u16-end
-part-put-u16-end c = search needs
-
-id-requires : tie.Need-id-requires
-id-requires c κs = search needs
 
 put-u16-requires : tie.Need-put-u16-requires
 put-u16-requires c κs =
@@ -51,9 +36,6 @@ put-u16-requires c κs =
           (start .args .position) (now (start .args .out)) (start .pre) (omega arith) .1,
     )
 
-add-content : tie.Need-add-content
-add-content c = search needs
-
 sub-put-content : tie.Need-sub-put-content
 sub-put-content c =
     let start = c .before .before .before .before .before .before .before .before .before .before .before .before .before .before .before .before in
@@ -63,9 +45,6 @@ part-put-content-start : tie.Need-part-put-content-start
 part-put-content-start c =
     let start = c .before .before .before .before .before .before .before .before .before .before .before .before .before .before .before .before in
     omega (arith, within (start .args .kind) (given start) (start .args .position) (now (start .args .out)) (start .pre) (omega arith) .1)
-
-part-put-content-end : tie.Need-part-put-content-end
-part-put-content-end c = search needs
 
 put-content-requires : tie.Need-put-content-requires
 put-content-requires c κs =
@@ -90,9 +69,6 @@ add-end c =
       c .before .before .before .before .before .before .before .before .before .before .if1 .left,
     )
 
-same-length : tie.Need-same-length
-same-length c = search needs
-
 returns-3 : tie.Need-returns-3
 returns-3 c =
     let start = c .before .before .before .before .before .before .before .before .before .before .before .before .before .before .before .before .before .before .before .before in
@@ -113,18 +89,18 @@ store-spec =
     tie.close
     (tie.spec
     returns
-    sub-if2
+    (λ c. search needs)
     returns-2
-    sub-put-u16
-    part-put-u16-start
-    part-put-u16-end
-    id-requires
+    (λ c. search needs)
+    (λ c. search needs)
+    (λ c. search needs)
+    (λ c κs. search needs)
     put-u16-requires
-    add-content
+    (λ c. search needs)
     sub-put-content
     part-put-content-start
-    part-put-content-end
+    (λ c. search needs)
     put-content-requires
     add-end
-    same-length
+    (λ c. search needs)
     returns-3)

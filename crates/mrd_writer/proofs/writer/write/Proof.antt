@@ -15,41 +15,17 @@ given s =
     contents (now (s .args .header)) (now (s .args .name)) (now (s .args .text)) (now (s .args .trajectory)) (now (s .args .samples))
     (now (s .args .attributes)) (now (s .args .pixels)) (now (s .args .waveform))
 
-of-id-requires : tie.Need-of-id-requires
-of-id-requires c κs = search needs
-
-enum-known-identified : tie.Need-enum-known-identified
-enum-known-identified c = search needs
-
-enum-told : tie.Need-enum-told
-enum-told c = search needs
-
 returns : tie.Need-returns
 returns c =
     let start = c .before .before .before .before .before .before .before .before .before .before .before .before in
     write-unknown (start .args .id) (given start) (start .args .position) (now (start .args .out))
     (sym (c .before .before .of-id .ensures) ∙ c .enum-told .given .1)
 
-body-lengths-requires : tie.Need-body-lengths-requires
-body-lengths-requires c κs = search needs
-
-judge-requires : tie.Need-judge-requires
-judge-requires c κs = search needs
-
-enum-known-judged : tie.Need-enum-known-judged
-enum-known-judged c = search needs
-
 store-requires : tie.Need-store-requires
 store-requires c κs =
     sym
     (rw (c .before .before .before .before .before .body-lengths .ensures) at
     (c .before .before .before .before .judge .ensures)) ∙ ap judgedMeaning (c .before .before .judged .given .1)
-
-enum-known-judged-2 : tie.Need-enum-known-judged-2
-enum-known-judged-2 c = search needs
-
-same-length : tie.Need-same-length
-same-length c = search needs
 
 returns-2 : tie.Need-returns-2
 returns-2 c =
@@ -73,15 +49,15 @@ pub write-spec : {M : Type 1} → statement M
 write-spec =
     tie.close
     (tie.spec
-    of-id-requires
-    enum-known-identified
-    enum-told
+    (λ c κs. search needs)
+    (λ c. search needs)
+    (λ c. search needs)
     returns
-    body-lengths-requires
-    judge-requires
-    enum-known-judged
+    (λ c κs. search needs)
+    (λ c κs. search needs)
+    (λ c. search needs)
     store-requires
-    enum-known-judged-2
-    same-length
+    (λ c. search needs)
+    (λ c. search needs)
     returns-2
     returns-3)

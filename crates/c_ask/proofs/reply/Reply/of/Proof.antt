@@ -4,44 +4,8 @@ use borrow.Author.Needs.{needs}
 use Rattle.c_ask.proofs.reply.Reply.of.Statement.{statement}
 use Rattle.c_ask.proofs.reply.Reply.of.Tie as tie
 
-refused-requires : tie.Need-refused-requires
-refused-requires c κs = search needs
-
-enum-known-reply : tie.Need-enum-known-reply
-enum-known-reply c = search needs
-
-found-requires : tie.Need-found-requires
-found-requires c κs = search needs
-
-enum-known-reply-2 : tie.Need-enum-known-reply-2
-enum-known-reply-2 c = search needs
-
-new-requires : tie.Need-new-requires
-new-requires c κs = search needs
-
-enum-known-reply-3 : tie.Need-enum-known-reply-3
-enum-known-reply-3 c = search needs
-
 value-requires : tie.Need-value-requires
 value-requires c κs = rw (c .before .reply3 .given .1) at (c .before .before .before .before .pre)
-
-enum-known-reply-4 : tie.Need-enum-known-reply-4
-enum-known-reply-4 c = search needs
-
-new-requires-2 : tie.Need-new-requires-2
-new-requires-2 c κs = search needs
-
-enum-known-reply-5 : tie.Need-enum-known-reply-5
-enum-known-reply-5 c = search needs
-
-refused-requires-2 : tie.Need-refused-requires-2
-refused-requires-2 c κs = search needs
-
-enum-known-reply-6 : tie.Need-enum-known-reply-6
-enum-known-reply-6 c = search needs
-
-refused-requires-3 : tie.Need-refused-requires-3
-refused-requires-3 c κs = search needs
 
 returns : tie.Need-returns
 returns c = rw (c .before .before .before .before .refused .ensures, c .found .ensures, c .before .before .reply .given .1)
@@ -65,19 +29,19 @@ pub of-spec : {M : Type 1} → statement M
 of-spec =
     tie.close
     (tie.spec
-    refused-requires
-    enum-known-reply
-    found-requires
-    enum-known-reply-2
-    new-requires
-    enum-known-reply-3
+    (λ c κs. search needs)
+    (λ c. search needs)
+    (λ c κs. search needs)
+    (λ c. search needs)
+    (λ c κs. search needs)
+    (λ c. search needs)
     value-requires
-    enum-known-reply-4
-    new-requires-2
-    enum-known-reply-5
-    refused-requires-2
-    enum-known-reply-6
-    refused-requires-3
+    (λ c. search needs)
+    (λ c κs. search needs)
+    (λ c. search needs)
+    (λ c κs. search needs)
+    (λ c. search needs)
+    (λ c κs. search needs)
     returns
     returns-2
     returns-3

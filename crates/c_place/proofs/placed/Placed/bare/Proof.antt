@@ -4,11 +4,8 @@ use borrow.Author.Needs.{needs}
 use Rattle.c_place.proofs.placed.Placed.bare.Statement.{statement}
 use Rattle.c_place.proofs.placed.Placed.bare.Tie as tie
 
-refused-requires : tie.Need-refused-requires
-refused-requires c κs = search needs
-
 returns : tie.Need-returns
 returns c = rw (c .refused .ensures)
 
 pub bare-spec : {M : Type 1} → statement M
-bare-spec = tie.close (tie.spec refused-requires returns)
+bare-spec = tie.close (tie.spec (λ c κs. search needs) returns)

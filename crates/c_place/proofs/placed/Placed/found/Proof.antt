@@ -6,54 +6,6 @@ use borrow.Author.Needs.{needs}
 use Rattle.c_place.proofs.placed.Placed.found.Statement.{statement}
 use Rattle.c_place.proofs.placed.Placed.found.Tie as tie
 
-enum-known-shape : tie.Need-enum-known-shape
-enum-known-shape c = search needs
-
-text-requires : tie.Need-text-requires
-text-requires c κs = search needs
-
-enum-known-shape-2 : tie.Need-enum-known-shape-2
-enum-known-shape-2 c = search needs
-
-text-requires-2 : tie.Need-text-requires-2
-text-requires-2 c κs = search needs
-
-enum-known-shape-3 : tie.Need-enum-known-shape-3
-enum-known-shape-3 c = search needs
-
-text-requires-3 : tie.Need-text-requires-3
-text-requires-3 c κs = search needs
-
-enum-told : tie.Need-enum-told
-enum-told c = search needs
-
-bare-requires : tie.Need-bare-requires
-bare-requires c κs = search needs
-
-enum-known-shape-4 : tie.Need-enum-known-shape-4
-enum-known-shape-4 c = search needs
-
-text-requires-4 : tie.Need-text-requires-4
-text-requires-4 c κs = search needs
-
-enum-known-shape-5 : tie.Need-enum-known-shape-5
-enum-known-shape-5 c = search needs
-
-acquisition-requires : tie.Need-acquisition-requires
-acquisition-requires c κs = search needs
-
-enum-known-shape-6 : tie.Need-enum-known-shape-6
-enum-known-shape-6 c = search needs
-
-image-requires : tie.Need-image-requires
-image-requires c κs = search needs
-
-enum-known-shape-7 : tie.Need-enum-known-shape-7
-enum-known-shape-7 c = search needs
-
-waveform-requires : tie.Need-waveform-requires
-waveform-requires c κs = search needs
-
 returns : tie.Need-returns
 returns c = c .text .ensures ∙ sym (ap (shapeAs (c .before .before .before .before .before .args .here .place))
     (c .before .before .shape .given .1))
@@ -89,22 +41,22 @@ pub found-spec : {M : Type 1} → statement M
 found-spec =
     tie.close
     (tie.spec
-    enum-known-shape
-    text-requires
-    enum-known-shape-2
-    text-requires-2
-    enum-known-shape-3
-    text-requires-3
-    enum-told
-    bare-requires
-    enum-known-shape-4
-    text-requires-4
-    enum-known-shape-5
-    acquisition-requires
-    enum-known-shape-6
-    image-requires
-    enum-known-shape-7
-    waveform-requires
+    (λ c. search needs)
+    (λ c κs. search needs)
+    (λ c. search needs)
+    (λ c κs. search needs)
+    (λ c. search needs)
+    (λ c κs. search needs)
+    (λ c. search needs)
+    (λ c κs. search needs)
+    (λ c. search needs)
+    (λ c κs. search needs)
+    (λ c. search needs)
+    (λ c κs. search needs)
+    (λ c. search needs)
+    (λ c κs. search needs)
+    (λ c. search needs)
+    (λ c κs. search needs)
     returns
     returns-2
     returns-3

@@ -7,24 +7,6 @@ use borrow.Author.Needs.{needs}
 use Rattle.c_place.proofs.placed.Placed.of.Statement.{statement}
 use Rattle.c_place.proofs.placed.Placed.of.Tie as tie
 
-enum-known-answer : tie.Need-enum-known-answer
-enum-known-answer c = search needs
-
-found-requires : tie.Need-found-requires
-found-requires c κs = search needs
-
-enum-known-answer-2 : tie.Need-enum-known-answer-2
-enum-known-answer-2 c = search needs
-
-refused-requires : tie.Need-refused-requires
-refused-requires c κs = search needs
-
-enum-known-answer-3 : tie.Need-enum-known-answer-3
-enum-known-answer-3 c = search needs
-
-refused-requires-2 : tie.Need-refused-requires-2
-refused-requires-2 c κs = search needs
-
 returns : tie.Need-returns
 returns c = c .found .ensures ∙ sym (ap (λ a. cPlaced (placedMeaning a)) (c .before .before .answer .given .1))
 
@@ -38,12 +20,12 @@ pub of-spec : {M : Type 1} → statement M
 of-spec =
     tie.close
     (tie.spec
-    enum-known-answer
-    found-requires
-    enum-known-answer-2
-    refused-requires
-    enum-known-answer-3
-    refused-requires-2
+    (λ c. search needs)
+    (λ c κs. search needs)
+    (λ c. search needs)
+    (λ c κs. search needs)
+    (λ c. search needs)
+    (λ c κs. search needs)
     returns
     returns-2
     returns-3)

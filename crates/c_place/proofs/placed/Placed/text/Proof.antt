@@ -4,11 +4,8 @@ use borrow.Author.Needs.{needs}
 use Rattle.c_place.proofs.placed.Placed.text.Statement.{statement}
 use Rattle.c_place.proofs.placed.Placed.text.Tie as tie
 
-bare-requires : tie.Need-bare-requires
-bare-requires c κs = search needs
-
 returns : tie.Need-returns
 returns c = rw (c .bare .ensures)
 
 pub text-spec : {M : Type 1} → statement M
-text-spec = tie.close (tie.spec bare-requires returns)
+text-spec = tie.close (tie.spec (λ c κs. search needs) returns)

@@ -4,11 +4,8 @@ use borrow.Author.Needs.{needs}
 use Rattle.c_place.proofs.placed.Placed.waveform.Statement.{statement}
 use Rattle.c_place.proofs.placed.Placed.waveform.Tie as tie
 
-bare-requires : tie.Need-bare-requires
-bare-requires c κs = search needs
-
 returns : tie.Need-returns
 returns c = rw (c .bare .ensures)
 
 pub waveform-spec : {M : Type 1} → statement M
-waveform-spec = tie.close (tie.spec bare-requires returns)
+waveform-spec = tie.close (tie.spec (λ c κs. search needs) returns)

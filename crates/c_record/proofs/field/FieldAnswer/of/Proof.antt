@@ -7,23 +7,8 @@ use borrow.Author.Needs.{needs}
 use Rattle.c_record.proofs.field.FieldAnswer.of.Statement.{statement}
 use Rattle.c_record.proofs.field.FieldAnswer.of.Tie as tie
 
-enum-known-answer : tie.Need-enum-known-answer
-enum-known-answer c = search needs
-
 value-requires : tie.Need-value-requires
 value-requires c κs = rw (c .before .answer .given .1) at (c .before .before .before .pre)
-
-enum-known-answer-2 : tie.Need-enum-known-answer-2
-enum-known-answer-2 c = search needs
-
-refused-requires : tie.Need-refused-requires
-refused-requires c κs = search needs
-
-enum-known-answer-3 : tie.Need-enum-known-answer-3
-enum-known-answer-3 c = search needs
-
-refused-requires-2 : tie.Need-refused-requires-2
-refused-requires-2 c κs = search needs
 
 returns : tie.Need-returns
 returns c = c .value .ensures ∙ sym (ap (λ a. cField (fieldMeaning a)) (c .before .before .answer .given .1))
@@ -38,12 +23,12 @@ pub of-spec : {M : Type 1} → statement M
 of-spec =
     tie.close
     (tie.spec
-    enum-known-answer
+    (λ c. search needs)
     value-requires
-    enum-known-answer-2
-    refused-requires
-    enum-known-answer-3
-    refused-requires-2
+    (λ c. search needs)
+    (λ c κs. search needs)
+    (λ c. search needs)
+    (λ c κs. search needs)
     returns
     returns-2
     returns-3)

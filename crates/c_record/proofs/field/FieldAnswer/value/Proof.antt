@@ -9,29 +9,8 @@ use borrow.Author.Needs.{needs}
 use Rattle.c_record.proofs.field.FieldAnswer.value.Statement.{statement}
 use Rattle.c_record.proofs.field.FieldAnswer.value.Tie as tie
 
-refused-requires : tie.Need-refused-requires
-refused-requires c κs = search needs
-
-enum-known-value : tie.Need-enum-known-value
-enum-known-value c = search needs
-
-enum-known-value-2 : tie.Need-enum-known-value-2
-enum-known-value-2 c = search needs
-
-enum-known-value-3 : tie.Need-enum-known-value-3
-enum-known-value-3 c = search needs
-
 float-to-bits-r : tie.Need-float-to-bits-r
 float-to-bits-r c = rw (c .before .value3 .given .1) at (c .before .before .before .before .pre)
-
-enum-known-value-4 : tie.Need-enum-known-value-4
-enum-known-value-4 c = search needs
-
-enum-told : tie.Need-enum-told
-enum-told c = search needs
-
-refused-requires-2 : tie.Need-refused-requires-2
-refused-requires-2 c κs = search needs
 
 returns : tie.Need-returns
 returns c = rw (c .before .before .before .refused .ensures, c .before .value .given .1)
@@ -54,14 +33,14 @@ pub value-spec : {M : Type 1} → statement M
 value-spec =
     tie.close
     (tie.spec
-    refused-requires
-    enum-known-value
-    enum-known-value-2
-    enum-known-value-3
+    (λ c κs. search needs)
+    (λ c. search needs)
+    (λ c. search needs)
+    (λ c. search needs)
     float-to-bits-r
-    enum-known-value-4
-    enum-told
-    refused-requires-2
+    (λ c. search needs)
+    (λ c. search needs)
+    (λ c κs. search needs)
     returns
     returns-2
     returns-3

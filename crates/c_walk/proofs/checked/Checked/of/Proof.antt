@@ -7,18 +7,6 @@ use borrow.Author.Needs.{needs}
 use Rattle.c_walk.proofs.checked.Checked.of.Statement.{statement}
 use Rattle.c_walk.proofs.checked.Checked.of.Tie as tie
 
-enum-known-answer : tie.Need-enum-known-answer
-enum-known-answer c = search needs
-
-new-requires : tie.Need-new-requires
-new-requires c κs = search needs
-
-enum-known-answer-2 : tie.Need-enum-known-answer-2
-enum-known-answer-2 c = search needs
-
-new-requires-2 : tie.Need-new-requires-2
-new-requires-2 c κs = search needs
-
 returns : tie.Need-returns
 returns c = c .new .ensures ∙ sym (ap (λ a. cChecked (checkedMeaning a)) (c .before .before .answer .given .1))
 
@@ -29,9 +17,9 @@ pub of-spec : {M : Type 1} → statement M
 of-spec =
     tie.close
     (tie.spec
-    enum-known-answer
-    new-requires
-    enum-known-answer-2
-    new-requires-2
+    (λ c. search needs)
+    (λ c κs. search needs)
+    (λ c. search needs)
+    (λ c κs. search needs)
     returns
     returns-2)

@@ -4,11 +4,8 @@ use borrow.Author.Needs.{needs}
 use Rattle.c_walk.proofs.walk.Cursor.of.Statement.{statement}
 use Rattle.c_walk.proofs.walk.Cursor.of.Tie as tie
 
-phase-number-requires : tie.Need-phase-number-requires
-phase-number-requires c κs = search needs
-
 returns : tie.Need-returns
 returns c = rw (c .phase-number .ensures)
 
 pub of-spec : {M : Type 1} → statement M
-of-spec = tie.close (tie.spec phase-number-requires returns)
+of-spec = tie.close (tie.spec (λ c κs. search needs) returns)

@@ -4,27 +4,6 @@ use borrow.Author.Needs.{needs}
 use Rattle.c_walk.proofs.walk.Step.of.Statement.{statement}
 use Rattle.c_walk.proofs.walk.Step.of.Tie as tie
 
-enum-known-step : tie.Need-enum-known-step
-enum-known-step c = search needs
-
-found-requires : tie.Need-found-requires
-found-requires c κs = search needs
-
-of-requires : tie.Need-of-requires
-of-requires c κs = search needs
-
-new-requires : tie.Need-new-requires
-new-requires c κs = search needs
-
-enum-known-step-2 : tie.Need-enum-known-step-2
-enum-known-step-2 c = search needs
-
-refused-requires : tie.Need-refused-requires
-refused-requires c κs = search needs
-
-of-requires-2 : tie.Need-of-requires-2
-of-requires-2 c κs = search needs
-
 returns : tie.Need-returns
 returns c = rw (c .before .before .found .ensures, c .before .of .ensures, c .new .ensures, c .before .before .before .before .step .given .1)
 
@@ -35,12 +14,12 @@ pub of-spec : {M : Type 1} → statement M
 of-spec =
     tie.close
     (tie.spec
-    enum-known-step
-    found-requires
-    of-requires
-    new-requires
-    enum-known-step-2
-    refused-requires
-    of-requires-2
+    (λ c. search needs)
+    (λ c κs. search needs)
+    (λ c κs. search needs)
+    (λ c κs. search needs)
+    (λ c. search needs)
+    (λ c κs. search needs)
+    (λ c κs. search needs)
     returns
     returns-2)

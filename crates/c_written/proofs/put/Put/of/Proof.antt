@@ -7,15 +7,6 @@ use borrow.Author.Needs.{needs}
 use Rattle.c_written.proofs.put.Put.of.Statement.{statement}
 use Rattle.c_written.proofs.put.Put.of.Tie as tie
 
-enum-known-answer : tie.Need-enum-known-answer
-enum-known-answer c = search needs
-
-enum-known-answer-2 : tie.Need-enum-known-answer-2
-enum-known-answer-2 c = search needs
-
-cast-t5 : tie.Need-cast-t5
-cast-t5 c = search needs
-
 returns : tie.Need-returns
 returns c = sym (ap (λ a. cPut (writeMeaning a)) (c .before .answer .given .1))
 
@@ -23,4 +14,4 @@ returns-2 : tie.Need-returns-2
 returns-2 c = sym (ap (λ a. cPut (writeMeaning a)) (c .before .answer2 .given .1))
 
 pub of-spec : {M : Type 1} → statement M
-of-spec = tie.close (tie.spec enum-known-answer enum-known-answer-2 cast-t5 returns returns-2)
+of-spec = tie.close (tie.spec (λ c. search needs) (λ c. search needs) (λ c. search needs) returns returns-2)

@@ -7,24 +7,6 @@ use borrow.Author.Needs.{needs}
 use Rattle.c_written.proofs.written.Written.of.Statement.{statement}
 use Rattle.c_written.proofs.written.Written.of.Tie as tie
 
-enum-known-answer : tie.Need-enum-known-answer
-enum-known-answer c = search needs
-
-new-requires : tie.Need-new-requires
-new-requires c κs = search needs
-
-enum-known-answer-2 : tie.Need-enum-known-answer-2
-enum-known-answer-2 c = search needs
-
-new-requires-2 : tie.Need-new-requires-2
-new-requires-2 c κs = search needs
-
-enum-known-answer-3 : tie.Need-enum-known-answer-3
-enum-known-answer-3 c = search needs
-
-new-requires-3 : tie.Need-new-requires-3
-new-requires-3 c κs = search needs
-
 returns : tie.Need-returns
 returns c = c .new .ensures ∙ sym (ap (λ a. cWritten (writtenMeaning a)) (c .before .before .answer .given .1))
 
@@ -38,12 +20,12 @@ pub of-spec : {M : Type 1} → statement M
 of-spec =
     tie.close
     (tie.spec
-    enum-known-answer
-    new-requires
-    enum-known-answer-2
-    new-requires-2
-    enum-known-answer-3
-    new-requires-3
+    (λ c. search needs)
+    (λ c κs. search needs)
+    (λ c. search needs)
+    (λ c κs. search needs)
+    (λ c. search needs)
+    (λ c κs. search needs)
     returns
     returns-2
     returns-3)

@@ -54,7 +54,7 @@ using namespace ISMRMRD;
 
 // ---- Numbers as the description has them ----
 
-// FNV-1a over bytes that are handed in one by one, so that accessors can feed it.
+// FNV-1a over bytes given one by one, so that accessors can feed it.
 class Checksum {
 public:
     void add(const void *bytes, size_t length)

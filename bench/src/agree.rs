@@ -38,8 +38,8 @@ fn on_stream(rng: &mut Rng, stream: &[u8]) -> Result<usize, crate::baseline::Ref
     let mut places = vec![];
     let walked = library::walk(stream, |start, size, id| places.push((start, size, id)));
     assert_eq!(walked, answer);
-    let handed = reader::Records::of(stream).map_while(Result::ok);
-    let theirs: Vec<_> = handed.map(|r| (r.start, r.size, r.kind.id())).collect();
+    let records = reader::Records::of(stream).map_while(Result::ok);
+    let theirs: Vec<_> = records.map(|r| (r.start, r.size, r.kind.id())).collect();
     assert_eq!(theirs, places);
     for _ in 0..4 {
         let n = streams::record_number(rng, places.len() as u64) as usize;
@@ -90,8 +90,8 @@ fn on_index(rng: &mut Rng, stream: &[u8]) {
     }
     let mut files = vec![vec![], vec![0; room]];
     if reader::check(stream).is_ok() {
-        let lent = streams::lent_files(rng, stream).into_iter();
-        files.extend(lent.map(|file| file.bytes));
+        let given = streams::lent_files(rng, stream).into_iter();
+        files.extend(given.map(|file| file.bytes));
     }
     for file in files {
         let answer = library::index_matches(stream, &file);
@@ -105,17 +105,17 @@ fn on_writer_inputs(rng: &mut Rng) {
         inputs.push(streams::writer_input_refused(rng, number));
     }
     for input in inputs {
-        let lent = &input.message;
+        let given = &input.message;
         let message = Message {
-            id: lent.id,
-            header: &lent.header,
-            name: &lent.name,
-            text: &lent.text,
-            trajectory: &lent.trajectory,
-            samples: &lent.samples,
-            attributes: &lent.attributes,
-            pixels: &lent.pixels,
-            waveform: &lent.waveform,
+            id: given.id,
+            header: &given.header,
+            name: &given.name,
+            text: &given.text,
+            trajectory: &given.trajectory,
+            samples: &given.samples,
+            attributes: &given.attributes,
+            pixels: &given.pixels,
+            waveform: &given.waveform,
         };
         let position = input.position as usize;
         let (mut ours, mut theirs) = (input.output.clone(), input.output.clone());

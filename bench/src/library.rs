@@ -1,4 +1,4 @@
-//! The proved library by its C face, answering in the baseline's types so that the two can be compared.
+//! The proved library by its C functions, answering in the baseline's types so that the two can be compared.
 
 use crate::baseline::questions::Field;
 use crate::baseline::writer::Message;

@@ -100,7 +100,11 @@ impl Kind {
                 trajectory_dimensions: placed.trajectory_dimensions,
             },
             id::IMAGE => Kind::Image {
-                matrix_size: [placed.matrix_size_x, placed.matrix_size_y, placed.matrix_size_z],
+                matrix_size: [
+                    placed.matrix_size_x,
+                    placed.matrix_size_y,
+                    placed.matrix_size_z,
+                ],
                 channels: placed.channels,
                 data_type: placed.data_type,
                 attribute_length: placed.attribute_length,
@@ -115,7 +119,7 @@ impl Kind {
 }
 
 impl Record {
-    pub(crate) fn told(placed: &raw::mrd_placed) -> Result<Record, Refusal> {
+    pub(crate) fn of_c(placed: &raw::mrd_placed) -> Result<Record, Refusal> {
         Refusal::in_answer(placed.refusal, placed.record, placed.byte)?;
         Ok(Record {
             number: placed.number,
@@ -183,7 +187,7 @@ impl Field {
         }
     }
 
-    pub(crate) fn told(answer: &raw::mrd_field_answer) -> Result<Field, Refusal> {
+    pub(crate) fn of_c(answer: &raw::mrd_field_answer) -> Result<Field, Refusal> {
         Refusal::in_answer(answer.refusal, answer.record, answer.byte)?;
         Ok(match answer.value_type {
             raw::MRD_WHOLE => Field::Whole(answer.whole),

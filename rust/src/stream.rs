@@ -78,7 +78,7 @@ impl<'a> Stream<'a> {
             number: n,
             ..Default::default()
         };
-        Record::told(&match self.index {
+        Record::of_c(&match self.index {
             None => raw::place(self.bytes, n),
             Some(index) => self.ask(question, index).place,
         })
@@ -120,7 +120,7 @@ impl<'a> Stream<'a> {
             offset,
             ..Default::default()
         };
-        Field::told(&match self.index {
+        Field::of_c(&match self.index {
             None => raw::field(self.bytes, n, offset),
             Some(index) => self.ask(question, index).field,
         })

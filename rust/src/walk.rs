@@ -47,7 +47,7 @@ impl Cursor {
         }
     }
 
-    fn lent(self) -> raw::mrd_cursor {
+    fn given(self) -> raw::mrd_cursor {
         raw::mrd_cursor {
             number: self.number,
             start: self.start,
@@ -76,11 +76,11 @@ impl<'a> Stream<'a> {
 
     /// One step of the walk.
     pub fn step(&self, cursor: Cursor) -> Step {
-        let step = raw::next(self.bytes(), cursor.lent());
+        let step = raw::next(self.bytes(), cursor.given());
         if step.ended {
             return Step::End(counted(&step.answer));
         }
-        let here = Record::told(&step.here).expect("a step yields a record or ends");
+        let here = Record::of_c(&step.here).expect("a step yields a record or ends");
         Step::Record(here, Cursor::of(step.next))
     }
 
@@ -107,19 +107,19 @@ impl<'a> Stream<'a> {
     /// Where that part lies in the stream.
     pub fn view_place_at(&self, cursor: Cursor, part: Part) -> Result<Range<usize>, Refusal> {
         let (part, channel) = part.numbers();
-        range_of(&raw::view_at(self.bytes(), cursor.lent(), part, channel))
+        range_of(&raw::view_at(self.bytes(), cursor.given(), part, channel))
     }
 
     /// The element that starts at `offset` in the header of the record that is due at a cursor, at a cost that
     /// does not grow with the stream.
     pub fn field_at(&self, cursor: Cursor, offset: usize) -> Result<Field, Refusal> {
-        Field::told(&raw::field_at(self.bytes(), cursor.lent(), offset))
+        Field::of_c(&raw::field_at(self.bytes(), cursor.given(), offset))
     }
 
     /// The answer of the rest of the stream, from a cursor on: its number of records, those before the cursor
     /// counted too, or its refusal.
     pub fn check_from(&self, cursor: Cursor) -> Result<usize, Refusal> {
-        counted(&raw::check_from(self.bytes(), cursor.lent()))
+        counted(&raw::check_from(self.bytes(), cursor.given()))
     }
 }
 

@@ -1,5 +1,5 @@
 //! The wrapper itself: that each call reaches the library's function with its arguments in place, and that
-//! refusals are told in full. Whether the answers are right for every stream is tested in tests/against.
+//! refusals are given in full. Whether the answers are right for every stream is tested in tests/against.
 
 use cotterleaf::*;
 use std::collections::BTreeSet;
@@ -287,7 +287,7 @@ fn a_cursor_from_the_columns_is_at_the_record() {
     );
 }
 
-/// The record as a writer is lent it, from its views and the header's bytes.
+/// The record as a writer is given it, from its views and the header's bytes.
 fn message_of<'a>(stream: &Stream<'a>, record: &Record) -> Message<'a> {
     let n = record.number;
     let part = |part| stream.view(n, part).unwrap_or_default();
@@ -366,13 +366,13 @@ fn a_refusal_says_what_where_and_what_to_do() {
         unplaced.to_string(),
         "refused 14: the output is too short, or the position is past its end; give a longer output."
     );
-    let told = |number| Refusal {
+    let refused = |number| Refusal {
         number,
         place: None,
     };
     let texts: BTreeSet<(&str, &str)> = (1..=20)
-        .map(|number| (told(number).what(), told(number).remedy()))
+        .map(|number| (refused(number).what(), refused(number).remedy()))
         .collect();
     assert_eq!(texts.len(), 20, "each number has a text of its own");
-    assert!(!texts.contains(&(told(21).what(), told(21).remedy())));
+    assert!(!texts.contains(&(refused(21).what(), refused(21).remedy())));
 }

@@ -41,11 +41,11 @@ static void answers(void)
         {{0xF0, 3}, 2, {MRD_REFUSED_ORDER, 0, 0, 0}},
     };
     for (size_t i = 0; i < sizeof rows / sizeof rows[0]; i++) {
-        mrd_checked told = mrd_check(rows[i].bytes, rows[i].length);
-        CHECK(told.refusal == rows[i].answer.refusal);
-        CHECK(told.record == rows[i].answer.record);
-        CHECK(told.byte == rows[i].answer.byte);
-        CHECK(told.count == rows[i].answer.count);
+        mrd_checked answer = mrd_check(rows[i].bytes, rows[i].length);
+        CHECK(answer.refusal == rows[i].answer.refusal);
+        CHECK(answer.record == rows[i].answer.record);
+        CHECK(answer.byte == rows[i].answer.byte);
+        CHECK(answer.count == rows[i].answer.count);
     }
     CHECK(mrd_check(NULL, 0).refusal == MRD_REFUSED_NO_CLOSE); /* an empty slice may have any pointer */
 }
@@ -162,7 +162,7 @@ static mrd_reply with_file(mrd_question question, const uint8_t *file, size_t le
     return mrd_ask_with_file(TWO_RECORDS, 8, question, file, length);
 }
 
-/* The 57 bytes, written and lent: believed as they are, 15 with any one of them changed. */
+/* The 57 bytes, written and given: believed as they are, 15 with any one of them changed. */
 static void index_file(void)
 {
     uint8_t out[60];
@@ -306,8 +306,8 @@ static void walk(void)
     CHECK(end.ended && end.answer.refusal == 0 && end.answer.count == 2);
     CHECK(mrd_check_from(TWO_RECORDS, 8, first.next).count == 2);
     mrd_cursor over = {7, 6, 400};
-    mrd_checked told = mrd_check_from(TWO_RECORDS, 8, over);
-    CHECK(told.refusal == MRD_REFUSED_ORDER && told.record == 7 && told.byte == 6);
+    mrd_checked answer = mrd_check_from(TWO_RECORDS, 8, over);
+    CHECK(answer.refusal == MRD_REFUSED_ORDER && answer.record == 7 && answer.byte == 6);
     mrd_cursor past = {1000000, SIZE_MAX, 0};
     CHECK(mrd_next(TWO_RECORDS, 8, past).answer.refusal == MRD_REFUSED_NO_CLOSE);
 }

@@ -1,4 +1,4 @@
-//! The index of a stream as a file: written, and compared with a lent one.
+//! The index of a stream as a file: written, and compared with a given one.
 
 use super::headers::{u32_at, Kind};
 use super::reader::{check, Record, Records};
@@ -51,7 +51,7 @@ pub fn write_index(stream: &[u8], out: &mut [u8]) -> Result<usize, Refusal> {
     Ok(length(count))
 }
 
-/// Whether a lent file is the stream's index, in one walk; 15 where it is not.
+/// Whether a given file is the stream's index, in one walk; 15 where it is not.
 pub fn index_matches(stream: &[u8], file: &[u8]) -> Result<(), Refusal> {
     let mut same = file.get(..FRONT) == Some(&front(stream)[..]);
     let mut at = FRONT;

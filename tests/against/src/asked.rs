@@ -1,33 +1,33 @@
-//! The questions about a record, each asked of both readers with the same lent index or none.
+//! The questions about a record, each asked of both readers with the same given index or none.
 
+use crate::answers::{self, Answer};
 use crate::tally::{Family, Outcome, Tally};
-use crate::told::{self, Told};
 use cotterleaf::{Index, Part, Stream};
 use second_reader as second;
 use std::fmt::Debug;
 use streams::{LentColumns, LentFile};
 
-/// What index is lent with the questions.
-pub enum Lent {
+/// What index is given with the questions.
+pub enum GivenIndex {
     None,
     File(LentFile),
     Columns(LentColumns),
 }
 
-impl Lent {
+impl GivenIndex {
     pub fn what(&self) -> String {
         match self {
-            Lent::None => String::new(),
-            Lent::File(file) => format!(", lent a file: {}", file.what),
-            Lent::Columns(columns) => format!(", lent columns: {}", columns.what),
+            GivenIndex::None => String::new(),
+            GivenIndex::File(file) => format!(", given a file: {}", file.what),
+            GivenIndex::Columns(columns) => format!(", given columns: {}", columns.what),
         }
     }
 
     pub fn library(&self) -> Option<Index<'_>> {
         match self {
-            Lent::None => None,
-            Lent::File(file) => Some(Index::File(&file.bytes)),
-            Lent::Columns(columns) => Some(Index::Columns {
+            GivenIndex::None => None,
+            GivenIndex::File(file) => Some(Index::File(&file.bytes)),
+            GivenIndex::Columns(columns) => Some(Index::Columns {
                 starts: &columns.starts,
                 ids: &columns.ids,
                 counters: &columns.counters,
@@ -35,54 +35,54 @@ impl Lent {
         }
     }
 
-    pub fn second(&self) -> second::Lent<'_> {
+    pub fn second(&self) -> second::GivenIndex<'_> {
         match self {
-            Lent::None => second::Lent::NONE,
-            Lent::File(file) => second::Lent::file(&file.bytes),
-            Lent::Columns(columns) => {
-                second::Lent::columns(&columns.starts, &columns.ids, &columns.counters)
+            GivenIndex::None => second::GivenIndex::NONE,
+            GivenIndex::File(file) => second::GivenIndex::file(&file.bytes),
+            GivenIndex::Columns(columns) => {
+                second::GivenIndex::columns(&columns.starts, &columns.ids, &columns.counters)
             }
         }
     }
 }
 
-/// A stream and the index lent with it.
+/// A stream and the index given with it.
 pub struct Asked<'a> {
     pub bytes: &'a [u8],
-    pub lent: &'a Lent,
+    pub given: &'a GivenIndex,
 }
 
 impl<'a> Asked<'a> {
     fn library(&self) -> Stream<'a> {
         let stream = Stream::new(self.bytes);
-        match self.lent.library() {
+        match self.given.library() {
             None => stream,
             Some(index) => stream.with(index),
         }
     }
 
-    /// Compares, and notes whether the lent index was believed.
+    /// Compares, and notes whether the given index was believed.
     fn same<T: PartialEq + Debug>(
         &self,
         tally: &mut Tally,
         family: Family,
         question: impl Fn() -> String,
-        library: Told<T>,
-        second: Told<T>,
+        library: Answer<T>,
+        second: Answer<T>,
     ) -> Outcome {
         let believed = match &second {
             Err(second::Refused::Stream(_)) => None,
             Err(second::Refused::Other(15)) => Some(false),
             _ => Some(true),
         };
-        let group = match (self.lent, believed) {
-            (Lent::File(_), Some(true)) => Some("file believed"),
-            (Lent::File(_), Some(false)) => Some("file not believed"),
-            (Lent::Columns(_), Some(true)) => Some("columns believed"),
-            (Lent::Columns(_), Some(false)) => Some("columns not believed"),
+        let group = match (self.given, believed) {
+            (GivenIndex::File(_), Some(true)) => Some("file believed"),
+            (GivenIndex::File(_), Some(false)) => Some("file not believed"),
+            (GivenIndex::Columns(_), Some(true)) => Some("columns believed"),
+            (GivenIndex::Columns(_), Some(false)) => Some("columns not believed"),
             _ => None,
         };
-        let question = || format!("{}{}", question(), self.lent.what());
+        let question = || format!("{}{}", question(), self.given.what());
         tally.same(family, question, library, second)?;
         if let Some(group) = group {
             tally.note(group, family.name());
@@ -92,21 +92,21 @@ impl<'a> Asked<'a> {
 
     pub fn place(&self, tally: &mut Tally, n: u64) -> Outcome {
         let library = self.library().place(n as usize);
-        let library = library.map(told::record).map_err(told::refused);
-        let second = second::kind_and_place(self.bytes, self.lent.second(), n);
+        let library = library.map(answers::record).map_err(answers::refused);
+        let second = second::kind_and_place(self.bytes, self.given.second(), n);
         let question = || format!("place of record {n}");
         self.same(tally, Family::Place, question, library, second)
     }
 
-    /// The view's place as it is told, and as the view's own address shows it.
+    /// The view's place as it is given, and as the view's own address shows it.
     pub fn view(&self, tally: &mut Tally, n: u64, part: Part) -> Outcome {
-        let second = second_view(self.bytes, self.lent.second(), n, part);
+        let second = second_view(self.bytes, self.given.second(), n, part);
         let shown = second.is_ok();
         let view = self.library().view(n as usize, part);
-        let by_address = view.map(|view| told::part_by_address(self.bytes, view));
-        let by_address = by_address.map_err(told::refused);
+        let by_address = view.map(|view| answers::part_by_address(self.bytes, view));
+        let by_address = by_address.map_err(answers::refused);
         let place = self.library().view_place(n as usize, part);
-        let place = place.map(told::part).map_err(told::refused);
+        let place = place.map(answers::part).map_err(answers::refused);
         let question = || format!("{part:?} of record {n}");
         self.same(tally, Family::View, question, place, second)?;
         self.same(tally, Family::View, question, by_address, second)?;
@@ -118,8 +118,8 @@ impl<'a> Asked<'a> {
 
     pub fn field(&self, tally: &mut Tally, n: u64, offset: u64) -> Outcome {
         let library = self.library().field(n as usize, offset as usize);
-        let library = library.map(told::field).map_err(told::refused);
-        let second = second::field(self.bytes, self.lent.second(), n, offset);
+        let library = library.map(answers::field).map_err(answers::refused);
+        let second = second::field(self.bytes, self.given.second(), n, offset);
         let question = || format!("field at {offset} of record {n}");
         self.same(tally, Family::Field, question, library, second)?;
         match second {
@@ -135,22 +135,22 @@ impl<'a> Asked<'a> {
     }
 
     pub fn find(&self, tally: &mut Tally, n: u64, counters: &[u16; 17]) -> Outcome {
-        let library = told::number(self.library().find(n as usize, counters));
-        let second = second::find(self.bytes, self.lent.second(), n, counters);
+        let library = answers::number(self.library().find(n as usize, counters));
+        let second = second::find(self.bytes, self.given.second(), n, counters);
         let question = || format!("find {counters:?} from record {n} on");
         self.same(tally, Family::Find, question, library, second)
     }
 
-    /// Whether the lent index is the stream's own, asked by itself.
+    /// Whether the given index is the stream's own, asked by itself.
     pub fn matches(&self, tally: &mut Tally) -> Outcome {
-        let (family, index) = match self.lent.library() {
+        let (family, index) = match self.given.library() {
             None => return Ok(()),
             Some(index @ Index::File(_)) => (Family::FileMatches, index),
             Some(index @ Index::Columns { .. }) => (Family::ColumnsMatch, index),
         };
         let library = Stream::new(self.bytes).matches(index);
-        let library = library.map_err(told::refused);
-        let second = match second::agrees(self.bytes, self.lent.second()) {
+        let library = library.map_err(answers::refused);
+        let second = match second::agrees(self.bytes, self.given.second()) {
             Ok(true) => Ok(()),
             Ok(false) => Err(second::Refused::Other(15)),
             Err(refusal) => Err(refusal.into()),
@@ -161,15 +161,20 @@ impl<'a> Asked<'a> {
 }
 
 /// The second reader's view of a part.
-pub fn second_view(bytes: &[u8], lent: second::Lent, n: u64, part: Part) -> Told<second::Part> {
+pub fn second_view(
+    bytes: &[u8],
+    given: second::GivenIndex,
+    n: u64,
+    part: Part,
+) -> Answer<second::Part> {
     match part {
-        Part::Name => second::name(bytes, lent, n),
-        Part::Text => second::text(bytes, lent, n),
-        Part::Attributes => second::attributes(bytes, lent, n),
-        Part::Trajectory => second::trajectory(bytes, lent, n),
-        Part::Channel(channel) => second::channel(bytes, lent, n, channel as u64),
-        Part::Pixels => second::pixels(bytes, lent, n),
-        Part::Waveform => second::waveform(bytes, lent, n),
+        Part::Name => second::name(bytes, given, n),
+        Part::Text => second::text(bytes, given, n),
+        Part::Attributes => second::attributes(bytes, given, n),
+        Part::Trajectory => second::trajectory(bytes, given, n),
+        Part::Channel(channel) => second::channel(bytes, given, n, channel as u64),
+        Part::Pixels => second::pixels(bytes, given, n),
+        Part::Waveform => second::waveform(bytes, given, n),
     }
 }
 

@@ -1,9 +1,9 @@
 //! The lines of document 01 that are not marked P, and the limits of 1,000,000 messages: on both readers, with
 //! the paper's answer.
 
+use crate::answers;
 use crate::stream;
 use crate::tally::{Difference, Outcome, Tally};
-use crate::told;
 use cotterleaf::{Message, Stream};
 use second_reader::{self as second, Refusal, Refused};
 use streams::{huge_images, messages, too_many, Rng};
@@ -23,7 +23,7 @@ fn refused(number: u32, record: u64, byte: u64) -> Result<u64, Refusal> {
 fn paper(tally: &Tally, line: &str, bytes: &[u8], answer: Result<u64, Refusal>) -> Outcome {
     let answer = answer.map_err(Refused::from);
     let second = second::check(bytes).map_err(Refused::from);
-    let library = told::number(Stream::new(bytes).check());
+    let library = answers::number(Stream::new(bytes).check());
     let question = || format!("{line}, where the paper says {answer:?}");
     let agreed = tally.same_value(question, library, second);
     agreed.and_then(|()| tally.same_value(question, library, answer))
@@ -99,7 +99,7 @@ fn most_messages(tally: &mut Tally, rng: &mut Rng) -> Outcome {
     paper(tally, "1,000,000 texts", &bytes, unclosed)
 }
 
-/// All of them; a difference is told with its line of the paper.
+/// All of them; a difference is shown with its line of the paper.
 pub fn limits(tally: &mut Tally, rng: &mut Rng) -> Result<(), (Vec<u8>, Difference)> {
     let untold = |difference| (vec![], difference);
     longest_text(tally).map_err(untold)?;

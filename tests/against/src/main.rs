@@ -6,14 +6,14 @@
 //! A first stream other than 0 runs these streams alone, to look at a difference again: neither the limits are
 //! tried then, nor must everything be met.
 
+mod answers;
 mod asked;
+mod at_cursor;
 mod limits;
 mod plain;
 mod scalars;
-mod standing;
 mod stream;
 mod tally;
-mod told;
 mod walk;
 mod writer;
 mod written;
@@ -49,6 +49,58 @@ fn ask_all(tally: &mut Tally, rng: &mut Rng, number: u64, bytes: &[u8]) -> Outco
     Ok(())
 }
 
+/// A stream about which the two readers differ.
+struct Found {
+    number: u64,
+    what: String,
+    bytes: Vec<u8>,
+    difference: Difference,
+}
+
+/// Asks about these streams, up to the first difference.
+fn ask_about(seed: u64, numbers: impl Iterator<Item = u64>) -> Result<Tally, Found> {
+    let mut tally = Tally::default();
+    for number in numbers {
+        let mut rng = rng_of(seed, number);
+        let (what, bytes) = drawn(&mut rng, number);
+        if let Err(difference) = ask_all(&mut tally, &mut rng, number, &bytes) {
+            return Err(Found {
+                number,
+                what,
+                bytes,
+                difference,
+            });
+        }
+    }
+    Ok(tally)
+}
+
+/// The same on all processors, each with every so many-th stream: what is met is the same on any number of them,
+/// and of several differences the one of the earliest stream is given.
+fn ask_about_all(seed: u64, first: u64, count: u64) -> Result<Tally, Found> {
+    let threads = std::thread::available_parallelism().map_or(1, usize::from);
+    let shares = std::thread::scope(|scope| {
+        let running: Vec<_> = (0..threads as u64)
+            .map(|share| (first + share..first + count).step_by(threads))
+            .map(|numbers| scope.spawn(move || ask_about(seed, numbers)))
+            .collect();
+        running
+            .into_iter()
+            .map(|thread| thread.join().expect("no panic"))
+            .collect::<Vec<_>>()
+    });
+    let mut all = Tally::default();
+    let mut earliest: Option<Found> = None;
+    for share in shares {
+        match share {
+            Ok(tally) => all.add(tally),
+            Err(found) if earliest.as_ref().is_some_and(|e| e.number < found.number) => {}
+            Err(found) => earliest = Some(found),
+        }
+    }
+    earliest.map_or(Ok(all), Err)
+}
+
 fn report(where_: &str, bytes: &[u8], difference: &Difference) {
     println!("DIFFERENCE, {where_}, {} bytes", bytes.len());
     println!("question: {}", difference.question);
@@ -70,12 +122,11 @@ fn main() -> ExitCode {
             return ExitCode::FAILURE;
         }
     }
-    for number in first..first + count {
-        let mut rng = rng_of(seed, number);
-        let (what, bytes) = drawn(&mut rng, number);
-        if let Err(difference) = ask_all(&mut tally, &mut rng, number, &bytes) {
-            let where_ = format!("seed {seed}, stream {number} ({what})");
-            report(&where_, &bytes, &difference);
+    match ask_about_all(seed, first, count) {
+        Ok(met) => tally.add(met),
+        Err(found) => {
+            let where_ = format!("seed {seed}, stream {} ({})", found.number, found.what);
+            report(&where_, &found.bytes, &found.difference);
             return ExitCode::FAILURE;
         }
     }

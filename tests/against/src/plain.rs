@@ -1,12 +1,12 @@
-//! The plain structs of the C face, member by member: what an answer lacks is 0, and numbers that the wrapper
+//! The plain structs of the C functions, member by member: what an answer lacks is 0, and numbers that the wrapper
 //! cannot ask with, such as parts that no record has.
 
 use crate::tally::{Outcome, Tally};
 use cotterleaf::raw;
-use second_reader::{self as second, Detail, Field, Kind, Lent, Refused};
+use second_reader::{self as second, Detail, Field, GivenIndex, Kind, Refused};
 use streams::Rng;
 
-/// Number, record and byte of a refusal as the C face gives them.
+/// Number, record and byte of a refusal as the C functions gives them.
 fn numbers(refused: Refused) -> (u32, usize, usize) {
     match refused {
         Refused::Stream(refusal) => (
@@ -65,7 +65,11 @@ fn set_own_numbers(placed: &mut raw::mrd_placed, detail: Detail) {
             data_type,
             attribute_length,
         } => {
-            [placed.matrix_size_x, placed.matrix_size_y, placed.matrix_size_z] = matrix_size;
+            [
+                placed.matrix_size_x,
+                placed.matrix_size_y,
+                placed.matrix_size_z,
+            ] = matrix_size;
             placed.channels = channels;
             placed.data_type = data_type;
             placed.attribute_length = attribute_length;
@@ -79,28 +83,28 @@ fn set_own_numbers(placed: &mut raw::mrd_placed, detail: Detail) {
 
 fn field_answer(answer: Result<Field, Refused>) -> raw::mrd_field_answer {
     let (refusal, record, byte) = refusal_of(&answer);
-    let mut told = raw::mrd_field_answer {
+    let mut c = raw::mrd_field_answer {
         refusal,
         record,
         byte,
         ..raw::mrd_field_answer::default()
     };
     match answer {
-        Ok(Field::Whole(whole)) => (told.value_type, told.whole) = (raw::MRD_WHOLE, whole),
-        Ok(Field::Signed(integer)) => (told.value_type, told.integer) = (raw::MRD_SIGNED, integer),
-        Ok(Field::Float(bits)) => (told.value_type, told.float_bits) = (raw::MRD_FLOAT, bits),
+        Ok(Field::Whole(whole)) => (c.value_type, c.whole) = (raw::MRD_WHOLE, whole),
+        Ok(Field::Signed(integer)) => (c.value_type, c.integer) = (raw::MRD_SIGNED, integer),
+        Ok(Field::Float(bits)) => (c.value_type, c.float_bits) = (raw::MRD_FLOAT, bits),
         Err(_) => {}
     }
-    told
+    c
 }
 
 /// The questions without an index, all members compared.
 pub fn questions(tally: &Tally, rng: &mut Rng, bytes: &[u8], n: u64, offset: u64) -> Outcome {
-    let place = second::kind_and_place(bytes, Lent::NONE, n);
+    let place = second::kind_and_place(bytes, GivenIndex::NONE, n);
     let question = || format!("mrd_place of record {n}");
     tally.same_value(question, raw::place(bytes, n as usize), placed(place))?;
 
-    let field = second::field(bytes, Lent::NONE, n, offset);
+    let field = second::field(bytes, GivenIndex::NONE, n, offset);
     let question = || format!("mrd_field at {offset} of record {n}");
     let library = raw::field(bytes, n as usize, offset as usize);
     tally.same_value(question, library, field_answer(field))?;
@@ -115,7 +119,7 @@ pub fn questions(tally: &Tally, rng: &mut Rng, bytes: &[u8], n: u64, offset: u64
     let question = || "mrd_check".to_string();
     tally.same_value(question, raw::check(bytes), checked)?;
 
-    let found = second::find(bytes, Lent::NONE, n, &[0; 17]);
+    let found = second::find(bytes, GivenIndex::NONE, n, &[0; 17]);
     let (refusal, record, byte) = refusal_of(&found);
     let found = raw::mrd_found {
         refusal,
@@ -132,7 +136,7 @@ pub fn questions(tally: &Tally, rng: &mut Rng, bytes: &[u8], n: u64, offset: u64
 fn unknown_part(tally: &Tally, rng: &mut Rng, bytes: &[u8], n: u64) -> Outcome {
     let part = rng.pick(&[0, 8, 9, 256 + 5, u32::MAX]);
     let channel = rng.below(3) as usize;
-    let refused = match second::kind_and_place(bytes, Lent::NONE, n) {
+    let refused = match second::kind_and_place(bytes, GivenIndex::NONE, n) {
         Ok(_) => Refused::Other(17),
         Err(refused) => refused,
     };
@@ -148,7 +152,7 @@ fn unknown_part(tally: &Tally, rng: &mut Rng, bytes: &[u8], n: u64) -> Outcome {
     let library = raw::view(bytes, n as usize, part, channel);
     tally.same_value(question, library, expected)?;
     // A channel number with a part that is no channel is not looked at.
-    let text = second::text(bytes, Lent::NONE, n);
+    let text = second::text(bytes, GivenIndex::NONE, n);
     let (refusal, record, byte) = refusal_of(&text);
     let (_, start, length) = second::place_of_view(&text);
     let expected = raw::mrd_view_place {

@@ -1,10 +1,10 @@
 //! What is asked about one stream. Every family of calls is asked at drawn numbers; now and then a short stream
 //! is asked everything.
 
-use crate::asked::{Asked, Lent};
+use crate::asked::{Asked, GivenIndex};
 use crate::tally::{Family, Outcome, Tally};
 use crate::walk::{self, Read};
-use crate::{plain, standing, written};
+use crate::{at_cursor, plain, written};
 use cotterleaf::Part;
 use second_reader::{Detail, Table, Type};
 use streams::{counters, field_offset, lent_columns, lent_files, record_number};
@@ -18,7 +18,7 @@ pub fn ask(tally: &mut Tally, rng: &mut Rng, bytes: &[u8]) -> Outcome {
     each_family(tally, rng, bytes, &read)?;
     walk::made_up_cursor(tally, rng, bytes, &read)?;
     let (view, field) = (drawn_view(rng, &read), drawn_field(rng, &read));
-    standing::asked_at(tally, bytes, &read, view, field)?;
+    at_cursor::asked_at(tally, bytes, &read, view, field)?;
     if rng.one_in(4) {
         let (n, offset) = drawn_field(rng, &read);
         plain::questions(tally, rng, bytes, n, offset)?;
@@ -35,7 +35,7 @@ pub fn ask(tally: &mut Tally, rng: &mut Rng, bytes: &[u8]) -> Outcome {
             all_fields(tally, rng, bytes, &read)?;
         }
     }
-    let question = || "the lent stream after all calls".to_string();
+    let question = || "the given stream after all calls".to_string();
     tally.same_buffer(question, bytes, &kept)
 }
 
@@ -43,19 +43,19 @@ pub fn ask(tally: &mut Tally, rng: &mut Rng, bytes: &[u8]) -> Outcome {
 pub fn each_family(tally: &mut Tally, rng: &mut Rng, bytes: &[u8], read: &Read) -> Outcome {
     let count = read.count();
     let accepted = read.answer.is_ok();
-    let lents = [
-        Lent::None,
-        Lent::File(drawn_file(tally, rng, bytes, accepted)),
-        Lent::Columns(drawn_columns(tally, rng, bytes, accepted)),
+    let indexes = [
+        GivenIndex::None,
+        GivenIndex::File(drawn_file(tally, rng, bytes, accepted)),
+        GivenIndex::Columns(drawn_columns(tally, rng, bytes, accepted)),
     ];
-    for lent in &lents {
-        let asked = Asked { bytes, lent };
+    for given in &indexes {
+        let asked = Asked { bytes, given };
         asked.place(tally, record_number(rng, count))?;
         let (n, part) = drawn_view(rng, read);
         asked.view(tally, n, part)?;
         let (n, offset) = drawn_field(rng, read);
         asked.field(tally, n, offset)?;
-        // A list of another length cannot be lent: zeros stand for it.
+        // A list of another length cannot be given: zeros stand for it.
         let counters = counters(rng, bytes).try_into().unwrap_or([0; 17]);
         let from = match rng.below(2) {
             0 => 0,
@@ -78,7 +78,7 @@ fn drawn_file(tally: &mut Tally, rng: &mut Rng, bytes: &[u8], accepted: bool) ->
     }
     let mut files = lent_files(rng, bytes);
     let file = files.swap_remove(often_first(rng, files.len()));
-    tally.note("file lent", file.what);
+    tally.note("file given", file.what);
     file
 }
 
@@ -89,11 +89,11 @@ fn drawn_columns(tally: &mut Tally, rng: &mut Rng, bytes: &[u8], accepted: bool)
     }
     let mut columns = lent_columns(rng, bytes);
     let columns = columns.swap_remove(often_first(rng, columns.len()));
-    tally.note("columns lent", columns.what);
+    tally.note("columns given", columns.what);
     columns
 }
 
-/// The right index stands first; it is lent half of the time, so that the later answers come too.
+/// The right index stands first; it is given half of the time, so that the later answers come too.
 fn often_first(rng: &mut Rng, count: usize) -> usize {
     match rng.below(2) {
         0 => 0,
@@ -179,7 +179,7 @@ fn far_channel(rng: &mut Rng) -> usize {
 fn all_views(tally: &mut Tally, bytes: &[u8], read: &Read) -> Outcome {
     let asked = Asked {
         bytes,
-        lent: &Lent::None,
+        given: &GivenIndex::None,
     };
     for record in &read.records {
         asked.place(tally, record.number)?;
@@ -227,7 +227,7 @@ fn all_fields(tally: &mut Tally, rng: &mut Rng, bytes: &[u8], read: &Read) -> Ou
     }
     let asked = Asked {
         bytes: &bytes,
-        lent: &Lent::None,
+        given: &GivenIndex::None,
     };
     for offset in 0..table.map_or(0, |table| table.size as u64) + 9 {
         asked.field(tally, n, offset)?;

@@ -1,6 +1,6 @@
 //! What a run has met, the comparison that counts it, and the table that is printed at the end.
 
-use crate::told::Told;
+use crate::answers::Answer;
 use second_reader::Kind;
 use std::collections::BTreeMap;
 use std::fmt::Debug;
@@ -102,7 +102,7 @@ const GROUPS: [(&str, &[&str]); 10] = [
     ("view where a walk stands", VIEWS),
     ("element", &["whole", "signed", "float", "NaN"]),
     (
-        "file lent",
+        "file given",
         &[
             "right",
             "one byte off",
@@ -113,7 +113,7 @@ const GROUPS: [(&str, &[&str]); 10] = [
         ],
     ),
     (
-        "columns lent",
+        "columns given",
         &[
             "right",
             "one number off",
@@ -153,8 +153,8 @@ impl Tally {
         &mut self,
         family: Family,
         question: impl Fn() -> String,
-        library: Told<T>,
-        second: Told<T>,
+        library: Answer<T>,
+        second: Answer<T>,
     ) -> Outcome {
         let number = second.as_ref().err().map_or(0, |refused| refused.number());
         self.same_value(question, library, second)?;
@@ -208,6 +208,20 @@ impl Tally {
 
     pub fn note_kind(&mut self, kind: Kind) {
         *self.kinds.entry(kind).or_default() += 1;
+    }
+
+    /// Counts what another share of the streams has met too.
+    pub fn add(&mut self, other: Tally) {
+        self.streams += other.streams;
+        for (answer, times) in other.answers {
+            *self.answers.entry(answer).or_default() += times;
+        }
+        for (kind, times) in other.kinds {
+            *self.kinds.entry(kind).or_default() += times;
+        }
+        for (thing, times) in other.met {
+            *self.met.entry(thing).or_default() += times;
+        }
     }
 
     fn answers(&self, family: Family, number: u32) -> u64 {

@@ -1,7 +1,7 @@
 //! The check and the walk: every step over a stream, the answer from each cursor on, and made-up cursors.
 
+use crate::answers::{self, Answer};
 use crate::tally::{Difference, Family, Outcome, Tally};
-use crate::told::{self, Told};
 use cotterleaf::{Cursor, Step, Stream};
 use second_reader::{self as second, Kind, Record, Refusal, Refused, MOST_MESSAGES};
 use streams::Rng;
@@ -67,7 +67,7 @@ fn before_last(front: &[u8]) -> Vec<Record> {
 #[derive(Debug, PartialEq)]
 enum Met {
     Record(Record),
-    End(Told<u64>),
+    End(Answer<u64>),
 }
 
 /// Compares one step of the library and gives the cursor after it, where it hands out a record.
@@ -78,8 +78,8 @@ fn same_step(
     expected: Met,
 ) -> Result<Option<Cursor>, Difference> {
     let (met, next) = match stream.step(cursor) {
-        Step::Record(here, next) => (Met::Record(told::record(here)), Some(next)),
-        Step::End(end) => (Met::End(told::number(end)), None),
+        Step::Record(here, next) => (Met::Record(answers::record(here)), Some(next)),
+        Step::End(end) => (Met::End(answers::number(end)), None),
     };
     let number = match expected {
         Met::End(Err(refused)) => refused.number(),
@@ -91,8 +91,8 @@ fn same_step(
 }
 
 /// Compares the answer of the rest from a cursor on.
-fn same_rest(tally: &mut Tally, stream: &Stream, cursor: Cursor, answer: Told<u64>) -> Outcome {
-    let rest = told::number(stream.check_from(cursor));
+fn same_rest(tally: &mut Tally, stream: &Stream, cursor: Cursor, answer: Answer<u64>) -> Outcome {
+    let rest = answers::number(stream.check_from(cursor));
     let question = || format!("check from {cursor:?}");
     tally.same(Family::Walk, question, rest, answer)
 }
@@ -102,7 +102,7 @@ fn same_rest(tally: &mut Tally, stream: &Stream, cursor: Cursor, answer: Told<u6
 pub fn walk(tally: &mut Tally, rng: &mut Rng, bytes: &[u8], read: &Read) -> Outcome {
     let stream = Stream::new(bytes);
     let answer = read.answer.map_err(Refused::from);
-    let checked = told::number(stream.check());
+    let checked = answers::number(stream.check());
     tally.same(Family::Check, || "check".to_string(), checked, answer)?;
     let mut cursor = Cursor::beginning();
     for record in &read.records {

@@ -1,12 +1,12 @@
 //! The writer of one message: its answer, the whole output, and that the message reads back.
 
+use crate::answers;
 use crate::tally::{Family, Outcome, Tally};
-use crate::told;
 use cotterleaf::{Part, Stream};
 use second_reader::{self as second, Kind, Refused};
 use streams::{writer_input, writer_input_refused, Message, Rng, WriterInput, WRITER_REFUSALS};
 
-fn lent(message: &Message) -> cotterleaf::Message<'_> {
+fn given(message: &Message) -> cotterleaf::Message<'_> {
     cotterleaf::Message {
         id: message.id,
         header: &message.header,
@@ -33,7 +33,7 @@ pub fn message_written(tally: &mut Tally, rng: &mut Rng, number: u64) -> Outcome
         position,
     } = input;
     let (mut library, mut second) = (output.clone(), output);
-    let answer = lent(&message).write(&mut library, position as usize);
+    let answer = given(&message).write(&mut library, position as usize);
     let expected = second::write(
         message.id,
         &message.header,
@@ -43,7 +43,7 @@ pub fn message_written(tally: &mut Tally, rng: &mut Rng, number: u64) -> Outcome
     );
     let question = || format!("write at {position} of {} bytes: {message:?}", second.len());
     let expected = expected.map_err(Refused::Other);
-    tally.same(Family::Write, question, told::number(answer), expected)?;
+    tally.same(Family::Write, question, answers::number(answer), expected)?;
     tally.same_buffer(question, &library, &second)?;
     match expected {
         Ok(end) => read_back(tally, &message, &library[position as usize..end as usize]),
@@ -51,7 +51,7 @@ pub fn message_written(tally: &mut Tally, rng: &mut Rng, number: u64) -> Outcome
     }
 }
 
-/// The written message between what the order asks for is accepted, and its views and header are what was lent.
+/// The written message between what the order asks for is accepted, and its views and header are what was given.
 fn read_back(tally: &Tally, message: &Message, written: &[u8]) -> Outcome {
     let kind = message.kind().expect("a written message has a kind");
     let front: &[u8] = if kind.is_data() {
@@ -76,10 +76,10 @@ fn read_back(tally: &Tally, message: &Message, written: &[u8]) -> Outcome {
         (Part::Pixels, &message.pixels),
         (Part::Waveform, &message.waveform),
     ];
-    for (part, lent) in parts {
-        // A part that the kind lacks was lent empty.
+    for (part, given) in parts {
+        // A part that the kind lacks was given empty.
         let view = stream.view(n, part).unwrap_or_default();
-        tally.same_buffer(|| question(&format!("{part:?}")), view, lent)?;
+        tally.same_buffer(|| question(&format!("{part:?}")), view, given)?;
     }
     let mut samples = Vec::new();
     if kind == Kind::Acquisition && !message.samples.is_empty() {

@@ -1,13 +1,13 @@
 //! What is written from a stream: the normal form, the index file and the columns. Both readers write into
-//! buffers of the same drawn content, lent from their middle, and the whole buffers are compared.
+//! buffers of the same drawn content, given from their middle, and the whole buffers are compared.
 
+use crate::answers;
 use crate::tally::{Family, Outcome, Tally};
-use crate::told;
 use cotterleaf::Stream;
 use second_reader::{self as second, Refused};
 use streams::Rng;
 
-/// Places before and after a lent output, which must keep their content.
+/// Places before and after a given output, which must keep their content.
 const MARGIN: usize = 5;
 
 /// A room for `needed` places: as many, fewer or more.
@@ -54,7 +54,7 @@ pub fn bytes_written(
         _ => second::write_index(bytes, out),
     };
     let question = || format!("{} into {room} bytes", family.name());
-    tally.same(family, question, told::number(answer), expected)?;
+    tally.same(family, question, answers::number(answer), expected)?;
     tally.same_buffer(question, &library, &second)
 }
 
@@ -85,7 +85,7 @@ pub fn columns_filled(tally: &mut Tally, rng: &mut Rng, bytes: &[u8], count: usi
     tally.same(
         Family::FillColumns,
         question,
-        told::number(answer),
+        answers::number(answer),
         expected,
     )?;
     tally.same_buffer(question, &starts, &starts_2)?;

@@ -1,7 +1,7 @@
 //! A stream against the description of what it was made from: every header element by its offset,
 //! every flag, every part, and the counters as a search finds them.
 
-use crate::description::{checksum, number, Description, Fact, Member, Told};
+use crate::description::{checksum, number, Described, Description, Fact, Member};
 use crate::readers::{Library, Part, Reader, SecondReader};
 use crate::tables;
 use second_reader::{Field, Kind, Type};
@@ -16,10 +16,10 @@ pub struct Compared {
 }
 
 /// Judges the proved library and the second reader, which must give the same places.
-pub fn check_both(stream: &[u8], told: &Description) -> Result<Compared, String> {
+pub fn check_both(stream: &[u8], described: &Description) -> Result<Compared, String> {
     let mut compared = vec![];
     for reader in [&Library as &dyn Reader, &SecondReader] {
-        let of_reader = check(reader, stream, told);
+        let of_reader = check(reader, stream, described);
         compared.push(of_reader.map_err(|difference| format!("{}: {difference}", reader.name()))?);
     }
     let (library, second) = (Library.places(stream), SecondReader.places(stream));
@@ -30,22 +30,26 @@ pub fn check_both(stream: &[u8], told: &Description) -> Result<Compared, String>
 }
 
 /// Checks the description's tables, then the stream through one reader. The first difference ends it.
-pub fn check(reader: &dyn Reader, stream: &[u8], told: &Description) -> Result<Compared, String> {
-    if let Some(difference) = tables::differences(told)?.first() {
+pub fn check(
+    reader: &dyn Reader,
+    stream: &[u8],
+    described: &Description,
+) -> Result<Compared, String> {
+    if let Some(difference) = tables::differences(described)?.first() {
         return Err(difference.clone());
     }
     let places = reader
         .places(stream)
         .map_err(|refusal| format!("the stream is refused with {refusal}"))?;
     let ids: Vec<u16> = places.iter().map(|place| place.id).collect();
-    let told_ids: Vec<u16> = told.records.iter().map(|record| record.id).collect();
-    if ids != told_ids {
-        return Err(format!("the kinds are {ids:?}, not {told_ids:?}"));
+    let described_ids: Vec<u16> = described.records.iter().map(|record| record.id).collect();
+    if ids != described_ids {
+        return Err(format!("the kinds are {ids:?}, not {described_ids:?}"));
     }
     let mut compared = Compared::default();
-    for (n, record) in told.records.iter().enumerate() {
+    for (n, record) in described.records.iter().enumerate() {
         let kind = Kind::of_id(record.id).ok_or("a kind that document 01 lacks")?;
-        let members = tables::stream_members(told, kind)?;
+        let members = tables::stream_members(described, kind)?;
         let question = Question {
             reader,
             stream,
@@ -70,9 +74,9 @@ struct Question<'a> {
 }
 
 impl Question<'_> {
-    fn record(&self, told: &Told, compared: &mut Compared) -> Result<(), String> {
+    fn record(&self, described: &Described, compared: &mut Compared) -> Result<(), String> {
         let (mut members, mut flags, mut parts) = (0, 0, 0);
-        for fact in &told.facts {
+        for fact in &described.facts {
             if let Some(member) = self.members.iter().find(|member| member.name == fact.name) {
                 compared.elements += self.member(member, fact)?;
                 members += 1;
@@ -90,9 +94,9 @@ impl Question<'_> {
             self.parts_due()?,
         );
         if (members, flags, parts) != due {
-            let told = (members, flags, parts);
+            let described = (members, flags, parts);
             return Err(format!(
-                "{told:?} members, flags and parts are told, {due:?} are due"
+                "{described:?} members, flags and parts are described, {due:?} are due"
             ));
         }
         if acquisition {
@@ -134,9 +138,10 @@ impl Question<'_> {
         let Field::Whole(flags) = self.field(offset)? else {
             return Err("the flags are no whole number".to_string());
         };
-        let told: Result<Vec<u32>, String> = fact.words.iter().map(|word| number(word)).collect();
+        let described: Result<Vec<u32>, String> =
+            fact.words.iter().map(|word| number(word)).collect();
         let read: Vec<u32> = (0..=66).filter(|&n| self.reader.flag(flags, n)).collect();
-        if told? == read {
+        if described? == read {
             Ok(64)
         } else {
             Err(format!("the flags set are {read:?}, not {:?}", fact.words))

@@ -29,7 +29,7 @@ pub struct Fact {
 }
 
 #[derive(Clone, Debug)]
-pub struct Told {
+pub struct Described {
     pub id: u16,
     pub facts: Vec<Fact>,
 }
@@ -39,7 +39,7 @@ pub struct Description {
     pub tables: Vec<Table>,
     /// Where the encoding counters lie in the acquisition header.
     pub counters_at: usize,
-    pub records: Vec<Told>,
+    pub records: Vec<Described>,
 }
 
 impl Description {
@@ -93,12 +93,12 @@ impl Description {
                     return Err("not the next record".to_string());
                 }
                 let (id, facts) = (number(id)?, vec![]);
-                self.records.push(Told { id, facts });
+                self.records.push(Described { id, facts });
             }
             ["records", count] if number::<usize>(count)? == self.records.len() => return Ok(true),
             [name, ref words @ ..] => {
-                let told = self.records.last_mut().ok_or("no record yet")?;
-                told.facts.push(Fact {
+                let described = self.records.last_mut().ok_or("no record yet")?;
+                described.facts.push(Fact {
                     name: name.to_string(),
                     words: words.iter().map(|word| word.to_string()).collect(),
                 });

@@ -1,8 +1,8 @@
-//! The two readers that are judged by the description: the proved library by its C face, and the
+//! The two readers that are judged by the description: the proved library by its C functions, and the
 //! second reader. Both answer in the second reader's types.
 
 use cotterleaf::{Refusal, Stream};
-use second_reader::{Field, Lent};
+use second_reader::{Field, GivenIndex};
 
 /// Number, first byte, size with the id, and id of a record.
 #[derive(Clone, Copy, Debug, PartialEq, Eq)]
@@ -121,18 +121,19 @@ impl Reader for SecondReader {
     }
 
     fn field(&self, stream: &[u8], n: u64, offset: u64) -> Result<Field, u32> {
-        second_reader::field(stream, Lent::NONE, n, offset).map_err(|refused| refused.number())
+        second_reader::field(stream, GivenIndex::NONE, n, offset)
+            .map_err(|refused| refused.number())
     }
 
     fn view<'a>(&self, stream: &'a [u8], n: u64, part: Part) -> Result<&'a [u8], u32> {
-        let lent = Lent::NONE;
+        let given = GivenIndex::NONE;
         let answer = match part {
-            Part::Text => second_reader::text(stream, lent, n),
-            Part::Attributes => second_reader::attributes(stream, lent, n),
-            Part::Trajectory => second_reader::trajectory(stream, lent, n),
-            Part::Channel(channel) => second_reader::channel(stream, lent, n, channel),
-            Part::Pixels => second_reader::pixels(stream, lent, n),
-            Part::Waveform => second_reader::waveform(stream, lent, n),
+            Part::Text => second_reader::text(stream, given, n),
+            Part::Attributes => second_reader::attributes(stream, given, n),
+            Part::Trajectory => second_reader::trajectory(stream, given, n),
+            Part::Channel(channel) => second_reader::channel(stream, given, n, channel),
+            Part::Pixels => second_reader::pixels(stream, given, n),
+            Part::Waveform => second_reader::waveform(stream, given, n),
         };
         answer
             .map(|part| second_reader::bytes_of(stream, part))
@@ -140,7 +141,8 @@ impl Reader for SecondReader {
     }
 
     fn find(&self, stream: &[u8], n: u64, counters: [u16; 17]) -> Result<u64, u32> {
-        second_reader::find(stream, Lent::NONE, n, &counters).map_err(|refused| refused.number())
+        second_reader::find(stream, GivenIndex::NONE, n, &counters)
+            .map_err(|refused| refused.number())
     }
 
     fn flag(&self, flags: u64, n: u32) -> bool {

@@ -27,7 +27,7 @@ fn both_readers_find_what_the_ismrmrd_library_holds() {
         description
             .records
             .iter()
-            .filter(|told| told.id == id)
+            .filter(|record| record.id == id)
             .count()
     };
     assert_eq!([3, 1008, 1022, 1026, 4].map(count), [1, 42, 2, 1, 1]);

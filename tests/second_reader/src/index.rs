@@ -1,10 +1,10 @@
-//! The index of a stream, as a file and as three columns, and the comparison with a lent one.
+//! The index of a stream, as a file and as three columns, and the comparison with a given one.
 
 use crate::numbers;
 use crate::refusal::{Refusal, Refused};
 use crate::stream::{records, Record};
 
-/// The index in memory: one place for each record in each of three lent columns. They may be
+/// The index in memory: one place for each record in each of three given columns. They may be
 /// longer than the record count and of different lengths.
 #[derive(Clone, Copy, Debug)]
 pub struct Columns<'a> {
@@ -16,29 +16,29 @@ pub struct Columns<'a> {
 /// The three columns of a stream's own index: start, id and counter.
 pub type OwnColumns = (Vec<u64>, Vec<u16>, Vec<u32>);
 
-/// The index lent with a question. `None` is no index, which is not the same as an empty one.
-/// With both forms lent, both must agree.
+/// The index given with a question. `None` is no index, which is not the same as an empty one.
+/// With both forms given, both must agree.
 #[derive(Clone, Copy, Debug, Default)]
-pub struct Lent<'a> {
+pub struct GivenIndex<'a> {
     pub file: Option<&'a [u8]>,
     pub columns: Option<Columns<'a>>,
 }
 
-impl<'a> Lent<'a> {
-    pub const NONE: Lent<'static> = Lent {
+impl<'a> GivenIndex<'a> {
+    pub const NONE: GivenIndex<'static> = GivenIndex {
         file: None,
         columns: None,
     };
 
-    pub fn file(bytes: &'a [u8]) -> Lent<'a> {
-        Lent {
+    pub fn file(bytes: &'a [u8]) -> GivenIndex<'a> {
+        GivenIndex {
             file: Some(bytes),
             columns: None,
         }
     }
 
-    pub fn columns(starts: &'a [u64], ids: &'a [u16], counters: &'a [u32]) -> Lent<'a> {
-        Lent {
+    pub fn columns(starts: &'a [u64], ids: &'a [u16], counters: &'a [u32]) -> GivenIndex<'a> {
+        GivenIndex {
             file: None,
             columns: Some(Columns {
                 starts,
@@ -143,19 +143,19 @@ pub fn fill_columns(
     Ok(count as u64)
 }
 
-/// Whether the lent index is the one this accepted stream yields. No index agrees.
-pub fn agrees(stream: &[u8], lent: Lent) -> Result<bool, Refusal> {
-    Ok(agrees_with(stream, &records(stream)?, lent))
+/// Whether the given index is the one this accepted stream yields. No index agrees.
+pub fn agrees(stream: &[u8], given: GivenIndex) -> Result<bool, Refusal> {
+    Ok(agrees_with(stream, &records(stream)?, given))
 }
 
 /// The same for a stream whose records are known.
-pub(crate) fn agrees_with(stream: &[u8], records: &[Record], lent: Lent) -> bool {
-    if let Some(bytes) = lent.file {
+pub(crate) fn agrees_with(stream: &[u8], records: &[Record], given: GivenIndex) -> bool {
+    if let Some(bytes) = given.file {
         if bytes != file_of(stream, records) {
             return false;
         }
     }
-    if let Some(columns) = lent.columns {
+    if let Some(columns) = given.columns {
         let (starts, ids, counters) = columns_of(stream, records);
         // `get` gives nothing where a column is too short.
         let count = records.len();

@@ -18,7 +18,7 @@ pub mod views;
 pub mod writer;
 
 pub use headers::{Entry, Field, Table, Type};
-pub use index::{agrees, fill_columns, index_bytes, own_columns, write_index, Columns, Lent};
+pub use index::{agrees, fill_columns, index_bytes, own_columns, write_index, Columns, GivenIndex};
 pub use kinds::Kind;
 pub use listing::listing;
 pub use message::{Detail, PartName};

@@ -2,15 +2,15 @@
 //! need no stream. A question gives the stream refusal first, then 15, then 16, 17 or 20.
 
 use crate::headers::{read_element, Field};
-use crate::index::{agrees_with, Lent};
+use crate::index::{agrees_with, GivenIndex};
 use crate::kinds::Kind;
 use crate::refusal::Refused;
 use crate::stream::{records, Record};
 
-/// The records of an accepted stream with which the lent index, if any, agrees.
-fn trusted_records(stream: &[u8], lent: Lent) -> Result<Vec<Record>, Refused> {
+/// The records of an accepted stream with which the given index, if any, agrees.
+fn trusted_records(stream: &[u8], given: GivenIndex) -> Result<Vec<Record>, Refused> {
     let records = records(stream)?;
-    if agrees_with(stream, &records, lent) {
+    if agrees_with(stream, &records, given) {
         Ok(records)
     } else {
         Err(Refused::Other(15))
@@ -18,8 +18,8 @@ fn trusted_records(stream: &[u8], lent: Lent) -> Result<Vec<Record>, Refused> {
 }
 
 /// Place and kind of the record of that number.
-pub fn kind_and_place(stream: &[u8], lent: Lent, number: u64) -> Result<Record, Refused> {
-    let records = trusted_records(stream, lent)?;
+pub fn kind_and_place(stream: &[u8], given: GivenIndex, number: u64) -> Result<Record, Refused> {
+    let records = trusted_records(stream, given)?;
     records
         .into_iter()
         .find(|record| record.number == number)
@@ -32,8 +32,8 @@ fn header_of<'a>(stream: &'a [u8], record: &Record) -> &'a [u8] {
 }
 
 /// The header element that starts at `offset`, counted from the header's first byte.
-pub fn field(stream: &[u8], lent: Lent, number: u64, offset: u64) -> Result<Field, Refused> {
-    let record = kind_and_place(stream, lent, number)?;
+pub fn field(stream: &[u8], given: GivenIndex, number: u64, offset: u64) -> Result<Field, Refused> {
+    let record = kind_and_place(stream, given, number)?;
     let element = record
         .detail
         .kind()
@@ -51,8 +51,8 @@ pub fn field(stream: &[u8], lent: Lent, number: u64, offset: u64) -> Result<Fiel
 
 /// The number of the first acquisition from record `from` on with exactly these counters. A list
 /// that has not seventeen numbers equals none.
-pub fn find(stream: &[u8], lent: Lent, from: u64, counters: &[u16]) -> Result<u64, Refused> {
-    for record in trusted_records(stream, lent)? {
+pub fn find(stream: &[u8], given: GivenIndex, from: u64, counters: &[u16]) -> Result<u64, Refused> {
+    for record in trusted_records(stream, given)? {
         if record.number >= from
             && record.detail.kind() == Kind::Acquisition
             && counters_of(header_of(stream, &record)) == counters

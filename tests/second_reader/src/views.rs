@@ -1,12 +1,12 @@
-//! Views: the parts of a record, as places in the lent stream itself.
+//! Views: the parts of a record, as places in the given stream itself.
 
-use crate::index::Lent;
+use crate::index::GivenIndex;
 use crate::message::{Detail, PartName};
 use crate::questions::kind_and_place;
 use crate::refusal::Refused;
 use crate::stream::Record;
 
-/// A part of the lent stream. An empty one still has its natural place.
+/// A part of the given stream. An empty one still has its natural place.
 #[derive(Clone, Copy, Debug, PartialEq, Eq)]
 pub struct Part {
     pub start: u64,
@@ -38,28 +38,39 @@ fn part_of(record: &Record, name: PartName) -> Result<Part, Refused> {
 }
 
 /// The bytes of a configuration text, header text or text.
-pub fn text(stream: &[u8], lent: Lent, number: u64) -> Result<Part, Refused> {
-    part_of(&kind_and_place(stream, lent, number)?, PartName::Text)
+pub fn text(stream: &[u8], given: GivenIndex, number: u64) -> Result<Part, Refused> {
+    part_of(&kind_and_place(stream, given, number)?, PartName::Text)
 }
 
 /// A configuration name: the bytes before the first zero.
-pub fn name(stream: &[u8], lent: Lent, number: u64) -> Result<Part, Refused> {
-    part_of(&kind_and_place(stream, lent, number)?, PartName::Name)
+pub fn name(stream: &[u8], given: GivenIndex, number: u64) -> Result<Part, Refused> {
+    part_of(&kind_and_place(stream, given, number)?, PartName::Name)
 }
 
 /// An image's attributes.
-pub fn attributes(stream: &[u8], lent: Lent, number: u64) -> Result<Part, Refused> {
-    part_of(&kind_and_place(stream, lent, number)?, PartName::Attributes)
+pub fn attributes(stream: &[u8], given: GivenIndex, number: u64) -> Result<Part, Refused> {
+    part_of(
+        &kind_and_place(stream, given, number)?,
+        PartName::Attributes,
+    )
 }
 
 /// An acquisition's trajectory; empty and accepted with 0 dimensions.
-pub fn trajectory(stream: &[u8], lent: Lent, number: u64) -> Result<Part, Refused> {
-    part_of(&kind_and_place(stream, lent, number)?, PartName::Trajectory)
+pub fn trajectory(stream: &[u8], given: GivenIndex, number: u64) -> Result<Part, Refused> {
+    part_of(
+        &kind_and_place(stream, given, number)?,
+        PartName::Trajectory,
+    )
 }
 
 /// The samples of one channel of an acquisition. A waveform has no such view.
-pub fn channel(stream: &[u8], lent: Lent, number: u64, channel: u64) -> Result<Part, Refused> {
-    let record = kind_and_place(stream, lent, number)?;
+pub fn channel(
+    stream: &[u8],
+    given: GivenIndex,
+    number: u64,
+    channel: u64,
+) -> Result<Part, Refused> {
+    let record = kind_and_place(stream, given, number)?;
     let data = part_of(&record, PartName::Samples)?;
     match record.detail {
         Detail::Acquisition {
@@ -78,11 +89,11 @@ pub fn channel(stream: &[u8], lent: Lent, number: u64, channel: u64) -> Result<P
 }
 
 /// An image's pixels.
-pub fn pixels(stream: &[u8], lent: Lent, number: u64) -> Result<Part, Refused> {
-    part_of(&kind_and_place(stream, lent, number)?, PartName::Pixels)
+pub fn pixels(stream: &[u8], given: GivenIndex, number: u64) -> Result<Part, Refused> {
+    part_of(&kind_and_place(stream, given, number)?, PartName::Pixels)
 }
 
 /// The data of a waveform, all channels.
-pub fn waveform(stream: &[u8], lent: Lent, number: u64) -> Result<Part, Refused> {
-    part_of(&kind_and_place(stream, lent, number)?, PartName::Waveform)
+pub fn waveform(stream: &[u8], given: GivenIndex, number: u64) -> Result<Part, Refused> {
+    part_of(&kind_and_place(stream, given, number)?, PartName::Waveform)
 }

@@ -58,7 +58,7 @@ pub fn write(
 }
 
 /// Checks 3 to 9, and the message's own numbers: an image's attribute length and a text's length
-/// are those of the lent bytes.
+/// are those of the given bytes.
 fn judge_lent(kind: Kind, header: &[u8], parts: &Parts) -> Result<Detail, u32> {
     if header.len() != kind.header_size() {
         return Err(3);
@@ -81,11 +81,11 @@ fn judge_lent(kind: Kind, header: &[u8], parts: &Parts) -> Result<Detail, u32> {
         }
         Kind::Image => {
             let table = kind.table().expect("an image has a fixed header");
-            let lent = parts.attributes.len() as u64;
-            if table.whole(header, "attribute_string_len", 0) != lent {
+            let given = parts.attributes.len() as u64;
+            if table.whole(header, "attribute_string_len", 0) != given {
                 return Err(9);
             }
-            Ok(header_detail(kind, header, lent))
+            Ok(header_detail(kind, header, given))
         }
         Kind::Acquisition | Kind::Waveform => Ok(header_detail(kind, header, 0)),
     }

@@ -60,7 +60,7 @@ fn p9_data_before_the_header() {
 fn p10_sizes_of_an_acquisition() {
     for (dimensions, size) in [(0, 4_438), (2, 6_486)] {
         let stream = whole(&[&acquisition(&acquisition_header(256, 2, dimensions))]);
-        let record = kind_and_place(&stream, Lent::NONE, 1).unwrap();
+        let record = kind_and_place(&stream, GivenIndex::NONE, 1).unwrap();
         assert_eq!((record.start, record.size), (6, size));
         let expected = Detail::Acquisition {
             samples: 256,
@@ -103,7 +103,7 @@ fn a_stream_with_a_text_at_the_limit_is_accepted() {
     put32(&mut stream, 2, 268_435_450);
     put16(&mut stream, 268_435_456, 4);
     assert_eq!(check(&stream), Ok(2));
-    let part = text(&stream, Lent::NONE, 0).unwrap();
+    let part = text(&stream, GivenIndex::NONE, 0).unwrap();
     assert_eq!((part.start, part.length), (6, 268_435_450));
 }
 

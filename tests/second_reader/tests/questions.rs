@@ -1,4 +1,4 @@
-//! Views, fields, flags, find and steps, without and with a lent index.
+//! Views, fields, flags, find and steps, without and with a given index.
 
 mod common;
 
@@ -93,11 +93,11 @@ fn places_and_kinds() {
     assert_eq!(details[5], waveform);
     assert_eq!(details[10], Detail::Close);
     assert_eq!(
-        kind_and_place(&stream, Lent::NONE, 11),
+        kind_and_place(&stream, GivenIndex::NONE, 11),
         Err(Refused::Other(16))
     );
     assert_eq!(
-        kind_and_place(&stream, Lent::NONE, u64::MAX),
+        kind_and_place(&stream, GivenIndex::NONE, u64::MAX),
         Err(Refused::Other(16))
     );
 }
@@ -105,7 +105,7 @@ fn places_and_kinds() {
 #[test]
 fn views_lie_where_the_paper_puts_them() {
     let stream = mixed();
-    let none = Lent::NONE;
+    let none = GivenIndex::NONE;
     let starts = starts();
     assert_eq!(at(text(&stream, none, 0)), (0, 6, 4));
     assert_eq!(
@@ -130,7 +130,7 @@ fn views_lie_where_the_paper_puts_them() {
 #[test]
 fn accepted_empty_views_have_their_natural_place() {
     let stream = mixed();
-    let none = Lent::NONE;
+    let none = GivenIndex::NONE;
     let starts = starts();
     assert_eq!(at(trajectory(&stream, none, 6)), (0, starts[6] + 342, 0));
     assert_eq!(at(channel(&stream, none, 6, 1)), (0, starts[6] + 342, 0));
@@ -144,7 +144,7 @@ fn accepted_empty_views_have_their_natural_place() {
 #[test]
 fn each_view_is_there_for_its_own_kinds_only() {
     let stream = mixed();
-    let none = Lent::NONE;
+    let none = GivenIndex::NONE;
     let given = |view: &dyn Fn(u64) -> Result<Part, Refused>| -> Vec<u64> {
         (0..13)
             .filter(|&number| {
@@ -183,7 +183,7 @@ fn fields_by_offset() {
         &image(&image_head, b"", &[]),
         &waveform_message(&waveform_head, &[]),
     ]);
-    let of = |number, offset| field(&stream, Lent::NONE, number, offset);
+    let of = |number, offset| field(&stream, GivenIndex::NONE, number, offset);
     assert_eq!(of(1, 0), Ok(Field::Whole(1)));
     assert_eq!(of(1, 2), Ok(Field::Whole(0x8000_0000_0000_0040)));
     assert_eq!(of(1, 26), Ok(Field::Whole(123)));
@@ -250,7 +250,7 @@ fn find_takes_all_seventeen_and_starts_at_the_record_asked_for() {
         counters[16] = last;
         counters
     };
-    let found = |from, counters: &[u16]| find(&stream, Lent::NONE, from, counters);
+    let found = |from, counters: &[u16]| find(&stream, GivenIndex::NONE, from, counters);
     assert_eq!(found(0, &asked(1, 2)), Ok(1));
     assert_eq!(found(1, &asked(1, 2)), Ok(1));
     assert_eq!(found(2, &asked(1, 2)), Ok(4));
@@ -263,20 +263,20 @@ fn find_takes_all_seventeen_and_starts_at_the_record_asked_for() {
     assert_eq!(found(0, &[]), Err(Refused::Other(16)));
 }
 
-/// The numbers that every question gives for a stream, a lent index and a record number.
-fn numbers_of(stream: &[u8], lent: Lent, number: u64) -> Vec<u32> {
+/// The numbers that every question gives for a stream, a given index and a record number.
+fn numbers_of(stream: &[u8], given: GivenIndex, number: u64) -> Vec<u32> {
     let of = |answer: Result<(), Refused>| answer.map_or_else(Refused::number, |()| 0);
     vec![
-        of(kind_and_place(stream, lent, number).map(drop)),
-        of(text(stream, lent, number).map(drop)),
-        of(name(stream, lent, number).map(drop)),
-        of(attributes(stream, lent, number).map(drop)),
-        of(trajectory(stream, lent, number).map(drop)),
-        of(channel(stream, lent, number, 0).map(drop)),
-        of(pixels(stream, lent, number).map(drop)),
-        of(waveform(stream, lent, number).map(drop)),
-        of(field(stream, lent, number, 0).map(drop)),
-        of(find(stream, lent, number, &[0; 17]).map(drop)),
+        of(kind_and_place(stream, given, number).map(drop)),
+        of(text(stream, given, number).map(drop)),
+        of(name(stream, given, number).map(drop)),
+        of(attributes(stream, given, number).map(drop)),
+        of(trajectory(stream, given, number).map(drop)),
+        of(channel(stream, given, number, 0).map(drop)),
+        of(pixels(stream, given, number).map(drop)),
+        of(waveform(stream, given, number).map(drop)),
+        of(field(stream, given, number, 0).map(drop)),
+        of(find(stream, given, number, &[0; 17]).map(drop)),
     ]
 }
 
@@ -286,18 +286,18 @@ fn the_stream_refusal_comes_first_then_15_then_the_others() {
     let file = index_bytes(&stream).unwrap();
     let (starts, ids, counters) = own_columns(&stream).unwrap();
     for number in 0..12 {
-        let plain = numbers_of(&stream, Lent::NONE, number);
-        assert_eq!(numbers_of(&stream, Lent::file(&file), number), plain);
-        let columns = Lent::columns(&starts, &ids, &counters);
+        let plain = numbers_of(&stream, GivenIndex::NONE, number);
+        assert_eq!(numbers_of(&stream, GivenIndex::file(&file), number), plain);
+        let columns = GivenIndex::columns(&starts, &ids, &counters);
         assert_eq!(numbers_of(&stream, columns, number), plain);
-        assert_eq!(numbers_of(&stream, Lent::file(&[]), number), [15; 10]);
-        let short = Lent::columns(&starts, &ids, &counters[1..]);
+        assert_eq!(numbers_of(&stream, GivenIndex::file(&[]), number), [15; 10]);
+        let short = GivenIndex::columns(&starts, &ids, &counters[1..]);
         assert_eq!(numbers_of(&stream, short, number), [15; 10]);
     }
-    assert_eq!(numbers_of(&stream, Lent::NONE, 11), [16; 10]);
+    assert_eq!(numbers_of(&stream, GivenIndex::NONE, 11), [16; 10]);
     let cut = &stream[..stream.len() - 2];
-    assert_eq!(numbers_of(cut, Lent::file(&[]), 11), [13; 10]);
-    let refused = text(cut, Lent::NONE, 0).unwrap_err();
+    assert_eq!(numbers_of(cut, GivenIndex::file(&[]), 11), [13; 10]);
+    let refused = text(cut, GivenIndex::NONE, 0).unwrap_err();
     let expected = Refusal {
         number: 13,
         record: 10,

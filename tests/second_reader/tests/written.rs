@@ -382,7 +382,7 @@ fn index_file_refuses_the_stream_then_the_output() {
 fn a_lent_file_must_equal_byte_for_byte() {
     let stream = indexed();
     let file = index_bytes(&stream).unwrap();
-    let agrees = |bytes: &[u8]| second_reader::agrees(&stream, Lent::file(bytes)).unwrap();
+    let agrees = |bytes: &[u8]| second_reader::agrees(&stream, GivenIndex::file(bytes)).unwrap();
     assert!(agrees(&file));
     for byte in 0..file.len() {
         let mut other = file.clone();
@@ -391,7 +391,7 @@ fn a_lent_file_must_equal_byte_for_byte() {
         assert!(!agrees(&file[..byte]), "{byte} bytes");
     }
     assert!(!agrees(&[&file[..], &[0]].concat()));
-    assert_eq!(second_reader::agrees(&stream, Lent::NONE), Ok(true));
+    assert_eq!(second_reader::agrees(&stream, GivenIndex::NONE), Ok(true));
 }
 
 #[test]
@@ -399,7 +399,7 @@ fn lent_columns_may_be_longer_but_not_shorter_or_different() {
     let stream = indexed();
     let (starts, ids, counters) = own_columns(&stream).unwrap();
     let agrees = |starts: &[u64], ids: &[u16], counters: &[u32]| {
-        second_reader::agrees(&stream, Lent::columns(starts, ids, counters)).unwrap()
+        second_reader::agrees(&stream, GivenIndex::columns(starts, ids, counters)).unwrap()
     };
     assert!(agrees(&starts, &ids, &counters));
     assert!(agrees(
@@ -421,13 +421,13 @@ fn lent_columns_may_be_longer_but_not_shorter_or_different() {
         other[record] ^= 1;
         assert!(!agrees(&starts, &ids, &other));
     }
-    // Both forms lent at once must both agree.
+    // Both forms given at once must both agree.
     let file = index_bytes(&stream).unwrap();
-    let columns = Lent::columns(&starts, &ids, &counters).columns;
+    let columns = GivenIndex::columns(&starts, &ids, &counters).columns;
     let both = |file| {
         second_reader::agrees(
             &stream,
-            Lent {
+            GivenIndex {
                 file: Some(file),
                 columns,
             },

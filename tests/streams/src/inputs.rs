@@ -6,7 +6,7 @@ use crate::rng::Rng;
 use second_reader::questions::counters_of;
 use second_reader::{index_bytes, own_columns, records, Kind, PartName};
 
-/// What a writer is lent: the message's id, header and parts, an output and a position in it.
+/// What a writer is given: the message's id, header and parts, an output and a position in it.
 #[derive(Clone, Debug)]
 pub struct WriterInput {
     pub message: Message,
@@ -184,7 +184,7 @@ fn make_too_large(message: &mut Message) {
     }
 }
 
-/// A lent index file, and whether it is the stream's own.
+/// A given index file, and whether it is the stream's own.
 #[derive(Clone, Debug)]
 pub struct LentFile {
     pub what: &'static str,
@@ -192,7 +192,7 @@ pub struct LentFile {
     pub bytes: Vec<u8>,
 }
 
-/// Index files to lend with an accepted stream.
+/// Index files to give with an accepted stream.
 pub fn lent_files(rng: &mut Rng, stream: &[u8]) -> Vec<LentFile> {
     let own = index_bytes(stream).expect("an accepted stream");
     let mut one_off = own.clone();
@@ -214,7 +214,7 @@ pub fn lent_files(rng: &mut Rng, stream: &[u8]) -> Vec<LentFile> {
     ]
 }
 
-/// Lent columns, and whether they hold the stream's own numbers.
+/// GivenIndex columns, and whether they hold the stream's own numbers.
 #[derive(Clone, Debug)]
 pub struct LentColumns {
     pub what: &'static str,
@@ -224,7 +224,7 @@ pub struct LentColumns {
     pub counters: Vec<u32>,
 }
 
-/// Columns to lend with an accepted stream.
+/// Columns to give with an accepted stream.
 pub fn lent_columns(rng: &mut Rng, stream: &[u8]) -> Vec<LentColumns> {
     let (starts, ids, counters) = own_columns(stream).expect("an accepted stream");
     let own = LentColumns {

@@ -1,5 +1,5 @@
 //! Streams and other inputs for the tests: well-formed and damaged streams, a writer's inputs,
-//! lent indexes, offsets, flags and counters. A seed fixes all of them.
+//! given indexes, offsets, flags and counters. A seed fixes all of them.
 
 pub mod damaged;
 pub mod inputs;

@@ -76,7 +76,7 @@ impl Message {
         bytes
     }
 
-    /// The parts as a writer is lent them.
+    /// The parts as a writer is given them.
     pub fn parts(&self) -> Parts<'_> {
         Parts {
             name: &self.name,

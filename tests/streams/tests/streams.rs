@@ -153,11 +153,17 @@ fn writer_inputs_get_the_number_they_are_made_for() {
         let message = input.message.bytes();
         let end = input.position + message.len() as u64;
         let WriterInput {
-            message: lent,
+            message: given,
             position,
             ..
         } = &input;
-        let answer = write(lent.id, &lent.header, &lent.parts(), &mut output, *position);
+        let answer = write(
+            given.id,
+            &given.header,
+            &given.parts(),
+            &mut output,
+            *position,
+        );
         assert_eq!(answer, Ok(end));
         assert_eq!(
             output[..*position as usize],
@@ -169,15 +175,15 @@ fn writer_inputs_get_the_number_they_are_made_for() {
         for _ in 0..150 {
             let input = writer_input_refused(&mut rng, number);
             let mut output = input.output.clone();
-            let lent = &input.message;
+            let given = &input.message;
             let answer = write(
-                lent.id,
-                &lent.header,
-                &lent.parts(),
+                given.id,
+                &given.header,
+                &given.parts(),
                 &mut output,
                 input.position,
             );
-            assert_eq!(answer, Err(number), "{lent:?}");
+            assert_eq!(answer, Err(number), "{given:?}");
             assert_eq!(output, input.output);
         }
     }
@@ -190,15 +196,20 @@ fn lent_indexes_are_right_or_wrong_as_said() {
         let stream = joined(&well_formed(&mut rng, 3_000));
         for file in lent_files(&mut rng, &stream) {
             assert_eq!(
-                agrees(&stream, Lent::file(&file.bytes)),
+                agrees(&stream, GivenIndex::file(&file.bytes)),
                 Ok(file.right),
                 "{}",
                 file.what
             );
         }
         for columns in lent_columns(&mut rng, &stream) {
-            let lent = Lent::columns(&columns.starts, &columns.ids, &columns.counters);
-            assert_eq!(agrees(&stream, lent), Ok(columns.right), "{}", columns.what);
+            let given = GivenIndex::columns(&columns.starts, &columns.ids, &columns.counters);
+            assert_eq!(
+                agrees(&stream, given),
+                Ok(columns.right),
+                "{}",
+                columns.what
+            );
         }
     }
 }
@@ -213,7 +224,7 @@ fn questions_are_answered_and_refused() {
         let count = check(&stream).unwrap();
         let number = record_number(&mut rng, count);
         let offset = field_offset(&mut rng);
-        match field(&stream, Lent::NONE, number, offset) {
+        match field(&stream, GivenIndex::NONE, number, offset) {
             Ok(Field::Whole(_)) => fields[0] += 1,
             Ok(Field::Signed(_)) => fields[1] += 1,
             Ok(Field::Float(_)) => fields[2] += 1,
@@ -224,7 +235,7 @@ fn questions_are_answered_and_refused() {
             }
         }
         let asked = counters(&mut rng, &stream);
-        match find(&stream, Lent::NONE, number, &asked) {
+        match find(&stream, GivenIndex::NONE, number, &asked) {
             Ok(found) => {
                 assert!(found >= number && found < count);
                 finds[0] += 1;

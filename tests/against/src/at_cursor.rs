@@ -1,9 +1,9 @@
 //! The questions about the record where a walk stands, or where a cursor from the stream's own columns does, against
 //! the second reader's answers by number.
 
-use crate::asked::{name_of, second_view, Lent};
+use crate::answers;
+use crate::asked::{name_of, second_view, GivenIndex};
 use crate::tally::{Family, Outcome, Tally};
-use crate::told;
 use crate::walk::Read;
 use cotterleaf::{Cursor, Part, Refusal, Step, Stream};
 use second_reader as second;
@@ -38,7 +38,7 @@ pub fn asked_at(
     let (starts, ids) = columns(bytes, read);
     let walked = |n| Ok(cursor_before(&stream, n));
     let indexed = |n| Cursor::for_record(&starts, &ids, n as usize);
-    let none = Lent::None;
+    let none = GivenIndex::None;
     let by_number = second_view(bytes, none.second(), n, part);
     view_at(tally, bytes, walked(n), part, by_number)?;
     view_at(tally, bytes, indexed(n), part, by_number)?;
@@ -61,20 +61,20 @@ fn view_at(
     bytes: &[u8],
     cursor: Result<Cursor, Refusal>,
     part: Part,
-    expected: told::Told<second::Part>,
+    expected: answers::Answer<second::Part>,
 ) -> Outcome {
     let stream = Stream::new(bytes);
     let place = cursor.and_then(|cursor| stream.view_place_at(cursor, part));
-    let place = place.map(told::part);
+    let place = place.map(answers::part);
     let view = cursor.and_then(|cursor| stream.view_at(cursor, part));
-    let by_address = view.map(|view| told::part_by_address(bytes, view));
+    let by_address = view.map(|view| answers::part_by_address(bytes, view));
     let question = || format!("{part:?} at {cursor:?}");
     if expected.is_ok() {
         tally.note("view where a walk stands", name_of(part));
     }
-    let place = place.map_err(told::refused);
+    let place = place.map_err(answers::refused);
     tally.same(Family::View, question, place, expected)?;
-    let by_address = by_address.map_err(told::refused);
+    let by_address = by_address.map_err(answers::refused);
     tally.same(Family::View, question, by_address, expected)
 }
 
@@ -83,16 +83,16 @@ fn field_at(
     bytes: &[u8],
     cursor: Result<Cursor, Refusal>,
     offset: u64,
-    expected: told::Told<second::Field>,
+    expected: answers::Answer<second::Field>,
 ) -> Outcome {
     let stream = Stream::new(bytes);
     let field = cursor.and_then(|cursor| stream.field_at(cursor, offset as usize));
-    let field = field.map(told::field);
+    let field = field.map(answers::field);
     let question = || format!("field {offset} at {cursor:?}");
     tally.same(
         Family::Field,
         question,
-        field.map_err(told::refused),
+        field.map_err(answers::refused),
         expected,
     )
 }

@@ -5,7 +5,7 @@ use second_reader::{Detail, Refused};
 use std::ops::Range;
 
 /// An answer, or the refusal with its number and, for a stream's, its record and byte.
-pub type Told<T> = Result<T, Refused>;
+pub type Answer<T> = Result<T, Refused>;
 
 pub fn refused(refusal: Refusal) -> Refused {
     match refusal.place {
@@ -19,7 +19,7 @@ pub fn refused(refusal: Refusal) -> Refused {
 }
 
 /// A length, count or number.
-pub fn number(answer: Result<usize, Refusal>) -> Told<u64> {
+pub fn number(answer: Result<usize, Refusal>) -> Answer<u64> {
     answer.map(|number| number as u64).map_err(refused)
 }
 
@@ -89,7 +89,7 @@ pub fn part(place: Range<usize>) -> second_reader::Part {
     }
 }
 
-/// Where a view lies in the lent stream, by the addresses of both.
+/// Where a view lies in the given stream, by the addresses of both.
 pub fn part_by_address(stream: &[u8], view: &[u8]) -> second_reader::Part {
     let start = (view.as_ptr() as usize).wrapping_sub(stream.as_ptr() as usize);
     second_reader::Part {

@@ -55,7 +55,7 @@ cStep (yields l c) =
 cStep (over v) =
     record { ended = true; here = refusedPlace 0 0 0; next = noCursor; answer = cChecked v }
 
--- a cursor that was handed out stands for the walk's own
+-- a cursor that was given is read as the walk's own
 phase-kept : (p : Phase) → phaseOf (phaseNumber p) ≡ p
 unfolding phaseOf
 phase-kept Start = refl

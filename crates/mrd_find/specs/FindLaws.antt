@@ -57,7 +57,7 @@ module _ {n : ℕ} {cs : List ℕ} {c : Cursor} {s : List ℕ} {here : PlacedRec
   pub nearer : length s - next .start < length s - c .start
   nearer = on-less s (t .passes)
 
-  -- the record that is handed out is a candidate where the message is
+  -- the record that is given is a candidate where the message is
   yields-record : candidate n (c .number) (t .passes .kind) ≡ candidate n (here .place .number) (kindOf (here .shape))
   yields-record = ap (λ (l : Located). candidate n (l .number) (l .kind)) (sym (t .passes .place))
 

@@ -34,7 +34,7 @@ pub enum Found {
 pub fn find(s: &[u8], n: usize, counters: &[u16; 17]) -> Found
     ensures { λ r. ⌜ foundMeaning r ≡ findOf (now (s .entry)) n (now (counters .entry)) ⌝ }
 {
-    // Lent on as a slice, which tells the proof the array's length.
+    // Passed on as a slice, which tells the proof the array's length.
     let asked: &[u16] = counters;
     let mut c = Cursor::beginning();
     'records: loop {

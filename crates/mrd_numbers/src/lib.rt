@@ -1,7 +1,7 @@
 // Numbers in bytes: two, four and eight bytes of a slice as a little-endian number, read and written.
 //
 // Each read asks that its bytes lie in the slice, and each write that they fit at the front of the
-// part it is lent; the callers, all proved, have tested the whole fixed part before. Assumes nothing.
+// part it is given; the callers, all proved, have tested the whole fixed part before. Assumes nothing.
 ghost use mathlib.Core.Path.{_≡_};
 ghost use Prim.Native.Nat.{_+_, _≤_, _<_};
 ghost use mathlib.Core.List.{_++_};

@@ -1,4 +1,4 @@
-// Views: a part of a record, as that part of the lent stream itself.
+// Views: a part of a record, as that part of the given stream itself.
 ghost use mathlib.Core.Path.{_≡_};
 ghost use Prim.Native.Nat.{_+_, _<_, _≤_, _^_};
 ghost use lib.ListN.{take, drop};

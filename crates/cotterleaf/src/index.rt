@@ -1,4 +1,4 @@
-// The index as columns; and whether a lent index is the stream's own.
+// The index as columns; and whether a given index is the stream's own.
 ghost use mathlib.Core.Path.{_≡_};
 ghost use lib.ListN.{length};
 ghost use Rattle.mrd_stream.specs.Index.{startColumn, idColumn, counterColumn};

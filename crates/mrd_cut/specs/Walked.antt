@@ -1,4 +1,4 @@
--- What a walk meets, told of the bytes: well-formed messages in the order that the phases allow, up to the end of the stream or to the first fault.
+-- What a walk meets, said of the bytes: well-formed messages in the order that the phases allow, up to the end of the stream or to the first fault.
 -- The theorems on places, acceptance, refusal and steps follow from this.
 -- Assumes nothing.
 use Prim.Native.Nat.{ℕ, zero, suc, _+_, _≤_, _<_}

@@ -1,4 +1,4 @@
--- The laws of 32 bits as a float: a NaN's are told as they are, and any other's are read back from the float.
+-- The laws of 32 bits as a float: a NaN's are given as they are, and any other's are read back from the float.
 -- Assumes nothing.
 use Prim.Native.Nat.{ℕ, _%_, _^_, _≤_, _<_}
 use mathlib.Core.Path.{refl, ap}

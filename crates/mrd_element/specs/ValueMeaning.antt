@@ -1,4 +1,4 @@
--- What each case of the enum `Value` says: the paper's value, or its number of refusal. A float is told by its bits.
+-- What each case of the enum `Value` says: the paper's value, or its number of refusal. A float is given by its bits.
 -- Assumes nothing.
 use mathlib.Core.Path.{_≡_}
 use mathlib.Core.Bool.{Bool, true, not}

@@ -29,7 +29,7 @@ power-pos : (w : ℕ) → 0 < 256 ^ w
 power-pos zero = rw pow-zero (omega arith)
 power-pos (suc w) = let ih : 0 < 256 ^ w = power-pos w in rw pow-succ' (omega arith)
 
--- a number's low half stored in a part lent from the front on, and then its high half in the part after it
+-- a number's low half stored in a part passed on from the front, and then its high half in the part after it
 pub halves-stored : (w v : ℕ) (o x y : List ℕ) → w + w ≤ length o → x ≡ toBytes w (v % 256 ^ w) ++ drop w (partFrom 0 o) →
     y ≡ toBytes w (v / 256 ^ w) ++ drop w (partFrom w (returned 0 o x)) → returned w (returned 0 o x) y ≡ toBytes (w + w) v ++ drop (w + w) o
 halves-stored w v o x y fits p q =

@@ -1,4 +1,4 @@
--- Storing bytes in an output: what lies before and after them keeps its content. The laws by which field writers, each lent the part of the output
+-- Storing bytes in an output: what lies before and after them keeps its content. The laws by which field writers, each given the part of the output
 -- from its own place on, make one message.
 -- Assumes nothing.
 use Prim.Native.Nat.{ℕ, _+_, _-_, _≤_}
@@ -40,7 +40,7 @@ stored-next at m n o h =
     rw (← drop-drop (length n) end, drop-at (take at o ++ m) (drop end o) end front, drop-drop, length-append, add-assoc) in
     rw (regroup, take-at (take at o ++ m) (drop end o) end front, past) (simp append-assoc)
 
--- the part of o that is lent from `at` on, and o when that part has come back as x
+-- the part of o that is passed on from `at` on, and o when that part has come back as x
 abbrev pub partFrom : ℕ → List ℕ → List ℕ
 partFrom at o = take (length o - at) (drop at o)
 
@@ -53,7 +53,7 @@ part-from at o = take-all (length o - at) (drop at o) (le-of-eq (length-drop at 
 pub length-part : (at : ℕ) (o : List ℕ) → length (partFrom at o) ≡ length o - at
 length-part at o = ap length (part-from at o) ∙ length-drop at o
 
--- bytes written at the front of the part lent from `at` on are stored there
+-- bytes written at the front of the part passed on from `at` on are stored there
 pub stored-part : (at : ℕ) (o m x : List ℕ) → x ≡ m ++ drop (length m) (partFrom at o) → returned at o x ≡ stored at m o
 unfolding stored
 stored-part at o m x p =

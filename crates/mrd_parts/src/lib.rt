@@ -1,7 +1,7 @@
 // The parts of one message that a view can show, and where each lies in it.
 //
 // `locate` asks that the fixed part has its kind's length and gives the message's size; the callers, all
-// proved, lend it so. Assumes nothing.
+// proved, give it so. Assumes nothing.
 mod parts;
 
 pub use parts::Extent;

@@ -26,7 +26,7 @@ unfolding stepAt
 step-front c [] h = absurd (not-suc-le-zero h)
 step-front c (b ∷ t) h = refl
 
--- what is handed out by the fixed part is what the bytes of the message give
+-- what a step gives by the fixed part is what the bytes of the message give
 yields-record : (k : Kind) (c : Cursor) (t : List ℕ) (z : ℕ) → 2 + fixedSize k ≤ z → z ≤ length t →
     yielded c k (fixedPart k t) z ≡ yields (located c k (take z t)) (after c k z)
 yields-record k c t z least fits = rw (fixed-take k z t least fits, length-take-le z t fits)

@@ -57,7 +57,7 @@ stepAt c (b ∷ t) = stepBy (judge c (b ∷ t)) c (b ∷ t)
 unfoldable pub step : Cursor → List ℕ → Stepped
 step c s = stepAt c (drop (c .start) s)
 
--- a message of kind k and size z handed out, by its fixed part h
+-- a message of kind k and size z as a record, by its fixed part h
 abbrev pub yielded : Cursor → Kind → List ℕ → ℕ → Stepped
 yielded c k h z =
     yields (record { number = c .number; start = c .start; size = z; kind = k; numbers = numbersOf k h }) (after c k z)

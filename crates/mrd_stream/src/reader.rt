@@ -62,7 +62,7 @@ fn refused(c: Cursor, number: u8) -> Checked
     })
 }
 
-// A message that passed every check, handed out.
+// A message that passed every check, as a record.
 fn yields(c: Cursor, kind: Kind, h: &[u8], size: usize) -> Step
     requires { ⌜ (length (now h) ≡ fixedSize kind) × (c .number < maxMessages) × (c .start + size < 2 ^ 64) ⌝ }
     ensures { λ r. ⌜ stepMeaning r ≡ yielded c kind (now (h .entry)) size ⌝ }
@@ -87,8 +87,8 @@ pub fn check(s: &[u8]) -> Checked
     check_from(Cursor::beginning(), s)
 }
 
-// Checks what a walk still has before it: the answer that its steps from c on end in. Where c was handed
-// out by a walk over s, that is the stream's answer; any other cursor gets some answer too.
+// Checks what a walk still has before it: the answer that its steps from c on end in. Where c comes
+// from a walk over s, that is the stream's answer; any other cursor gets some answer too.
 pub fn check_from(c: Cursor, s: &[u8]) -> Checked
     ensures { λ r. ⌜ checkedMeaning r ≡ verdict (from c (now (s .entry))) ⌝ }
 {

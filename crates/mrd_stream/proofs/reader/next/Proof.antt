@@ -1,4 +1,4 @@
--- `mrd_stream::next` meets its contract: the bytes from the cursor's start on are judged, and a whole message is handed out.
+-- `mrd_stream::next` meets its contract: the bytes from the cursor's start on are judged, and a whole message is given as a record.
 -- Assumes nothing.
 use Prim.Native.Nat.{ℕ}
 use mathlib.Core.Path.{_≡_, sym, ap, _∙_}
@@ -36,7 +36,7 @@ fixed-part-requires c κs =
     let a = test .before .before .args in
     rw part-from (laws.whole-fixed (a .c) (now (a .s)) (test .if1 .left) (found-whole told))
 
--- and its fixed part is lent on
+-- and its fixed part is passed on
 fixed-is : (c : tie.After-fixed-part) →
     let a = c .before .before .before .before .before .before .before .before .before .args in
     now (c .fixed-part .result) ≡ fixedPart (c .before .before .before .judgement .given .0 .0) (drop (a .c .start) (now (a .s)))

@@ -1,4 +1,4 @@
--- `mrd_stream::reader::handed` meets its contract: each number is the definition's.
+-- `mrd_stream::reader::yields` meets its contract: each number is the definition's.
 -- Assumes nothing.
 use borrow.Author.Needs.{needs}
 use Rattle.mrd_stream.proofs.reader.yields.Statement.{statement}

@@ -6,6 +6,7 @@ use mathlib.Core.Path.{_≡_, refl, sym, ap, ap₂, _∙_}
 use mathlib.Core.List.{List, [], _∷_, _++_, map, append-assoc}
 use lib.ListN.{length, take, drop, length-append}
 use lib.Seq.{drop-drop, take-append-seam, drop-at}
+use Rattle.mrd_logic.specs.Lists.{Nth}
 use Rattle.mrd_logic.specs.Answer.{Verdict, accepted, refused, answered, unlessRefused}
 use Rattle.mrd_numbers.specs.Laws.{part-take}
 use Rattle.mrd_format.specs.Message.{fixedPart, sizeOf}
@@ -24,12 +25,6 @@ use Rattle.mrd_cut.specs.Inside.{Inside, place-inside}
 use Rattle.mrd_record.specs.RecordLaws.{fixed-long}
 use Rattle.mrd_views.specs.declared.views.Span.{Span}
 use Rattle.mrd_views.specs.Views.{span, shownAt, viewOf, shown}
-
--- element n of a list is x
-abbrev pub Nth : {A : Type 0} → List A → ℕ → A → Type 0
-Nth [] n x = ⊥
-Nth (y ∷ ys) zero x = y ≡ x
-Nth (y ∷ ys) (suc n) x = Nth ys n x
 
 -- the views of record n of s are the parts of the record r; a channel's samples are its share of all of them
 pub record ViewsOf (s : List ℕ) (n : ℕ) (r : Record) : Type 0 where

@@ -7,6 +7,7 @@ use mathlib.Core.Bool.{true}
 use mathlib.Core.List.{List, [], _∷_, map}
 use borrow.Author.Tests.{lt-ltb}
 use lib.ListN.{length, getD, take, drop, take-append-drop}
+use Rattle.mrd_logic.specs.Lists.{Nth}
 use Rattle.mrd_logic.specs.Answer.{Verdict, accepted, refused, answered, number, unlessRefused}
 use Rattle.mrd_format.specs.declared.kind.Kind.{Kind}
 use Rattle.mrd_format.specs.declared.kind.Kind.the-variants.{ConfigurationName, ConfigurationText, HeaderText, Close, Text, Acquisition, Image, Waveform}
@@ -36,30 +37,25 @@ pub record AtRecord (s : List ℕ) (n : ℕ) (c : Cursor) : Type 0 where
   pub views : (p : Part) → viewBy (placeAt c s) p s ≡ viewOf s n p
   pub fields : (o : ℕ) → fieldBy (placeAt c s) o s ≡ fieldOf s n o
 
--- a column has v at place i
-abbrev Has : List ℕ → ℕ → ℕ → Type 0
-Has [] i v = ⊥
-Has (x ∷ xs) zero v = x ≡ v
-Has (x ∷ xs) (suc i) v = Has xs i v
-
-has-read : (xs : List ℕ) (i : ℕ) {v : ℕ} → Has xs i v → (i < length xs) × (getD xs i 0 ≡ v)
-has-read [] i h = absurd h
-has-read (x ∷ xs) zero h = (omega arith, h)
-has-read (x ∷ xs) (suc i) h = let later = has-read xs i h in (omega (arith, later .0), later .1)
+-- what a column has at place i is read there
+nth-read : (xs : List ℕ) (i : ℕ) {v : ℕ} → Nth xs i v → (i < length xs) × (getD xs i 0 ≡ v)
+nth-read [] i h = absurd h
+nth-read (x ∷ xs) zero h = (omega arith, h)
+nth-read (x ∷ xs) (suc i) h = let later = nth-read xs i h in (omega (arith, later .0), later .1)
 
 -- a given column that holds another's numbers has them
-given-has : (m t : List ℕ) (i v : ℕ) → take (length m) t ≡ m → Has m i v → Has t i v
-given-has [] t i v e h = absurd h
-given-has (x ∷ m) [] i v e h = let z : _≡_ {A = ℕ} 0 1 = cc in absurd (omega arith)
-given-has (x ∷ m) (y ∷ t) zero v e h = let head : y ≡ x = cc in head ∙ h
-given-has (x ∷ m) (y ∷ t) (suc i) v e h = given-has m t i v (cc) h
+nth-given : (m t : List ℕ) (i v : ℕ) → take (length m) t ≡ m → Nth m i v → Nth t i v
+nth-given [] t i v e h = absurd h
+nth-given (x ∷ m) [] i v e h = let z : _≡_ {A = ℕ} 0 1 = cc in absurd (omega arith)
+nth-given (x ∷ m) (y ∷ t) zero v e h = let head : y ≡ x = cc in head ∙ h
+nth-given (x ∷ m) (y ∷ t) (suc i) v e h = nth-given m t i v (cc) h
 
 -- the entries es of the records from number n on have the place l of the one that is i further
 record Listed (es : List Entry) (n i : ℕ) (l : Located) : Type 0 where
   numbered : n + i ≡ l .number
   few : l .number < maxMessages
-  starts : Has (map (λ (e : Entry). e .start) es) i (l .start)
-  ids : Has (map (λ (e : Entry). e .id) es) i (idOf (l .kind))
+  starts : Nth (map (λ (e : Entry). e .start) es) i (l .start)
+  ids : Nth (map (λ (e : Entry). e .id) es) i (idOf (l .kind))
 
 nowhere : {l : Located} → number 16 ≡ answered l → ⊥
 nowhere e = let z : _≡_ {A = ℕ} 0 1 = cc in omega arith
@@ -112,8 +108,8 @@ pub indexed-cursor : (s starts ids counters : List ℕ) → Held s starts ids co
 unfolding cursorFor viewOf fieldOf startColumn idColumn
 indexed-cursor s starts ids counters h n {l} e =
     let x = place-listed s n e in
-    let start = has-read starts n (given-has (startColumn s) starts n (l .start) (h .by-starts) (x .starts)) in
-    let id = has-read ids n (given-has (idColumn s) ids n (idOf (l .kind)) (h .by-ids) (x .ids)) in
+    let start = nth-read starts n (nth-given (startColumn s) starts n (l .start) (h .by-starts) (x .starts)) in
+    let id = nth-read ids n (nth-given (idColumn s) ids n (idOf (l .kind)) (h .by-ids) (x .ids)) in
     let own : n ≡ l .number = omega (arith, x .numbered) in
     let c : Cursor = record { number = l .number; start = l .start; phase = phaseFor (identified (idOf (l .kind))) } in
     let here : placeAt c s ≡ place s n = at-start s l (place-inside s n e) (c .phase) (phase-allows (l .kind)) (x .few) ∙ sym e in (

@@ -83,10 +83,12 @@ sizeOf k h n = 2 + fixedSize k + bodyLength (dueLengths k h n)
 unfoldable pub sameLengths : Lengths → Lengths → Bool
 sameLengths m n =
     eqb (m .name) (n .name) &&
-    (eqb (m .text) (n .text) &&
-    (eqb (m .trajectory) (n .trajectory) &&
-    (eqb (m .samples) (n .samples) &&
-    (eqb (m .attributes) (n .attributes) && (eqb (m .pixels) (n .pixels) && eqb (m .waveform) (n .waveform))))))
+    eqb (m .text) (n .text) &&
+    eqb (m .trajectory) (n .trajectory) &&
+    eqb (m .samples) (n .samples) &&
+    eqb (m .attributes) (n .attributes) &&
+    eqb (m .pixels) (n .pixels) &&
+    eqb (m .waveform) (n .waveform)
 
 -- checks 4 to 10 of what is given with a header of its kind's length
 unfoldable pub sizedChecks : Kind → (h name : List ℕ) → Lengths → List Check

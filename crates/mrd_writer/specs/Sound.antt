@@ -37,19 +37,19 @@ pub record Sound (k : Kind) (c : Contents) : Type 0 where
 same-lengths : (m n : Lengths) → sameLengths m n ≡ true → m ≡ n
 unfolding sameLengths
 same-lengths m n e =
-    let p1 = both _ _ e in
-    let p2 = both _ _ (p1 .1) in
-    let p3 = both _ _ (p2 .1) in
-    let p4 = both _ _ (p3 .1) in
-    let p5 = both _ _ (p4 .1) in
-    let p6 = both _ _ (p5 .1) in
+    let p6 = both _ _ e in
+    let p5 = both _ _ (p6 .0) in
+    let p4 = both _ _ (p5 .0) in
+    let p3 = both _ _ (p4 .0) in
+    let p2 = both _ _ (p3 .0) in
+    let p1 = both _ _ (p2 .0) in
     λ i. record {
       name = eqb-true (m .name) (n .name) (p1 .0) i;
-      text = eqb-true (m .text) (n .text) (p2 .0) i;
-      trajectory = eqb-true (m .trajectory) (n .trajectory) (p3 .0) i;
-      samples = eqb-true (m .samples) (n .samples) (p4 .0) i;
-      attributes = eqb-true (m .attributes) (n .attributes) (p5 .0) i;
-      pixels = eqb-true (m .pixels) (n .pixels) (p6 .0) i;
+      text = eqb-true (m .text) (n .text) (p1 .1) i;
+      trajectory = eqb-true (m .trajectory) (n .trajectory) (p2 .1) i;
+      samples = eqb-true (m .samples) (n .samples) (p3 .1) i;
+      attributes = eqb-true (m .attributes) (n .attributes) (p4 .1) i;
+      pixels = eqb-true (m .pixels) (n .pixels) (p5 .1) i;
       waveform = eqb-true (m .waveform) (n .waveform) (p6 .1) i;
     }
 

@@ -7,7 +7,7 @@ use native.Mathlib.Omega.{arith}
 use mathlib.Core.Path.{_≡_, refl, sym, ap, _∙_}
 use mathlib.Core.Bool.{Bool, true, false, _&&_, true≢false}
 use mathlib.Core.Logic.{⊎-elim}
-use mathlib.Core.List.{List, [], _∷_, _++_, append-nil, append-assoc}
+use mathlib.Core.List.{List, [], _∷_, _++_, map, append-nil, append-assoc}
 use borrow.Author.Tests.{eqb-true}
 use lib.Dec.{ltb}
 use lib.ListN.{length, getD, replicate, length-append, length-replicate}
@@ -129,7 +129,7 @@ none (b ∷ x) e = absurd (omega arith)
 -- contents whose segments are as long as they say, and whose other parts are empty
 pub record Fitting (k : Kind) (c : Contents) : Type 0 where
   pub holds : Every (Holds (fixedOf k c) c) (segmentsOf k (fixedOf k c))
-  pub sizes : Every (λ (p : Part). reachSize (extentOf p k (fixedOf k c)) ≡ length (partIn (c .parts) p)) recordParts
+  pub sizes : map (λ (p : Part). reachSize (extentOf p k (fixedOf k c))) recordParts ≡ map (λ (p : Part). length (partIn (c .parts) p)) recordParts
 
 -- the fields of the fixed part are those of the given header
 made-fields : (k : Kind) (c : Contents) → Fitting k c → fieldsOf k (fixedOf k c) ≡ fieldsOf k (c .header)
@@ -181,15 +181,14 @@ module _ (k : Kind) (c : Contents) (f : Fitting k c) where
 
   made-parts : partsBy (λ (p : Part). bytesIn (messageOf k c) (extentOf p k (fixedOf k c))) ≡ c .parts
   made-parts =
-      let z = f .sizes in
       λ i. record {
-        name = made-part part.name (refl, refl, refl, refl, refl) (z .0) i;
-        text = made-part part.text (refl, refl, refl, refl, refl) (z .1 .0) i;
-        trajectory = made-part part.trajectory (refl, refl, refl, refl, refl) (z .1 .1 .0) i;
-        samples = made-part part.samples (refl, refl, refl, refl, refl) (z .1 .1 .1 .0) i;
-        attributes = made-part part.attributes (refl, refl, refl, refl, refl) (z .1 .1 .1 .1 .0) i;
-        pixels = made-part part.pixels (refl, refl, refl, refl, refl) (z .1 .1 .1 .1 .1 .0) i;
-        waveform = made-part part.waveform (refl, refl, refl, refl, refl) (z .1 .1 .1 .1 .1 .1 .0) i;
+        name = made-part part.name (refl, refl, refl, refl, refl) (cc) i;
+        text = made-part part.text (refl, refl, refl, refl, refl) (cc) i;
+        trajectory = made-part part.trajectory (refl, refl, refl, refl, refl) (cc) i;
+        samples = made-part part.samples (refl, refl, refl, refl, refl) (cc) i;
+        attributes = made-part part.attributes (refl, refl, refl, refl, refl) (cc) i;
+        pixels = made-part part.pixels (refl, refl, refl, refl, refl) (cc) i;
+        waveform = made-part part.waveform (refl, refl, refl, refl, refl) (cc) i;
       }
 
   -- so the record of the message is the record of what was given

@@ -2,7 +2,7 @@
 -- kind, the given header, the given name and the given parts' lengths.
 -- Assumes nothing.
 use Prim.Native.Nat.{ℕ, _+_}
-use mathlib.Core.Bool.{Bool, false, not, _||_, _&&_}
+use mathlib.Core.Bool.{Bool, false, not, _||_}
 use mathlib.Core.List.{List, [], _∷_, _++_}
 use lib.Dec.{eqb, ltb}
 use lib.ListN.{length}
@@ -15,6 +15,7 @@ use Rattle.mrd_format.specs.Parts as part
 use Rattle.mrd_format.specs.Parts.{Part, same, partIn, Contents}
 use Rattle.mrd_format.specs.Segments.{Segment, fixed, counted, padded, sized, channels, reachSize, reachFrom}
 use Rattle.mrd_logic.specs.Choice.{pick}
+use Rattle.mrd_logic.specs.Lists.{equal}
 use Rattle.mrd_logic.specs.Checks.{Check, _when_, first, unless}
 use Rattle.mrd_logic.specs.Answer.{Answer, answered, number}
 use Rattle.mrd_format.specs.Message.{limit}
@@ -50,6 +51,9 @@ abbrev pub lengthsBy : (Part → ℕ) → Lengths
 lengthsBy f =
     partLengths (f part.name) (f part.text) (f part.trajectory) (f part.samples) (f part.attributes) (f part.pixels) (f part.waveform)
 
+abbrev pub lengthList : Lengths → List ℕ
+lengthList n = n .name ∷ n .text ∷ n .trajectory ∷ n .samples ∷ n .attributes ∷ n .pixels ∷ n .waveform ∷ []
+
 -- the lengths of the seven given parts
 abbrev pub lengthsOf : Contents → Lengths
 lengthsOf c = lengthsBy (λ (p : Part). length (partIn (c .parts) p))
@@ -84,14 +88,7 @@ sizeOf k h n = 2 + fixedSize k + bodyLength (dueLengths k h n)
 
 -- whether each part has the length that it must have
 unfoldable pub sameLengths : Lengths → Lengths → Bool
-sameLengths m n =
-    eqb (m .name) (n .name) &&
-    eqb (m .text) (n .text) &&
-    eqb (m .trajectory) (n .trajectory) &&
-    eqb (m .samples) (n .samples) &&
-    eqb (m .attributes) (n .attributes) &&
-    eqb (m .pixels) (n .pixels) &&
-    eqb (m .waveform) (n .waveform)
+sameLengths m n = equal (lengthList m) (lengthList n)
 
 -- checks 4 to 10 of what is given with a header of its kind's length
 unfoldable pub sizedChecks : Kind → (h name : List ℕ) → Lengths → List Check

@@ -4,12 +4,14 @@ use Prim.Native.Nat.{ℕ, _^_, _≤_, _<_}
 use native.Mathlib.Omega.{arith}
 use mathlib.Core.Path.{_≡_, ap}
 use mathlib.Core.Bool.{true}
-use lib.ListN.{length}
+use mathlib.Core.List.{List}
+use lib.ListN.{length, getD}
 use lib.Dec.{ltb}
 use borrow.Author.Tests.{eqb-true, ltb-false, not-false}
 use Rattle.bytes.specs.Bytes.{indexOf}
 use Rattle.mrd_logic.specs.Every.{Every, every-split}
-use Rattle.mrd_logic.specs.Choice.{both, neither}
+use Rattle.mrd_logic.specs.Choice.{neither}
+use Rattle.mrd_logic.specs.ListLaws.{equal-same}
 use Rattle.mrd_logic.specs.Answer.{answered}
 use Rattle.mrd_logic.specs.Checks.{first, Passed}
 use Rattle.mrd_logic.specs.CheckLaws.{first-passed}
@@ -19,7 +21,7 @@ use Rattle.mrd_format.specs.Kinds.{headerSize}
 use Rattle.mrd_format.specs.Message.{limit}
 use Rattle.mrd_format.specs.Parts.{Contents}
 use Rattle.mrd_write_checks.specs.declared.lengths.Lengths.{Lengths}
-use Rattle.mrd_write_checks.specs.WriteChecks.{nameUnfit, ownChecks, bodyLength, sizeOf, lengthsOf, dueLengths, sameLengths, sizedChecks, contentsChecks, judged}
+use Rattle.mrd_write_checks.specs.WriteChecks.{nameUnfit, ownChecks, bodyLength, sizeOf, partLengths, lengthList, lengthsOf, dueLengths, sameLengths, sizedChecks, contentsChecks, judged}
 use Rattle.mrd_write_checks.specs.GivenLaws.{unless-answered, contents-numbered}
 use Rattle.mrd_writer.specs.Write.{judgedContents, sizeGiven, givenChecks}
 
@@ -34,21 +36,8 @@ pub record Sound (k : Kind) (c : Contents) : Type 0 where
 same-lengths : (m n : Lengths) → sameLengths m n ≡ true → m ≡ n
 unfolding sameLengths
 same-lengths m n e =
-    let p6 = both _ _ e in
-    let p5 = both _ _ (p6 .0) in
-    let p4 = both _ _ (p5 .0) in
-    let p3 = both _ _ (p4 .0) in
-    let p2 = both _ _ (p3 .0) in
-    let p1 = both _ _ (p2 .0) in
-    λ i. record {
-      name = eqb-true (m .name) (n .name) (p1 .0) i;
-      text = eqb-true (m .text) (n .text) (p1 .1) i;
-      trajectory = eqb-true (m .trajectory) (n .trajectory) (p2 .1) i;
-      samples = eqb-true (m .samples) (n .samples) (p3 .1) i;
-      attributes = eqb-true (m .attributes) (n .attributes) (p4 .1) i;
-      pixels = eqb-true (m .pixels) (n .pixels) (p5 .1) i;
-      waveform = eqb-true (m .waveform) (n .waveform) (p6 .1) i;
-    }
+    ap (λ (l : List ℕ). partLengths (getD l 0 0) (getD l 1 0) (getD l 2 0) (getD l 3 0) (getD l 4 0) (getD l 5 0) (getD l 6 0))
+    (equal-same (lengthList m) (lengthList n) e)
 
 -- what every check passed says
 pub passed-sound : (k : Kind) (c : Contents) → first (givenChecks k c) ≡ 0 → Sound k c

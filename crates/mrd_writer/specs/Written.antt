@@ -30,7 +30,7 @@ use Rattle.mrd_format.specs.Parts.{Part, Contents}
 use Rattle.mrd_format.specs.Content.{segmentsOf, extentOf, fixedOf, contentOf, messageOf}
 use Rattle.mrd_format.specs.Made.{Holds, Fitting, made-length, fixed-length, made-fixed}
 use Rattle.mrd_write_checks.specs.declared.lengths.Lengths.{Lengths}
-use Rattle.mrd_write_checks.specs.WriteChecks.{ownChecks, sizeOf, partLengths, lengthsBy, lengthsOf, dueLengths}
+use Rattle.mrd_write_checks.specs.WriteChecks.{ownChecks, sizeOf, partLengths, lengthList, lengthsBy, lengthsOf, dueLengths}
 use Rattle.mrd_write_checks.specs.ImageLaws.{attribute-length, pixels-size, image-size}
 use Rattle.mrd_put.specs.Room.{Ready}
 use Rattle.mrd_writer.specs.Write.{sizeGiven}
@@ -112,23 +112,7 @@ sound-holds Image c s = (s .header, (tt, (sym (has Image c s (λ n. n .attribute
 sound-holds Waveform c s = (s .header, (sym (has Waveform c s (λ n. n .waveform)), tt))
 
 pub sound-fitting : (k : Kind) (c : Contents) → Sound k c → Fitting k c
-sound-fitting k c s =
-    record {
-      holds = sound-holds k c s;
-      sizes = (
-        has k c s (λ n. n .name),
-        (
-          has k c s (λ n. n .text),
-          (
-            has k c s (λ n. n .trajectory),
-            (
-              has k c s (λ n. n .samples),
-              (has k c s (λ n. n .attributes), (has k c s (λ n. n .pixels), (has k c s (λ n. n .waveform), tt))),
-            ),
-          ),
-        ),
-      );
-    }
+sound-fitting k c s = record { holds = sound-holds k c s; sizes = ap lengthList (sound-sizes k c s) }
 
 -- what passes is ready to be put
 pub sound-ready : (k : Kind) (c : Contents) → Sound k c → Ready k c

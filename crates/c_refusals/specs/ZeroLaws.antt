@@ -10,7 +10,7 @@ use lib.ListN.{length}
 use Rattle.mrd_logic.specs.Answer.{Verdict, accepted, refused, Answer, answered, stream, number, andThen}
 use Rattle.mrd_logic.specs.Lists.{begins, equal}
 use Rattle.mrd_logic.specs.Choice.{pick}
-use Rattle.mrd_logic.specs.Checks.{first}
+use Rattle.mrd_logic.specs.Checks.{first, unless}
 use Rattle.mrd_format.specs.declared.kind.Identified.{Identified}
 use Rattle.mrd_format.specs.declared.kind.Identified.the-variants.{Known, Unknown}
 use Rattle.mrd_format.specs.Kinds.{identified}
@@ -35,7 +35,6 @@ use Rattle.mrd_index_cursor.specs.IndexCursor.{cursorFor}
 use Rattle.mrd_ask.specs.declared.question.Question.{Question}
 use Rattle.mrd_ask.specs.Questions.{askOf}
 use Rattle.mrd_ask.specs.RefusalLaws.{Numbered, Refuses, unless-refuses, then-refuses, from-numbered, answer-numbered, over-numbered, place-refuses, at-refuses, view-refuses, field-refuses, find-refuses, ask-refuses}
-use Rattle.mrd_write_checks.specs.WriteChecks.{unless}
 use Rattle.mrd_writer.specs.Write.{sizeGiven, writeChecks, answerAs, writeAnswer}
 use Rattle.c_place.specs.PlacedStruct.{cPlaced}
 use Rattle.c_walk.specs.WalkStructs.{cChecked, cCursorAnswer, cStep}
@@ -202,7 +201,7 @@ pub zero-put : (id : ℕ) (c : Contents) (at : ℕ) (o : List ℕ) → cPut (wri
 unfolding writeAnswer answerAs
 zero-put id c at o = zero-answer (λ a. cPut a .refusal) (λ f r b. refl) (λ k. refl) _ (by (identified id))
   where
-    judged : (f n : ℕ) → Refuses 1 (unless f n)
+    judged : (f n : ℕ) → Refuses 1 (unless f number (answered n))
     judged zero n = tt
     judged (suc f) n = omega arith
 

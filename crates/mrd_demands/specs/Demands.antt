@@ -8,6 +8,7 @@ use mathlib.Core.Logic.{_↔_}
 use mathlib.Core.List.{List, map}
 use lib.ListN.{length}
 use Rattle.mrd_numbers.specs.Little.{Bytes}
+use Rattle.mrd_logic.specs.Lists.{Nth}
 use Rattle.mrd_logic.specs.Answer.{accepted, refused, Answer, answered, andThen}
 use Rattle.mrd_format.specs.Parts.{Contents}
 use Rattle.mrd_format.specs.Content.{Record, bytesOf}
@@ -41,7 +42,7 @@ use Rattle.mrd_writer.specs.Write.{writeAnswer, writeOutput}
 use Rattle.mrd_writer.specs.ReadBack.{ReadsBack}
 use Rattle.mrd_writer.specs.ReadBack as writer
 use Rattle.mrd_demands.specs.Refusals.{Refusal, output-kept, written-kept}
-use Rattle.mrd_demands.specs.RecordViews.{Nth, ViewsOf}
+use Rattle.mrd_demands.specs.RecordViews.{ViewsOf}
 use Rattle.mrd_demands.specs.RecordViews as views
 use Rattle.mrd_demands.specs.Messages.{recordsIn}
 use Rattle.mrd_demands.specs.NormalStreams.{accepted-again, normal-long, normal-records, normal-own, normal-written, records-cut}

@@ -2,14 +2,14 @@
 -- All of it follows from the segments of its kind.
 -- Assumes nothing.
 use Prim.Native.Nat.{ℕ}
-use mathlib.Core.List.{List, [], _∷_, _++_, map}
+use mathlib.Core.List.{List, _∷_, _++_, map}
 use lib.ListN.{replicate}
 use Rattle.mrd_logic.specs.Choice.{pick}
 use Rattle.mrd_logic.specs.Joined.{joined}
 use Rattle.mrd_numbers.specs.Little.{toBytes}
 use Rattle.mrd_format.specs.declared.kind.Kind.{Kind}
 use Rattle.mrd_format.specs.Elements.{values, widths, written}
-use Rattle.mrd_format.specs.Parts.{Part, id, header, name, filler, text, attributes, trajectory, samples, pixels, waveform, same, Reach, bytesAt, bytesIn, Parts, Contents, contents}
+use Rattle.mrd_format.specs.Parts.{Part, id, header, filler, same, Reach, bytesAt, bytesIn, Parts, partsBy, Contents}
 use Rattle.mrd_format.specs.Segments.{Segment, Piece, piece, piecesFrom, orElse, reachIf, reachFrom, segmentsBytes}
 use Rattle.mrd_format.specs.Kinds.{idOf, formOf}
 use Rattle.mrd_format.specs.Message.{fixedPart}
@@ -32,9 +32,7 @@ partOf k m p = bytesIn m (extentOf p k (fixedPart k m))
 
 -- what it is made of
 unfoldable pub contentsOf : Kind → List ℕ → Contents
-contentsOf k m =
-    contents (partOf k m header) (partOf k m name) (partOf k m text) (partOf k m trajectory) (partOf k m samples)
-    (partOf k m attributes) (partOf k m pixels) (partOf k m waveform)
+contentsOf k m = record { header = partOf k m header; parts = partsBy (partOf k m) }
 
 -- 'A record, where compared, is its kind and whole content': 'every field of a fixed header', floats by their bits, and the bytes of each part
 pub record Record : Type 0 where
@@ -64,7 +62,7 @@ unfoldable pub fixedOf : Kind → Contents → List ℕ
 fixedOf k c = segmentsBytes c (formOf k .fixedSegments)
 
 unfoldable pub bodyOf : Kind → Contents → List ℕ
-bodyOf k c = segmentsBytes c (formOf k .bodySegments [])
+bodyOf k c = segmentsBytes c (formOf k .bodySegments (fixedOf k c))
 
 unfoldable pub contentOf : Kind → Contents → List ℕ
 contentOf k c = fixedOf k c ++ bodyOf k c

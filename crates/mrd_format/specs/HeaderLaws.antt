@@ -3,7 +3,7 @@
 use Prim.Native.Nat.{ℕ, zero, suc, _+_, _*_, _≤_}
 use native.Mathlib.Nat.{zero-mul, suc-mul, le-of-eq}
 use native.Mathlib.Omega.{arith}
-use mathlib.Core.Path.{_≡_, refl, sym, ap, _∙_}
+use mathlib.Core.Path.{_≡_, refl, sym, ap, ap₂, _∙_}
 use mathlib.Core.Bool.{Bool, true, _&&_, and-eq-true-iff}
 use mathlib.Core.List.{List, [], _∷_, _++_, append-nil, append-assoc}
 use borrow.Author.Tests.{eqb-true}
@@ -11,6 +11,7 @@ use lib.Dec.{eqb}
 use lib.ListN.{length, take, drop, replicate}
 use lib.Seq.{take-add}
 use Rattle.mrd_numbers.specs.Little.{Bytes}
+use Rattle.mrd_numbers.specs.Laws.{num-append}
 use Rattle.mrd_numbers.specs.ByteLaws.{write-num}
 use Rattle.mrd_format.specs.Elements.{Run, width, elementsFrom, values, widths, written}
 use Rattle.mrd_format.specs.PieceLaws.{take-parts}
@@ -72,3 +73,20 @@ table-written at end (r ∷ rs) h p b fits =
 pub header-written : (end : ℕ) (rs : List Run) (h : List ℕ) → packed 0 end rs ≡ true → Bytes h → end ≤ length h →
     written (widths rs) (values rs h) ≡ take end h
 header-written end rs h p b fits = table-written 0 end rs h p b fits
+
+-- what follows a header does not matter to its fields
+elements-append : (n w at : ℕ) (h x : List ℕ) → at + n * w ≤ length h → elementsFrom n w at (h ++ x) ≡ elementsFrom n w at h
+elements-append zero w at h x f = refl
+elements-append (suc n) w at h x f =
+    let fits : at + (n * w + w) ≤ length h = rw suc-mul at f in
+    ap₂ (λ (v : ℕ) (vs : List ℕ). v ∷ vs) (num-append w h x at (omega arith)) (elements-append n w (at + w) h x (omega arith))
+
+pub values-append : (at end : ℕ) (rs : List Run) (h x : List ℕ) → packed at end rs ≡ true → end ≤ length h →
+    values rs (h ++ x) ≡ values rs h
+values-append at end [] h x p fits = refl
+values-append at end (r ∷ rs) h x p fits =
+    let n = r .count in
+    let w = width (r .type) in
+    let parts = packed-parts at end r rs p in
+    let ends : r .offset + n * w ≤ length h = omega (arith, packed-ends (at + n * w) end rs (parts .1), parts .0) in
+    ap₂ (λ (a b : List ℕ). a ++ b) (elements-append n w (r .offset) h x ends) (values-append (at + n * w) end rs h x (parts .1) fits)

@@ -19,6 +19,7 @@ pub mod PieceLaws
 pub mod ReachLaws
 pub mod NormalLaws
 pub mod HeaderLaws
+pub mod Made
 pub mod Rewritten
 pub mod IdLaws
 pub mod IdentityLaws

@@ -96,6 +96,19 @@ partIn ps pixels = ps .pixels
 partIn ps waveform = ps .waveform
 partIn ps (channel c) = []
 
+-- those parts, each by its name
+abbrev pub partsBy : (Part → List ℕ) → Parts
+partsBy f =
+    record {
+      name = f name;
+      text = f text;
+      trajectory = f trajectory;
+      samples = f samples;
+      attributes = f attributes;
+      pixels = f pixels;
+      waveform = f waveform;
+    }
+
 -- the names of those parts
 abbrev pub recordParts : List Part
 recordParts = name ∷ text ∷ trajectory ∷ samples ∷ attributes ∷ pixels ∷ waveform ∷ []

@@ -49,7 +49,7 @@ fitting Acquisition h e = (tt, (tt, (tt, tt)))
 fitting Image h e = (tt, (tt, (tt, (tt, tt))))
 fitting Waveform h e = (tt, (tt, tt))
 
-size-segments : (k : Kind) (h : List ℕ) → sizeOf k h ≡ 2 + total (segmentsOf k h)
+pub size-segments : (k : Kind) (h : List ℕ) → sizeOf k h ≡ 2 + total (segmentsOf k h)
 unfolding sizeOf bodySize
 size-segments k h = omega (arith, total-append (formOf k .fixedSegments) (formOf k .bodySegments h))
 
@@ -60,11 +60,11 @@ module _ (k : Kind) (h : List ℕ) (long : length h ≡ fixedSize k) where
   parts-adjoin = (refl, rw (size-segments k h) (segments-adjoin h 2 (segmentsOf k h) (fitting k h long)))
 
 -- a part that lies somewhere was found by its test
-reach-if : (at n : ℕ) (b : Bool) {e : Extent} → reachIf b at n ≡ lies e → (b ≡ true) × (extent at n ≡ e)
+pub reach-if : (at n : ℕ) (b : Bool) {e : Extent} → reachIf b at n ≡ lies e → (b ≡ true) × (extent at n ≡ e)
 reach-if at n true q = (refl, cc)
 reach-if at n false q = absurd (let z : _≡_ {A = ℕ} 0 1 = cc in omega arith)
 
-or-else : (a b : Reach) {e : Extent} → orElse a b ≡ lies e → (a ≡ lies e) ⊎ (b ≡ lies e)
+pub or-else : (a b : Reach) {e : Extent} → orElse a b ≡ lies e → (a ≡ lies e) ⊎ (b ≡ lies e)
 or-else (lies d) b q = inl q
 or-else lacks b q = inr q
 
@@ -111,7 +111,7 @@ part-within k h long p {e} q =
     (λ b. omega (arith, segments-within p h 2 (segmentsOf k h) (fitting k h long) b, size-segments k h))
     (or-else (reachIf (same p part.id) 0 2) _ q)
 
-not-there : {e : Extent} → lacks ≡ lies e → ⊥
+pub not-there : {e : Extent} → lacks ≡ lies e → ⊥
 not-there q = let z : _≡_ {A = ℕ} 0 1 = cc in omega arith
 
 -- one channel's samples, n of z bytes each, among all of them, from `at` on

@@ -30,7 +30,7 @@ use Rattle.mrd_format.specs.HeaderLaws.{packed, header-written, acquisit
 use Rattle.mrd_format.specs.NormalLaws.{nameBytes, name-short}
 
 -- a part that lies in the message has its size
-part-length : (m : List ℕ) (at n : ℕ) → at + n ≤ length m → length (take n (drop at m)) ≡ n
+pub part-length : (m : List ℕ) (at n : ℕ) → at + n ≤ length m → length (take n (drop at m)) ≡ n
 part-length m at n h = length-take-le n (drop at m) (simp length-drop (omega arith))
 
 -- a length is written as the bytes that it was read from, byte i of a fixed part of z bytes

@@ -37,7 +37,10 @@ impl Kind {
 
     pub const WAVEFORM: u16 = 1026;
 
-    // Sizes of the fixed parts, the id's two bytes not counted.
+    // The bytes of the id.
+    pub const ID_SIZE: usize = 2;
+
+    // Sizes of the fixed parts, the id's bytes not counted.
     pub const NAME_FIXED: usize = 1024;
 
     pub const TEXT_FIXED: usize = 4;

@@ -7,7 +7,8 @@ use mathlib.Core.Bool.{true}
 use mathlib.Core.List.{List, [], _∷_, map}
 use borrow.Author.Tests.{lt-ltb}
 use lib.ListN.{length, getD, take, drop, take-append-drop}
-use Rattle.mrd_logic.specs.Answer.{Verdict, accepted, refused, answered, number, unlessRefused}
+use Rattle.mrd_logic.specs.Lists.{Nth}
+use Rattle.mrd_logic.specs.Answer.{answered, number}
 use Rattle.mrd_format.specs.declared.kind.Kind.{Kind}
 use Rattle.mrd_format.specs.declared.kind.Kind.the-variants.{ConfigurationName, ConfigurationText, HeaderText, Close, Text, Acquisition, Image, Waveform}
 use Rattle.mrd_format.specs.Kinds.{idOf, identified}
@@ -16,13 +17,13 @@ use Rattle.mrd_cursor.specs.declared.cursor.Phase.{Phase}
 use Rattle.mrd_cursor.specs.declared.cursor.Cursor.{Cursor}
 use Rattle.mrd_cursor.specs.Order.{allowed}
 use Rattle.mrd_cursor.specs.Cursors.{maxMessages}
-use Rattle.mrd_stream.specs.Walk.{Trace, trace, answer}
-use Rattle.mrd_stream.specs.Places.{Located, located, places, nth, place, stepAt, step}
+use Rattle.mrd_stream.specs.Walk.{Trace}
+use Rattle.mrd_stream.specs.Places.{Located, located, places, place, stepAt, step}
 use Rattle.mrd_stream.specs.Index.{Entry, entriesOf, entries, startColumn, idColumn}
 use Rattle.mrd_cut.specs.Walked.{Walks, ends, faults, meets, walks}
 use Rattle.mrd_cut.specs.Steps.{step-well}
 use Rattle.mrd_cut.specs.CutPlaces.{partAt}
-use Rattle.mrd_cut.specs.Inside.{Inside, place-inside}
+use Rattle.mrd_cut.specs.Inside.{Inside, place-nth, place-inside}
 use Rattle.mrd_record.specs.AtCursor.{placeBy, placeAt}
 use Rattle.mrd_views.specs.Views.{viewBy, viewOf}
 use Rattle.mrd_fields.specs.Fields.{fieldBy, fieldOf}
@@ -36,52 +37,38 @@ pub record AtRecord (s : List ℕ) (n : ℕ) (c : Cursor) : Type 0 where
   pub views : (p : Part) → viewBy (placeAt c s) p s ≡ viewOf s n p
   pub fields : (o : ℕ) → fieldBy (placeAt c s) o s ≡ fieldOf s n o
 
--- a column has v at place i
-abbrev Has : List ℕ → ℕ → ℕ → Type 0
-Has [] i v = ⊥
-Has (x ∷ xs) zero v = x ≡ v
-Has (x ∷ xs) (suc i) v = Has xs i v
-
-has-read : (xs : List ℕ) (i : ℕ) {v : ℕ} → Has xs i v → (i < length xs) × (getD xs i 0 ≡ v)
-has-read [] i h = absurd h
-has-read (x ∷ xs) zero h = (omega arith, h)
-has-read (x ∷ xs) (suc i) h = let later = has-read xs i h in (omega (arith, later .0), later .1)
+-- what a column has at place i is read there
+nth-read : (xs : List ℕ) (i : ℕ) {v : ℕ} → Nth xs i v → (i < length xs) × (getD xs i 0 ≡ v)
+nth-read [] i h = absurd h
+nth-read (x ∷ xs) zero h = (omega arith, h)
+nth-read (x ∷ xs) (suc i) h = let later = nth-read xs i h in (omega (arith, later .0), later .1)
 
 -- a given column that holds another's numbers has them
-given-has : (m t : List ℕ) (i v : ℕ) → take (length m) t ≡ m → Has m i v → Has t i v
-given-has [] t i v e h = absurd h
-given-has (x ∷ m) [] i v e h = let z : _≡_ {A = ℕ} 0 1 = cc in absurd (omega arith)
-given-has (x ∷ m) (y ∷ t) zero v e h = let head : y ≡ x = cc in head ∙ h
-given-has (x ∷ m) (y ∷ t) (suc i) v e h = given-has m t i v (cc) h
+nth-given : (m t : List ℕ) (i v : ℕ) → take (length m) t ≡ m → Nth m i v → Nth t i v
+nth-given [] t i v e h = absurd h
+nth-given (x ∷ m) [] i v e h = let z : _≡_ {A = ℕ} 0 1 = cc in absurd (omega arith)
+nth-given (x ∷ m) (y ∷ t) zero v e h = let head : y ≡ x = cc in head ∙ h
+nth-given (x ∷ m) (y ∷ t) (suc i) v e h = nth-given m t i v (cc) h
 
 -- the entries es of the records from number n on have the place l of the one that is i further
 record Listed (es : List Entry) (n i : ℕ) (l : Located) : Type 0 where
   numbered : n + i ≡ l .number
   few : l .number < maxMessages
-  starts : Has (map (λ (e : Entry). e .start) es) i (l .start)
-  ids : Has (map (λ (e : Entry). e .id) es) i (idOf (l .kind))
+  starts : Nth (map (λ (e : Entry). e .start) es) i (l .start)
+  ids : Nth (map (λ (e : Entry). e .id) es) i (idOf (l .kind))
 
-nowhere : {l : Located} → number 16 ≡ answered l → ⊥
-nowhere e = let z : _≡_ {A = ℕ} 0 1 = cc in omega arith
-
-walk-listed : {c : Cursor} {s : List ℕ} {r : Trace} → Walks c s r → (i : ℕ) {l : Located} → nth (places r) i ≡ answered l →
+walk-listed : {c : Cursor} {s : List ℕ} {r : Trace} → Walks c s r → (i : ℕ) (l : Located) → Nth (places r) i l →
     Listed (entriesOf r) (c .number) i l
-walk-listed ends i e = absurd (nowhere e)
-walk-listed (faults q) i e = absurd (nowhere e)
-walk-listed (meets {c} {m} w a n v) zero {l} e =
-    let same : located c (w .kind) m ≡ l = cc in
-    rw (← same) (record { numbered = omega arith; few = n; starts = refl; ids = refl })
-walk-listed (meets {c} {m} w a n v) (suc i) e =
-    let later = walk-listed v i e in
+walk-listed ends i l h = absurd h
+walk-listed (faults q) i l h = absurd h
+walk-listed (meets {c} {m} w a n v) zero l h = rw (← h) (record { numbered = omega arith; few = n; starts = refl; ids = refl })
+walk-listed (meets {c} {m} w a n v) (suc i) l h =
+    let later = walk-listed v i l h in
     record { numbered = omega (arith, later .numbered); few = later .few; starts = later .starts; ids = later .ids }
 
 place-listed : (s : List ℕ) (n : ℕ) {l : Located} → place s n ≡ answered l → Listed (entries s) 0 n l
-unfolding place entries
-place-listed s n {l} e = by (answer s) e
-  where
-    by : (v : Verdict) → unlessRefused v (nth (places (trace s)) n) ≡ answered l → Listed (entriesOf (trace s)) 0 n l
-    by (accepted k) q = walk-listed (walks s) n q
-    by (refused f r b) q = let z : _≡_ {A = ℕ} 0 1 = cc in absurd (omega arith)
+unfolding entries
+place-listed s n {l} e = walk-listed (walks s) n l (place-nth s n e)
 
 -- the order allows a message in the phase that its id gives
 phase-allows : (k : Kind) → allowed k (phaseFor (identified (idOf k))) ≡ true
@@ -112,8 +99,8 @@ pub indexed-cursor : (s starts ids counters : List ℕ) → Held s starts ids co
 unfolding cursorFor viewOf fieldOf startColumn idColumn
 indexed-cursor s starts ids counters h n {l} e =
     let x = place-listed s n e in
-    let start = has-read starts n (given-has (startColumn s) starts n (l .start) (h .by-starts) (x .starts)) in
-    let id = has-read ids n (given-has (idColumn s) ids n (idOf (l .kind)) (h .by-ids) (x .ids)) in
+    let start = nth-read starts n (nth-given (startColumn s) starts n (l .start) (h .by-starts) (x .starts)) in
+    let id = nth-read ids n (nth-given (idColumn s) ids n (idOf (l .kind)) (h .by-ids) (x .ids)) in
     let own : n ≡ l .number = omega (arith, x .numbered) in
     let c : Cursor = record { number = l .number; start = l .start; phase = phaseFor (identified (idOf (l .kind))) } in
     let here : placeAt c s ≡ place s n = at-start s l (place-inside s n e) (c .phase) (phase-allows (l .kind)) (x .few) ∙ sym e in (

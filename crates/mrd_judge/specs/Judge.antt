@@ -1,13 +1,13 @@
 -- What judging the message at the front of some bytes finds: 'the first faulty' check decides, and a message that passes all is whole.
 -- Assumes nothing.
-use Prim.Native.Nat.{ℕ, zero, suc}
+use Prim.Native.Nat.{ℕ}
 use mathlib.Core.List.{List, _++_}
 use Rattle.mrd_format.specs.declared.kind.Kind.{Kind}
 use Rattle.mrd_format.specs.declared.kind.Identified.{Identified}
 use Rattle.mrd_format.specs.declared.kind.Identified.the-variants.{Known, Unknown}
 use Rattle.mrd_format.specs.Kinds.{identified}
 use Rattle.mrd_format.specs.Message.{idAt, fixedPart, sizeOf}
-use Rattle.mrd_logic.specs.Checks.{first}
+use Rattle.mrd_logic.specs.Checks.{first, unless}
 use Rattle.mrd_cursor.specs.declared.cursor.Cursor.{Cursor}
 use Rattle.mrd_judge.specs.declared.stages.Judgement.{Judgement}
 use Rattle.mrd_judge.specs.declared.stages.Judgement
@@ -23,13 +23,9 @@ abbrev pub judgementMeaning : Judgement → Judged
 judgementMeaning (Judgement.Whole k z) = whole k z
 judgementMeaning (Judgement.Faulty n) = faulty n
 
-abbrev pub unless : ℕ → Kind → ℕ → Judged
-unless zero k z = whole k z
-unless (suc f) k z = faulty (suc f)
-
 unfoldable pub judgeAs : Identified → Cursor → List ℕ → Judged
 judgeAs Unknown c t = faulty (first (checksAs Unknown c t))
-judgeAs (Known k) c t = unless (first (checksAs (Known k) c t)) k (sizeOf k (fixedPart k t))
+judgeAs (Known k) c t = unless (first (checksAs (Known k) c t)) faulty (whole k (sizeOf k (fixedPart k t)))
 
 -- the message at the front of t, which is not empty, judged where the walk is at c
 unfoldable pub judge : Cursor → List ℕ → Judged
@@ -38,4 +34,4 @@ judge c t = judgeAs (identified (idAt t)) c t
 -- a message of kind k by its last two stages alone
 unfoldable pub judgeBody : Kind → List ℕ → Judged
 judgeBody k t =
-    unless (first (fixedChecks k t ++ sizeChecks (sizeOf k (fixedPart k t)) t)) k (sizeOf k (fixedPart k t))
+    unless (first (fixedChecks k t ++ sizeChecks (sizeOf k (fixedPart k t)) t)) faulty (whole k (sizeOf k (fixedPart k t)))

@@ -16,11 +16,11 @@ use Rattle.mrd_format.specs.Kinds.{fixedSize}
 use Rattle.mrd_format.specs.OwnCheckLaws.{own-numbered}
 use Rattle.mrd_format.specs.Message.{limit, fixedPart, sizeOf}
 use Rattle.mrd_format.specs.Sizes.{capped}
-use Rattle.mrd_logic.specs.Checks.{Check, first}
-use Rattle.mrd_logic.specs.CheckLaws.{first-skip, first-passed, first-stops, numbered}
+use Rattle.mrd_logic.specs.Checks.{Check, first, unless}
+use Rattle.mrd_logic.specs.CheckLaws.{first-passed, first-stops, first-next, numbered, unless-refused, unless-stops}
 use Rattle.mrd_cursor.specs.declared.cursor.Cursor.{Cursor}
 use Rattle.mrd_judge.specs.Stages.{frontChecks, idChecks, fixedChecks, sizeChecks, id, fixed, size, checksOf, checksAs}
-use Rattle.mrd_judge.specs.Judge.{Judged, faulty, whole, unless, judgeAs, judgeBody}
+use Rattle.mrd_judge.specs.Judge.{Judged, faulty, whole, judgeAs, judgeBody}
 
 -- a fixed part that fits is as long as its kind's
 pub fixed-long : (k : Kind) (t : List ℕ) → 2 + fixedSize k ≤ length t → length (fixedPart k t) ≡ fixedSize k
@@ -30,21 +30,18 @@ fixed-long k t h = length-take-le (fixedSize k) (drop 2 t) (simp length-drop (om
 -- the judgement that the first of some checks leads to
 abbrev judgedBy : Identified → ℕ → List ℕ → Judged
 judgedBy Unknown f t = faulty f
-judgedBy (Known k) f t = unless f k (sizeOf k (fixedPart k t))
+judgedBy (Known k) f t = unless f faulty (whole k (sizeOf k (fixedPart k t)))
 
 judged-by : (i : Identified) (c : Cursor) (t : List ℕ) → judgeAs i c t ≡ judgedBy i (first (checksAs i c t)) t
 unfolding judgeAs
 judged-by Unknown c t = refl
 judged-by (Known k) c t = refl
 
--- checks that refuse decide; checks that pass leave it to the next
+-- checks that refuse decide, with a kind or without
 stopped : (i : Identified) (t : List ℕ) (cs ds : List Check) {f : ℕ} → first cs ≡ f → (f ≡ 0 → ⊥) → judgedBy i (first (cs ++ ds)) t ≡ faulty f
-stopped i t cs ds {f = zero} e n = absurd (n refl)
+stopped Unknown t cs ds {f = zero} e n = absurd (n refl)
 stopped Unknown t cs ds {f = suc f} e n = ap faulty (first-stops cs ds e)
-stopped (Known k) t cs ds {f = suc f} e n = ap (λ (x : ℕ). judgedBy (Known k) x t) (first-stops cs ds e)
-
-passed : (cs ds : List Check) → numbered cs ≡ true → first cs ≡ 0 → first (cs ++ ds) ≡ first ds
-passed cs ds n e = first-skip cs ds (first-passed cs n e)
+stopped (Known k) t cs ds e n = unless-stops cs ds faulty (whole k (sizeOf k (fixedPart k t))) e n
 
 front-numbered : (c : Cursor) (t : List ℕ) → numbered (frontChecks c t) ≡ true
 unfolding frontChecks
@@ -77,7 +74,7 @@ module _ (i : Identified) (c : Cursor) (t : List ℕ) where
     unfolding checksAs
     front-passed =
         judged-by i c t ∙ ap (λ (f : ℕ). judgedBy i f t)
-        (passed (frontChecks c t) (checksOf (id ∷ fixed ∷ size ∷ []) i c t) (front-numbered c t) front)
+        (first-next (frontChecks c t) (checksOf (id ∷ fixed ∷ size ∷ []) i c t) (front-numbered c t) front)
 
     pub id-stops : {f : ℕ} → first (idChecks i c) ≡ f → (f ≡ 0 → ⊥) → judgeAs i c t ≡ faulty f
     id-stops e n = front-passed ∙ stopped i t (idChecks i c) (checksOf (fixed ∷ size ∷ []) i c t) e n
@@ -94,7 +91,7 @@ pub id-passed : (k : Kind) (c : Cursor) (t : List ℕ) → first (frontChecks c 
 unfolding judgeBody sizeChecks
 id-passed k c t front e =
     front-passed (Known k) c t front ∙
-    ap (λ (f : ℕ). judgedBy (Known k) f t) (passed (idChecks (Known k) c) (checksOf (fixed ∷ size ∷ []) (Known k) c t) (id-numbered (Known k) c) e)
+    ap (λ (f : ℕ). judgedBy (Known k) f t) (first-next (idChecks (Known k) c) (checksOf (fixed ∷ size ∷ []) (Known k) c t) (id-numbered (Known k) c) e)
 
 -- the checks of a size tell a capped size from no other
 capped-size : (z : ℕ) (t : List ℕ) → first (sizeChecks (capped z) t) ≡ first (sizeChecks z t)
@@ -117,16 +114,15 @@ module _ (k : Kind) (t : List ℕ) where
     fixed-fits = ltb-false (length t) (2 + fixedSize k) (first-passed (fixedChecks k t) (fixed-numbered k t) e .0)
 
     module _ {z : ℕ} (sized : z ≡ capped (sizeOf k (fixedPart k t))) where
-      by-size : judgeBody k t ≡ unless (first (sizeChecks z t)) k (sizeOf k (fixedPart k t))
+      by-size : judgeBody k t ≡ unless (first (sizeChecks z t)) faulty (whole k (sizeOf k (fixedPart k t)))
       unfolding judgeBody
       by-size =
           let same : first (sizeChecks z t) ≡ first (sizeChecks (sizeOf k (fixedPart k t)) t) = rw sized (capped-size (sizeOf k (fixedPart k t)) t) in
           ap (λ (f : ℕ). judgedBy (Known k) f t)
-          (passed (fixedChecks k t) (sizeChecks (sizeOf k (fixedPart k t)) t) (fixed-numbered k t) e ∙ sym same)
+          (first-next (fixedChecks k t) (sizeChecks (sizeOf k (fixedPart k t)) t) (fixed-numbered k t) e ∙ sym same)
 
       pub size-stops : {f : ℕ} → first (sizeChecks z t) ≡ f → (f ≡ 0 → ⊥) → judgeBody k t ≡ faulty f
-      size-stops {f = zero} q n = absurd (n refl)
-      size-stops {f = suc f} q n = by-size ∙ rw q
+      size-stops {f} q n = by-size ∙ rw q (unless-refused f faulty (whole k (sizeOf k (fixedPart k t))) n)
 
       pub size-passed : first (sizeChecks z t) ≡ 0 → judgeBody k t ≡ whole k z
       unfolding sizeChecks

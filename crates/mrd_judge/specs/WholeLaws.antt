@@ -1,7 +1,7 @@
 -- What judging finds, said of the bytes: a whole message passes every check, which is to be well formed, in order and
 -- within the count; a refusal's number is that of the first check that refuses.
 -- Assumes nothing.
-use Prim.Native.Nat.{ℕ, zero, suc, _+_, _≤_, _<_}
+use Prim.Native.Nat.{ℕ, _+_, _≤_, _<_}
 use native.Mathlib.Omega.{arith}
 use mathlib.Core.Path.{_≡_, refl, sym, ap, _∙_}
 use mathlib.Core.Bool.{true, false, not, true≢false}
@@ -21,10 +21,10 @@ use Rattle.mrd_cursor.specs.declared.cursor.Cursor.{Cursor}
 use Rattle.mrd_cursor.specs.Order.{allowed}
 use Rattle.mrd_cursor.specs.Cursors.{maxMessages}
 use Rattle.mrd_judge.specs.Stages.{frontChecks, idChecks, fixedChecks, sizeChecks, checksAs}
-use Rattle.mrd_judge.specs.Judge.{faulty, whole, unless, judgeAs, judge}
-use Rattle.mrd_logic.specs.Every.{Every}
+use Rattle.mrd_judge.specs.Judge.{faulty, whole, judgeAs, judge}
+use Rattle.mrd_logic.specs.Every.{Every, every-split, every-append}
 use Rattle.mrd_cursor.specs.OrderLaws.{allowed-open}
-use Rattle.mrd_logic.specs.CheckLaws.{numbered, first-passed, passed-first, first-fault, fault-first, numbered-append, every-split, every-append, fault-not-zero}
+use Rattle.mrd_logic.specs.CheckLaws.{numbered, first-passed, passed-first, first-fault, fault-first, numbered-append, fault-not-zero, unless-refused, unless-passed, unless-fault}
 use Rattle.mrd_format.specs.OwnCheckLaws.{own-numbered}
 
 -- the message at the front of t, of kind k and size z, passes every check where the walk is at c
@@ -51,7 +51,7 @@ module _ (c : Cursor) (t : List ℕ) (k : Kind) where
   passed-facts e p =
       let own = ownChecks k (fixedPart k t) in
       let z = sizeOf k (fixedPart k t) in
-      let late = every-split own (sizeChecks z t) (p .1 .1 .1 .1 .1) in
+      let late = every-split Passed own (sizeChecks z t) (p .1 .1 .1 .1 .1) in
       record {
         counted = leb-false maxMessages (c .number) (p .1 .0);
         known = e;
@@ -70,7 +70,7 @@ module _ (c : Cursor) (t : List ℕ) (k : Kind) where
       let small : sizeOf k (fixedPart k t) ≤ limit = rw (w .size) (w .small) in
       let fits : sizeOf k (fixedPart k t) ≤ length t = rw (w .size) (w .fits) in
       let passed : Every Passed own = first-passed own (own-numbered k (fixedPart k t)) (w .sound) in
-      let late = every-append own (sizeChecks (sizeOf k (fixedPart k t)) t) passed (le-ltb _ _ small, (le-ltb _ _ fits, tt)) in
+      let late = every-append Passed own (sizeChecks (sizeOf k (fixedPart k t)) t) passed (le-ltb _ _ small, (le-ltb _ _ fits, tt)) in
       let two : eqb (length t) 1 ≡ false = ne-eqb (length t) 1 (λ e. omega arith) in
       (allowed-open k (c .phase) (w .ordered), (lt-leb _ _ (w .counted), (two, (ap not (w .ordered), (le-ltb _ _ least, late)))))
 
@@ -83,15 +83,6 @@ unknown-refused c t e = true≢false (first-passed (checksAs Unknown c t) refl e
 not-both : {f : ℕ} {k : Kind} {z : ℕ} → faulty f ≡ whole k z → ⊥
 not-both e = let z : _≡_ {A = ℕ} 0 1 = cc in omega arith
 
--- which judgement a number leads to
-unless-whole : (n : ℕ) (j : Kind) (y : ℕ) {k : Kind} {z : ℕ} → unless n j y ≡ whole k z → (n ≡ 0) × (j ≡ k) × (y ≡ z)
-unless-whole zero j y e = (refl, cc, cc)
-unless-whole (suc n) j y e = absurd (not-both e)
-
-unless-faulty : (n : ℕ) (j : Kind) (y : ℕ) {f : ℕ} → unless n j y ≡ faulty f → (n ≡ f) × (f ≡ 0 → ⊥)
-unless-faulty zero j y e = absurd (not-both (sym e))
-unless-faulty (suc n) j y {f} e = let s : suc n ≡ f = cc in (s, λ z. omega arith)
-
 -- what is judged whole passes every check
 pub judge-whole : (c : Cursor) (t : List ℕ) {k : Kind} {z : ℕ} → judge c t ≡ whole k z → WholeAt c t k z
 unfolding judge judgeAs
@@ -100,8 +91,10 @@ judge-whole c t {k} {z} e = by-id (identified (idAt t)) refl e
     by-id : (i : Identified) → identified (idAt t) ≡ i → judgeAs i c t ≡ whole k z → WholeAt c t k z
     by-id Unknown n e = absurd (not-both e)
     by-id (Known j) n e =
-        let u = unless-whole (first (checksAs (Known j) c t)) j (sizeOf j (fixedPart j t)) e in
-        rw (← u .1, ← u .2) (passed-facts c t j n (first-passed (checksAs (Known j) c t) (all-numbered (Known j) c t) (u .0)))
+        let u = unless-passed (first (checksAs (Known j) c t)) faulty (whole j (sizeOf j (fixedPart j t))) (λ f. not-both) e in
+        let kind : j ≡ k = cc (u .1) in
+        let size : sizeOf j (fixedPart j t) ≡ z = cc (u .1) in
+        rw (← kind, ← size) (passed-facts c t j n (first-passed (checksAs (Known j) c t) (all-numbered (Known j) c t) (u .0)))
 
 -- what passes every check is judged whole
 pub whole-judge : (c : Cursor) (t : List ℕ) {k : Kind} {z : ℕ} → WholeAt c t k z → judge c t ≡ whole k z
@@ -118,12 +111,9 @@ judge-faulty c t {f} e = by-id (identified (idAt t)) e
         let n : first (checksAs Unknown c t) ≡ f = cc in
         first-fault (checksAs Unknown c t) f n (λ z. unknown-refused c t (n ∙ z))
     by-id (Known k) e =
-        let u = unless-faulty (first (checksAs (Known k) c t)) k (sizeOf k (fixedPart k t)) e in
-        first-fault (checksAs (Known k) c t) f (u .0) (u .1)
-
-unless-fault : (n : ℕ) (k : Kind) (z : ℕ) → (n ≡ 0 → ⊥) → unless n k z ≡ faulty n
-unless-fault zero k z h = absurd (h refl)
-unless-fault (suc n) k z h = refl
+        let u = unless-fault (first (checksAs (Known k) c t)) faulty (whole k (sizeOf k (fixedPart k t))) (λ w. not-both (sym w)) e in
+        let n : first (checksAs (Known k) c t) ≡ f = cc (u .0) in
+        first-fault (checksAs (Known k) c t) f n (λ z. u .1 (n ∙ z))
 
 -- where a check refuses, the message is judged faulty by the first that does
 pub faulty-judge : (c : Cursor) (t : List ℕ) {f : ℕ} → FirstFault f (checksAs (identified (idAt t)) c t) → judge c t ≡ faulty f
@@ -134,7 +124,7 @@ faulty-judge c t {f} r = by-id (identified (idAt t)) r
     by-id Unknown r = ap faulty (fault-first (checksAs Unknown c t) r)
     by-id (Known k) r =
         let n = fault-not-zero (checksAs (Known k) c t) (all-numbered (Known k) c t) r in
-        rw (fault-first (checksAs (Known k) c t) r) (unless-fault f k (sizeOf k (fixedPart k t)) n)
+        rw (fault-first (checksAs (Known k) c t) r) (unless-refused f faulty (whole k (sizeOf k (fixedPart k t))) n)
 
 -- the bytes of a whole message are a well-formed message
 abbrev pub wellFormed : (c : Cursor) (t : List ℕ) {k : Kind} {z : ℕ} → WholeAt c t k z → WellFormed (take z t)

@@ -103,7 +103,7 @@ pub fn judge_fixed(kind: Kind, t: &[u8]) -> u8
     requires { ⌜ 2 ≤ length (now t) ⌝ }
     ensures { λ r. ⌜ r ≡ first (fixedChecks kind (now (t .entry))) ⌝ }
 {
-    if t.len() - 2 < kind.fixed_size() {
+    if t.len() - Kind::ID_SIZE < kind.fixed_size() {
         return refusal::FIXED_PART_CUT;
     }
     mrd_message::fault(kind, fixed_part(kind, t))
@@ -127,6 +127,6 @@ pub fn fixed_part(kind: Kind, t: &[u8]) -> &[u8]
     requires { ⌜ 2 + fixedSize kind ≤ length (now t) ⌝ }
     ensures { λ r. ⌜ now r ≡ fixedPart kind (now (t .entry)) ⌝ }
 {
-    let end = 2 + kind.fixed_size();
-    &t[2..end]
+    let end = Kind::ID_SIZE + kind.fixed_size();
+    &t[Kind::ID_SIZE..end]
 }

@@ -5,8 +5,8 @@ use native.Mathlib.Nat.{suc-ne-zero}
 use mathlib.Core.Path.{_≡_, refl, sym, ap, _∙_}
 use mathlib.Core.Bool.{Bool, true, false, true≢false, false≢true}
 use mathlib.Core.List.{List, [], _∷_, _++_, append-nil}
-use Rattle.mrd_logic.specs.Every.{Every}
-use Rattle.mrd_logic.specs.Checks.{Check, _when_, first, Passed, FirstFault}
+use Rattle.mrd_logic.specs.Every.{Every, every-split}
+use Rattle.mrd_logic.specs.Checks.{Check, _when_, first, unless, Passed, FirstFault}
 
 -- whether no check has the number 0, which stands for 'no refusal'
 abbrev pub numbered : List Check → Bool
@@ -51,23 +51,39 @@ numbered-append [] ds n o = o
 numbered-append ((zero when b) ∷ cs) ds n o = n
 numbered-append ((suc f when b) ∷ cs) ds n o = numbered-append cs ds n o
 
--- every check of two lists passed exactly when every check of each did
-pub every-split : (cs ds : List Check) → Every Passed (cs ++ ds) → Every Passed cs × Every Passed ds
-every-split [] ds p = (tt, p)
-every-split (a ∷ cs) ds p = let r = every-split cs ds (p .1) in ((p .0, r .0), r .1)
-
-pub every-append : (cs ds : List Check) → Every Passed cs → Every Passed ds → Every Passed (cs ++ ds)
-every-append [] ds p q = q
-every-append (a ∷ cs) ds p q = (p .0, every-append cs ds (p .1) q)
-
 -- a fault's number is not 0
 pub fault-not-zero : (cs : List Check) {f : ℕ} → numbered cs ≡ true → FirstFault f cs → f ≡ 0 → ⊥
 fault-not-zero cs {f} n r z =
     let p : Every Passed cs = first-passed cs n (fault-first cs r ∙ z) in
-    true≢false (every-split (r .earlier) ((f when true) ∷ r .later) (rw (r .all) at p) .1 .0)
+    true≢false (every-split Passed (r .earlier) ((f when true) ∷ r .later) (rw (r .all) at p) .1 .0)
 
 -- where one of the first checks refuses, it decides
 pub first-stops : (cs ds : List Check) {f : ℕ} → first cs ≡ suc f → first (cs ++ ds) ≡ suc f
 first-stops [] ds {f} e = absurd (suc-ne-zero f (sym e))
 first-stops ((g when true) ∷ cs) ds e = e
 first-stops ((g when false) ∷ cs) ds e = first-stops cs ds e
+
+-- and where all of them pass, the next do
+pub first-next : (cs ds : List Check) → numbered cs ≡ true → first cs ≡ 0 → first (cs ++ ds) ≡ first ds
+first-next cs ds n e = first-skip cs ds (first-passed cs n e)
+
+-- a number that is not 0 is refused with
+pub unless-refused : {A : Type 0} (f : ℕ) (refusal : ℕ → A) (a : A) → (f ≡ 0 → ⊥) → unless f refusal a ≡ refusal f
+unless-refused zero refusal a n = absurd (n refl)
+unless-refused (suc f) refusal a n = refl
+
+pub unless-stops : {A : Type 0} (cs ds : List Check) (refusal : ℕ → A) (a : A) {f : ℕ} → first cs ≡ f → (f ≡ 0 → ⊥) →
+    unless (first (cs ++ ds)) refusal a ≡ refusal f
+unless-stops cs ds refusal a {f = zero} e n = absurd (n refl)
+unless-stops cs ds refusal a {f = suc f} e n = rw (first-stops cs ds e)
+
+-- what is no refusal was answered, and what is not answered is the refusal
+pub unless-passed : {A : Type 0} (f : ℕ) (refusal : ℕ → A) (a : A) {b : A} → ((n : ℕ) → refusal n ≡ b → ⊥) → unless f refusal a ≡ b →
+    (f ≡ 0) × (a ≡ b)
+unless-passed zero refusal a never e = (refl, e)
+unless-passed (suc f) refusal a never e = absurd (never (suc f) e)
+
+pub unless-fault : {A : Type 0} (f : ℕ) (refusal : ℕ → A) (a : A) {b : A} → (a ≡ b → ⊥) → unless f refusal a ≡ b →
+    (refusal f ≡ b) × (f ≡ 0 → ⊥)
+unless-fault zero refusal a never e = absurd (never e)
+unless-fault (suc f) refusal a never e = (e, suc-ne-zero f)

@@ -1,6 +1,6 @@
 -- 'Order of checks': a list of checks in order, each with the number it refuses with. The first that refuses decides.
 -- Assumes nothing.
-use Prim.Native.Nat.{ℕ}
+use Prim.Native.Nat.{ℕ, zero, suc}
 use mathlib.Core.Path.{_≡_}
 use mathlib.Core.Bool.{Bool, true, false}
 use mathlib.Core.List.{List, [], _∷_, _++_}
@@ -16,6 +16,11 @@ abbrev pub first : List Check → ℕ
 first [] = 0
 first ((n when true) ∷ cs) = n
 first ((n when false) ∷ cs) = first cs
+
+-- what is answered where the number of the first check that refuses is 0, else the refusal with that number
+abbrev pub unless : {A : Type 0} → ℕ → (ℕ → A) → A → A
+unless zero refusal a = a
+unless (suc f) refusal a = refusal (suc f)
 
 -- a check that does not refuse
 abbrev pub Passed : Check → Type 0

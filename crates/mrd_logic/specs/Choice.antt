@@ -23,8 +23,3 @@ either false b e = inr e
 pub neither : (a b : Bool) → (a || b) ≡ false → (a ≡ false) × (b ≡ false)
 neither true b e = absurd (true≢false e)
 neither false b e = (refl, e)
-
--- a test that does not hold fails
-pub is-false : (a : Bool) → (a ≡ true → ⊥) → a ≡ false
-is-false true h = absurd (h refl)
-is-false false h = refl

@@ -62,7 +62,7 @@ pub fn size(kind: Kind, h: &[u8]) -> usize
     requires { ⌜ length (now h) ≡ fixedSize kind ⌝ }
     ensures { λ r. ⌜ r ≡ capped (sizeOf kind (now (h .entry))) ⌝ }
 {
-    let all = 2 + kind.fixed_size() + body_size(kind, h);
+    let all = Kind::ID_SIZE + kind.fixed_size() + body_size(kind, h);
     cap(all as u64) as usize
 }
 

@@ -30,9 +30,6 @@ pub enum Sought {
     Lacks,
 }
 
-// The bytes of the id, before the fixed part.
-const ID_SIZE: usize = 2;
-
 fn lies(offset: usize, size: usize) -> Sought
     ensures { λ r. ⌜ soughtMeaning r ≡ lies (extent offset size) ⌝ }
 {
@@ -63,7 +60,7 @@ fn in_name(h: &[u8], part: Part) -> Sought
     ensures { λ r. ⌜ soughtMeaning r ≡ extentOf (partMeaning part) Kind.ConfigurationName (now (h .entry)) ⌝ }
 {
     match part {
-        Part::Name => lies(ID_SIZE, mrd_message::name_length(h)),
+        Part::Name => lies(Kind::ID_SIZE, mrd_message::name_length(h)),
         _ => Sought::Lacks,
     }
 }
@@ -74,7 +71,10 @@ fn in_text(h: &[u8], part: Part) -> Sought
     ensures { λ r. ⌜ soughtMeaning r ≡ extentOf (partMeaning part) Kind.Text (now (h .entry)) ⌝ }
 {
     match part {
-        Part::Text => lies(ID_SIZE + Kind::TEXT_FIXED, mrd_message::text_length(h)),
+        Part::Text => lies(
+            Kind::ID_SIZE + Kind::TEXT_FIXED,
+            mrd_message::text_length(h),
+        ),
         _ => Sought::Lacks,
     }
 }
@@ -86,7 +86,7 @@ fn in_acquisition(h: &[u8], part: Part) -> Sought
 {
     match part {
         Part::Trajectory => lies(
-            ID_SIZE + Kind::ACQUISITION_FIXED,
+            Kind::ID_SIZE + Kind::ACQUISITION_FIXED,
             mrd_acquisition::trajectory_size(h),
         ),
         Part::Channel(c) => channel(h, c),
@@ -103,7 +103,7 @@ fn channel(h: &[u8], c: usize) -> Sought
         return Sought::Lacks;
     }
     let samples = mrd_acquisition::channel_size(h);
-    let first = ID_SIZE + Kind::ACQUISITION_FIXED + mrd_acquisition::trajectory_size(h);
+    let first = Kind::ID_SIZE + Kind::ACQUISITION_FIXED + mrd_acquisition::trajectory_size(h);
     lies(first + c * samples, samples)
 }
 
@@ -113,7 +113,7 @@ fn in_image(h: &[u8], size: usize, part: Part) -> Sought
     ensures { λ r. ⌜ soughtMeaning r ≡ extentOf (partMeaning part) Kind.Image (now (h .entry)) ⌝ }
 {
     let attributes = mrd_image::attribute_length(h) as usize;
-    let after = ID_SIZE + Kind::IMAGE_FIXED;
+    let after = Kind::ID_SIZE + Kind::IMAGE_FIXED;
     match part {
         Part::Attributes => lies(after, attributes),
         Part::Pixels => lies(after + attributes, size - after - attributes),
@@ -126,7 +126,7 @@ fn in_waveform(h: &[u8], size: usize, part: Part) -> Sought
     requires { ⌜ Sized Kind.Waveform (now h) size ⌝ }
     ensures { λ r. ⌜ soughtMeaning r ≡ extentOf (partMeaning part) Kind.Waveform (now (h .entry)) ⌝ }
 {
-    let after = ID_SIZE + Kind::WAVEFORM_FIXED;
+    let after = Kind::ID_SIZE + Kind::WAVEFORM_FIXED;
     match part {
         Part::Waveform => lies(after, size - after),
         _ => Sought::Lacks,

@@ -8,6 +8,7 @@ ghost use Rattle.mrd_cut.specs.CutPlaces.{partAt};
 ghost use Rattle.mrd_cut.specs.Inside.{Inside};
 ghost use Rattle.mrd_record.specs.AtCursor.{placeBy, placeAt};
 use mrd_cursor::Cursor;
+use mrd_format::Kind;
 use mrd_format::refusal;
 use mrd_stream::Checked;
 use mrd_stream::Placed;
@@ -43,10 +44,7 @@ pub fn fixed_part(s: &[u8], here: PlacedRecord) -> &[u8]
 {
     let place = here.place;
     let shape = here.shape;
-    let from = place.start + ID_SIZE;
+    let from = place.start + Kind::ID_SIZE;
     let to = from + shape.kind().fixed_size();
     &s[from..to]
 }
-
-// The bytes of the id, before the fixed part.
-const ID_SIZE: usize = 2;

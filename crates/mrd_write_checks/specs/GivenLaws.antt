@@ -1,6 +1,6 @@
 -- What judging the given bytes finds, one law for each place in the order of checks.
 -- Assumes nothing.
-use Prim.Native.Nat.{ℕ, zero, suc, _+_, _-_, _*_, _≤_, _<_}
+use Prim.Native.Nat.{ℕ, _+_, _-_, _*_, _≤_, _<_}
 use native.Mathlib.Omega.{arith}
 use mathlib.Core.Path.{_≡_, refl, sym, ap, _∙_}
 use mathlib.Core.Bool.{Bool, true, false, not}
@@ -11,9 +11,10 @@ use borrow.Author.Tests.{lt-ltb, le-ltb, eq-eqb, ne-eqb}
 use Rattle.bytes.specs.Bytes.{indexOf}
 use Rattle.mrd_format.specs.declared.kind.Kind.{Kind}
 use Rattle.mrd_format.specs.declared.kind.Kind.the-variants.{ConfigurationName, ConfigurationText, HeaderText, Close, Text, Acquisition, Image, Waveform}
-use Rattle.mrd_logic.specs.Answer.{Answer, answered, number}
-use Rattle.mrd_logic.specs.Checks.{Check, _when_, first}
-use Rattle.mrd_logic.specs.CheckLaws.{numbered, first-skip, first-passed, first-stops, numbered-append}
+use Rattle.mrd_logic.specs.Answer.{answered, number}
+use Rattle.mrd_logic.specs.AnswerLaws.{answered-not-number}
+use Rattle.mrd_logic.specs.Checks.{Check, _when_, first, unless}
+use Rattle.mrd_logic.specs.CheckLaws.{numbered, numbered-append, first-next, unless-stops, unless-passed, unless-fault}
 use Rattle.mrd_format.specs.OwnCheckLaws as format
 use Rattle.mrd_format.specs.Acquisition as acquisition
 use Rattle.mrd_format.specs.Image as image
@@ -24,28 +25,20 @@ use Rattle.mrd_format.specs.Message as message
 use Rattle.mrd_format.specs.Message.{limit}
 use Rattle.mrd_write_checks.specs.declared.lengths.Lengths.{Lengths}
 use Rattle.mrd_write_checks.specs.Sized.{sized, nameSized, textSized, sizedBy}
-use Rattle.mrd_write_checks.specs.WriteChecks.{nameUnfit, ownChecks, sizeOf, partLengths, dueLengths, sameLengths, sizedChecks, contentsChecks, unless, judged}
-
--- an answer is one or the other
-pub answered-not-number : {z x : ℕ} → _≡_ {A = Answer ℕ} (answered z) (number x) → ⊥
-answered-not-number e = let z : _≡_ {A = ℕ} 0 1 = cc in omega arith
+use Rattle.mrd_write_checks.specs.WriteChecks.{nameUnfit, ownChecks, sizeOf, partLengths, dueLengths, sameLengths, sizedChecks, contentsChecks, judged}
 
 -- where a number is answered, no check refused
-pub unless-answered : (f z : ℕ) {y : ℕ} → unless f z ≡ answered y → (f ≡ 0) × (z ≡ y)
-unless-answered zero z e = (refl, cc)
-unless-answered (suc f) z e = absurd (answered-not-number (sym e))
+pub unless-answered : (f z : ℕ) {y : ℕ} → unless f number (answered z) ≡ answered y → (f ≡ 0) × (z ≡ y)
+unless-answered f z e =
+    let p = unless-passed f number (answered z) (λ n q. answered-not-number (sym q)) e in
+    (p .0, cc (p .1))
 
--- more checks than those of cs: where one of them refuses it decides, and where none does the others decide
-module _ (cs ds : List Check) (all : numbered cs ≡ true) where
-  pub unless-number : (y z : ℕ) {x : ℕ} → unless (first cs) y ≡ number x → unless (first (cs ++ ds)) z ≡ number x
-  unless-number y z {x} e = by-first (first cs) refl e
-    where
-      by-first : (f : ℕ) → first cs ≡ f → unless f y ≡ number x → unless (first (cs ++ ds)) z ≡ number x
-      by-first zero p e = absurd (answered-not-number e)
-      by-first (suc f) p e = rw (first-stops cs ds p) (cc)
-
-  pub unless-passed : first cs ≡ 0 → first (cs ++ ds) ≡ first ds
-  unless-passed e = first-skip cs ds (first-passed cs all e)
+-- where one of some checks refuses, it decides among more
+pub unless-number : (cs ds : List Check) (y z : ℕ) {x : ℕ} → unless (first cs) number (answered y) ≡ number x →
+    unless (first (cs ++ ds)) number (answered z) ≡ number x
+unless-number cs ds y z e =
+    let p = unless-fault (first cs) number (answered y) answered-not-number e in
+    unless-stops cs ds number (answered z) refl (p .1) ∙ p .0
 
 -- no check has the number 0
 own-numbered : (k : Kind) (h name : List ℕ) (n : Lengths) → numbered (ownChecks k h name n) ≡ true
@@ -76,14 +69,14 @@ judged-header k h name n d = rw (ne-eqb _ _ d)
 module _ (k : Kind) (h name : List ℕ) (n : Lengths) (e : length h ≡ headerSize k) where
   pub judged-refused : {x : ℕ} → sized k h name n ≡ number x → judged k h name n ≡ number x
   unfolding judged contentsChecks sized
-  judged-refused p = rw (eq-eqb _ _ e) (unless-number (sizedChecks k h name n) _ (sized-numbered k h name n) (sizeOf k h n) (sizeOf k h n) p)
+  judged-refused p = rw (eq-eqb _ _ e) (unless-number (sizedChecks k h name n) _ (sizeOf k h n) (sizeOf k h n) p)
 
   pub judged-sized : {z : ℕ} → sized k h name n ≡ answered z →
-      judged k h name n ≡ unless (first ((18 when not (sameLengths n (dueLengths k h n))) ∷ [])) z
+      judged k h name n ≡ unless (first ((18 when not (sameLengths n (dueLengths k h n))) ∷ [])) number (answered z)
   unfolding judged contentsChecks sized
   judged-sized p =
       let d = unless-answered (first (sizedChecks k h name n)) (sizeOf k h n) p in
-      rw (eq-eqb _ _ e, unless-passed (sizedChecks k h name n) _ (sized-numbered k h name n) (d .0), d .1)
+      rw (eq-eqb _ _ e, first-next (sizedChecks k h name n) _ (sized-numbered k h name n) (d .0), d .1)
 
   pub judged-same : {z : ℕ} → sized k h name n ≡ answered z → sameLengths n (dueLengths k h n) ≡ true → judged k h name n ≡ answered z
   judged-same p s = judged-sized p ∙ rw s
@@ -119,21 +112,15 @@ unfolding textSized
 text-sound z l = let within : 6 + z ≤ limit = omega arith in rw (le-ltb limit (6 + z) within)
 
 -- a fixed part: one of checks 4 to 9 refuses, or check 10 decides
-unless-refused : (n z : ℕ) → (n ≡ 0 → ⊥) → unless n z ≡ number n
-unless-refused zero z h = absurd (h refl)
-unless-refused (suc n) z h = refl
-
 module _ (k : Kind) (f : List ℕ) where
   pub fixed-own : (x : ℕ) → first (message.ownChecks k f) ≡ x → (x ≡ 0 → ⊥) → sizedBy k f ≡ number x
   unfolding sizedBy
-  fixed-own x e n =
-      unless-number (message.ownChecks k f) _ (format.own-numbered k f) (message.sizeOf k f) (message.sizeOf k f)
-      (ap (λ (y : ℕ). unless y (message.sizeOf k f)) e ∙ unless-refused x (message.sizeOf k f) n)
+  fixed-own x e n = unless-stops (message.ownChecks k f) _ number (answered (message.sizeOf k f)) e n
 
   module _ (own : first (message.ownChecks k f) ≡ 0) where
-    limited : sizedBy k f ≡ unless (first ((10 when ltb limit (message.sizeOf k f)) ∷ [])) (message.sizeOf k f)
+    limited : sizedBy k f ≡ unless (first ((10 when ltb limit (message.sizeOf k f)) ∷ [])) number (answered (message.sizeOf k f))
     unfolding sizedBy
-    limited = rw (unless-passed (message.ownChecks k f) _ (format.own-numbered k f) own)
+    limited = rw (first-next (message.ownChecks k f) _ (format.own-numbered k f) own)
 
     pub fixed-limit : (z : ℕ) → z ≡ capped (message.sizeOf k f) → limit < z → sizedBy k f ≡ number 10
     fixed-limit z e h = let over : limit < message.sizeOf k f = omega arith in limited ∙ rw (lt-ltb _ _ over)
@@ -144,9 +131,9 @@ module _ (k : Kind) (f : List ℕ) where
 -- what the kinds share: a message that goes by its name, by its text, by nothing, and by a fixed part with the same checks and size
 pub sized-name : (h name : List ℕ) (n : Lengths) → sized ConfigurationName h name n ≡ nameSized name
 unfolding sized sizedChecks ownChecks sizeOf dueLengths nameSized
-sized-name h name n = by-test (nameUnfit name)
+sized-name h name n = ap (λ (f : ℕ). unless f number (answered 1026)) (by-test (nameUnfit name))
   where
-    by-test : (b : Bool) → unless (first ((5 when b) ∷ (10 when ltb limit 1026) ∷ [])) 1026 ≡ unless (first ((5 when b) ∷ [])) 1026
+    by-test : (b : Bool) → first ((5 when b) ∷ (10 when ltb limit 1026) ∷ []) ≡ first ((5 when b) ∷ [])
     by-test true = refl
     by-test false = refl
 
@@ -156,7 +143,7 @@ pub sized-text : (h name : List ℕ) (n : Lengths) →
 unfolding sized sizedChecks ownChecks textSized sizeOf dueLengths
 sized-text h name n =
     let size : 6 + (n .text + 0) ≡ 6 + n .text = omega arith in
-    let same = ap (λ (z : ℕ). unless (first ((10 when ltb limit z) ∷ [])) z) size in
+    let same = ap (λ (z : ℕ). unless (first ((10 when ltb limit z) ∷ [])) number (answered z)) size in
     (same, (same, (same, tt)))
 
 pub sized-close : (h name : List ℕ) (n : Lengths) → sized Close h name n ≡ answered 2

@@ -1,8 +1,8 @@
 -- What the writer refuses before it looks at the output: 'The writer: 2 to 10 in order, then 18, 14', without 2 and 14. These checks go by the
 -- kind, the given header, the given name and the given parts' lengths.
 -- Assumes nothing.
-use Prim.Native.Nat.{ℕ, zero, suc, _+_}
-use mathlib.Core.Bool.{Bool, false, not, _||_, _&&_}
+use Prim.Native.Nat.{ℕ, _+_}
+use mathlib.Core.Bool.{Bool, false, not, _||_}
 use mathlib.Core.List.{List, [], _∷_, _++_}
 use lib.Dec.{eqb, ltb}
 use lib.ListN.{length}
@@ -12,10 +12,11 @@ use Rattle.mrd_format.specs.declared.kind.Kind.{Kind}
 use Rattle.mrd_format.specs.declared.kind.Kind.the-variants.{ConfigurationName, ConfigurationText, HeaderText, Close, Text, Acquisition, Image, Waveform}
 use Rattle.mrd_format.specs.Kinds.{formOf, fixedSize, headerSize}
 use Rattle.mrd_format.specs.Parts as part
-use Rattle.mrd_format.specs.Parts.{Part, same, Contents}
+use Rattle.mrd_format.specs.Parts.{Part, same, partIn, Contents}
 use Rattle.mrd_format.specs.Segments.{Segment, fixed, counted, padded, sized, channels, reachSize, reachFrom}
 use Rattle.mrd_logic.specs.Choice.{pick}
-use Rattle.mrd_logic.specs.Checks.{Check, _when_, first}
+use Rattle.mrd_logic.specs.Lists.{equal}
+use Rattle.mrd_logic.specs.Checks.{Check, _when_, first, unless}
 use Rattle.mrd_logic.specs.Answer.{Answer, answered, number}
 use Rattle.mrd_format.specs.Message.{limit}
 use Rattle.mrd_format.specs.Acquisition as acquisition
@@ -45,11 +46,18 @@ abbrev pub partLengths : (name text trajectory samples attributes pixels wavefor
 partLengths n t j s a p w =
     record { name = n; text = t; trajectory = j; samples = s; attributes = a; pixels = p; waveform = w }
 
+-- a length for each part, by its name
+abbrev pub lengthsBy : (Part → ℕ) → Lengths
+lengthsBy f =
+    partLengths (f part.name) (f part.text) (f part.trajectory) (f part.samples) (f part.attributes) (f part.pixels) (f part.waveform)
+
+-- the seven lengths, one after the other
+abbrev pub lengthList : Lengths → List ℕ
+lengthList n = n .name ∷ n .text ∷ n .trajectory ∷ n .samples ∷ n .attributes ∷ n .pixels ∷ n .waveform ∷ []
+
 -- the lengths of the seven given parts
 abbrev pub lengthsOf : Contents → Lengths
-lengthsOf c =
-    partLengths (length (c .parts .name)) (length (c .parts .text)) (length (c .parts .trajectory)) (length (c .parts .samples))
-    (length (c .parts .attributes)) (length (c .parts .pixels)) (length (c .parts .waveform))
+lengthsOf c = lengthsBy (λ (p : Part). length (partIn (c .parts) p))
 
 -- whether the writer takes a part's length from the given bytes: 'it works out a text's length and an image's 8-byte length', and a name's
 abbrev pub counts : Part → List Segment → Bool
@@ -81,12 +89,7 @@ sizeOf k h n = 2 + fixedSize k + bodyLength (dueLengths k h n)
 
 -- whether each part has the length that it must have
 unfoldable pub sameLengths : Lengths → Lengths → Bool
-sameLengths m n =
-    eqb (m .name) (n .name) &&
-    (eqb (m .text) (n .text) &&
-    (eqb (m .trajectory) (n .trajectory) &&
-    (eqb (m .samples) (n .samples) &&
-    (eqb (m .attributes) (n .attributes) && (eqb (m .pixels) (n .pixels) && eqb (m .waveform) (n .waveform))))))
+sameLengths m n = equal (lengthList m) (lengthList n)
 
 -- checks 4 to 10 of what is given with a header of its kind's length
 unfoldable pub sizedChecks : Kind → (h name : List ℕ) → Lengths → List Check
@@ -98,11 +101,6 @@ contentsChecks k h name n =
     (3 when not (eqb (length h) (headerSize k))) ∷
     sizedChecks k h name n ++ ((18 when not (sameLengths n (dueLengths k h n))) ∷ [])
 
--- a number, where no check refuses, or the number of the first that does
-abbrev pub unless : ℕ → ℕ → Answer ℕ
-unless zero n = answered n
-unless (suc f) n = number (suc f)
-
 -- what each case of the enum says: the size of the message, or 'the number alone'
 abbrev pub judgedMeaning : ContentsJudged → Answer ℕ
 judgedMeaning (ContentsJudged.Size z) = answered z
@@ -110,4 +108,4 @@ judgedMeaning (ContentsJudged.Refused n) = number n
 
 -- what is given, judged: the size of its message, or the first refusal
 unfoldable pub judged : Kind → (h name : List ℕ) → Lengths → Answer ℕ
-judged k h name n = unless (first (contentsChecks k h name n)) (sizeOf k h n)
+judged k h name n = unless (first (contentsChecks k h name n)) number (answered (sizeOf k h n))

@@ -4,7 +4,6 @@ ghost use mathlib.Core.Path.{_≡_};
 ghost use mathlib.Core.List.{_++_};
 ghost use lib.ListN.{length};
 ghost use Rattle.mrd_numbers.specs.Little.{toBytes};
-ghost use Rattle.mrd_format.specs.declared.kind.Kind;
 ghost use Rattle.mrd_format.specs.Kinds.{fixedSize, headerSize};
 ghost use Rattle.mrd_write_checks.specs.WriteChecks.{judgedMeaning, sizeOf, dueLengths, judged};
 ghost use Rattle.mrd_write_checks.specs.Sized.{sized, sizedBy, nameSized, textSized};
@@ -51,7 +50,7 @@ fn checked_size(kind: Kind, header: &[u8], name: &[u8], given: Lengths) -> Conte
     match kind {
         Kind::ConfigurationName => checked_name(name),
         Kind::ConfigurationText | Kind::HeaderText | Kind::Text => checked_text(given.text),
-        Kind::Close => ContentsJudged::Size(2),
+        Kind::Close => ContentsJudged::Size(Kind::ID_SIZE),
         Kind::Acquisition | Kind::Waveform => checked_fixed(kind, header),
         Kind::Image => checked_fixed(Kind::Image, &image_fixed(header, given.attributes)),
     }
@@ -67,14 +66,14 @@ fn checked_name(name: &[u8]) -> ContentsJudged
     if bytes::scan::find(name, 0, name.len(), 0) < name.len() {
         return ContentsJudged::Refused(refusal::NAME);
     }
-    ContentsJudged::Size(2 + Kind::NAME_FIXED)
+    ContentsJudged::Size(Kind::ID_SIZE + Kind::NAME_FIXED)
 }
 
 // A text of any of the three kinds: its message is within the limit.
 fn checked_text(text: usize) -> ContentsJudged
     ensures { λ r. ⌜ judgedMeaning r ≡ textSized text ⌝ }
 {
-    let head = 2 + Kind::TEXT_FIXED;
+    let head = Kind::ID_SIZE + Kind::TEXT_FIXED;
     if MAX_MESSAGE_SIZE - (head as u64) < text as u64 {
         return ContentsJudged::Refused(refusal::TOO_LARGE);
     }
@@ -121,13 +120,13 @@ fn due(kind: Kind, header: &[u8], size: usize, given: Lengths) -> Lengths
         Kind::Close => {}
         Kind::Acquisition => {
             due.trajectory = trajectory_size(header);
-            due.samples = size - (2 + Kind::ACQUISITION_FIXED) - due.trajectory;
+            due.samples = size - (Kind::ID_SIZE + Kind::ACQUISITION_FIXED) - due.trajectory;
         }
         Kind::Image => {
             due.attributes = given.attributes;
-            due.pixels = size - (2 + Kind::IMAGE_FIXED) - given.attributes;
+            due.pixels = size - (Kind::ID_SIZE + Kind::IMAGE_FIXED) - given.attributes;
         }
-        Kind::Waveform => due.waveform = size - (2 + Kind::WAVEFORM_FIXED),
+        Kind::Waveform => due.waveform = size - (Kind::ID_SIZE + Kind::WAVEFORM_FIXED),
     }
     due
 }

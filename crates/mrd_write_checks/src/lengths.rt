@@ -32,24 +32,12 @@ impl Lengths {
     pub(crate) fn same(self, due: Lengths) -> bool
         ensures { λ r. ⌜ r ≡ sameLengths self due ⌝ }
     {
-        if self.name != due.name {
-            return false;
-        }
-        if self.text != due.text {
-            return false;
-        }
-        if self.trajectory != due.trajectory {
-            return false;
-        }
-        if self.samples != due.samples {
-            return false;
-        }
-        if self.attributes != due.attributes {
-            return false;
-        }
-        if self.pixels != due.pixels {
-            return false;
-        }
-        self.waveform == due.waveform
+        (self.name == due.name)
+            & (self.text == due.text)
+            & (self.trajectory == due.trajectory)
+            & (self.samples == due.samples)
+            & (self.attributes == due.attributes)
+            & (self.pixels == due.pixels)
+            & (self.waveform == due.waveform)
     }
 }

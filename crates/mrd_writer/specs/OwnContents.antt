@@ -9,7 +9,7 @@ use mathlib.Core.List.{List, [], _∷_, _++_}
 use borrow.Author.Tests.{le-ltb}
 use lib.Dec.{eqb}
 use lib.ListN.{length, take, drop, length-drop, take-append-drop}
-use lib.Seq.{length-take-le, take-take, take-all}
+use lib.Seq.{take-take, take-all}
 use Rattle.bytes.specs.Bytes.{indexOf, indexAfter}
 use Rattle.mrd_numbers.specs.Little.{toBytes, Bytes}
 use Rattle.mrd_numbers.specs.ByteLaws.{bytes-take, bytes-drop, write-num}
@@ -24,17 +24,13 @@ use Rattle.mrd_format.specs.Message as message
 use Rattle.mrd_format.specs.Message.{limit, fixedPart, WellFormed}
 use Rattle.mrd_format.specs.Content.{extentOf, contentsOf, normalOf, messageOf}
 use Rattle.mrd_format.specs.NormalLaws.{nameBytes, name-short}
-use Rattle.mrd_format.specs.Rewritten.{rewritten-normal}
+use Rattle.mrd_format.specs.Rewritten.{part-length, rewritten-normal}
 use Rattle.mrd_format.specs.Acquisition as acquisition
 use Rattle.mrd_format.specs.Image as image
 use Rattle.mrd_format.specs.Waveform as waveform
 use Rattle.mrd_write_checks.specs.WriteChecks.{nameUnfit, ownChecks, sizeOf, partLengths, dueLengths}
 use Rattle.mrd_write_checks.specs.ImageLaws.{pixels-size}
 use Rattle.mrd_writer.specs.Sound.{Sound}
-
--- a part that lies in the message has its size
-part-length : (m : List ℕ) (at n : ℕ) → at + n ≤ length m → length (take n (drop at m)) ≡ n
-part-length m at n h = length-take-le n (drop at m) (simp length-drop (omega arith))
 
 -- bytes up to the first zero hold none
 index-taken : (h : List ℕ) → length (take (indexOf 0 h) h) ≤ indexOf 0 (take (indexOf 0 h) h)

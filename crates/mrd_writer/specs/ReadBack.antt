@@ -11,8 +11,10 @@ use lib.ListN.{length, take, drop}
 use lib.Seq.{length-take-le, take-at, drop-at}
 use Rattle.mrd_numbers.specs.Stored.{stored}
 use Rattle.mrd_logic.specs.Answer.{answered}
-use Rattle.mrd_logic.specs.Checks.{_when_, first}
-use Rattle.mrd_logic.specs.CheckLaws.{first-passed, passed-first, numbered-append, every-split}
+use Rattle.mrd_logic.specs.AnswerLaws.{answered-not-number}
+use Rattle.mrd_logic.specs.Every.{every-split}
+use Rattle.mrd_logic.specs.Checks.{_when_, first, Passed}
+use Rattle.mrd_logic.specs.CheckLaws.{first-passed, passed-first, numbered-append}
 use Rattle.mrd_format.specs.declared.kind.Kind.{Kind}
 use Rattle.mrd_format.specs.declared.kind.Identified.{Identified}
 use Rattle.mrd_format.specs.declared.kind.Identified.the-variants.{Known, Unknown}
@@ -20,17 +22,17 @@ use Rattle.mrd_format.specs.Kinds.{identified}
 use Rattle.mrd_format.specs.Message.{WellFormed}
 use Rattle.mrd_format.specs.Parts.{Contents}
 use Rattle.mrd_format.specs.Content.{recordOf, messageOf, contentsRecord}
+use Rattle.mrd_format.specs.Made.{made-record}
 use Rattle.mrd_cursor.specs.declared.cursor.Cursor.{Cursor}
 use Rattle.mrd_cursor.specs.Order.{allowed}
 use Rattle.mrd_cursor.specs.Cursors.{maxMessages, after}
 use Rattle.mrd_stream.specs.Walk.{message, walk, from}
 use Rattle.mrd_cut.specs.Walked.{walk-well}
 use Rattle.mrd_write_checks.specs.WriteChecks.{lengthsOf}
-use Rattle.mrd_write_checks.specs.GivenLaws.{answered-not-number, unless-answered, contents-numbered}
+use Rattle.mrd_write_checks.specs.GivenLaws.{unless-answered, contents-numbered}
 use Rattle.mrd_writer.specs.Write.{sizeGiven, givenChecks, writeChecks, answerAs, outputAs, writeAnswer, writeOutput}
 use Rattle.mrd_writer.specs.Sound.{Sound, passed-sound}
-use Rattle.mrd_writer.specs.Written.{message-length, written-well}
-use Rattle.mrd_writer.specs.WrittenRecord.{written-record}
+use Rattle.mrd_writer.specs.Written.{sound-fitting, message-length, written-well}
 
 -- what the writer left in the output o, given the id, c and the position `at`, where it answers the position p
 pub record ReadsBack (id : ℕ) (c : Contents) (at : ℕ) (o : List ℕ) (p : ℕ) : Type 0 where
@@ -60,7 +62,7 @@ answered-sound k c at o e =
     let room = (14 when ltb (length o) (at + sizeGiven k c)) ∷ [] in
     let d = unless-answered (first (own ++ room)) (at + sizeGiven k c) e in
     let numbers = numbered-append own room (contents-numbered k (c .header) (c .parts .name) (lengthsOf c)) refl in
-    let all = every-split own room (first-passed (own ++ room) numbers (d .0)) in
+    let all = every-split Passed own room (first-passed (own ++ room) numbers (d .0)) in
     (passed-sound k c (passed-first own (all .0)), d .1, ltb-false _ _ (all .1 .0))
 
 -- bytes that were stored are there
@@ -92,6 +94,6 @@ written-reads-back id c at o p e = by-id (identified id) refl e
           output = left;
           well = well;
           its-kind = refl;
-          same-record = written-record k c (s .0);
+          same-record = made-record k c (sound-fitting k c (s .0));
           met = λ d t rest q a b. ap (λ (u : List ℕ). walk u 0 d) q ∙ walk-well d (messageOf k c) rest well a b;
         }

@@ -1,29 +1,28 @@
--- What is given passes every check but 14: what that says of its parts, and of the message that they make.
+-- What is given passes every check but 14: what that says of its parts.
 -- Assumes nothing.
-use Prim.Native.Nat.{ℕ, _+_, _≤_}
+use Prim.Native.Nat.{ℕ, _^_, _≤_, _<_}
 use native.Mathlib.Omega.{arith}
-use mathlib.Core.Path.{_≡_, refl, ap}
+use mathlib.Core.Path.{_≡_, ap}
 use mathlib.Core.Bool.{true}
-use lib.ListN.{length, length-append, length-replicate}
+use mathlib.Core.List.{List}
+use lib.ListN.{length, getD}
 use lib.Dec.{ltb}
 use borrow.Author.Tests.{eqb-true, ltb-false, not-false}
 use Rattle.bytes.specs.Bytes.{indexOf}
-use Rattle.mrd_numbers.specs.ToBytesLaws.{length-toBytes}
-use Rattle.mrd_logic.specs.Every.{Every}
-use Rattle.mrd_logic.specs.Choice.{both, neither}
+use Rattle.mrd_logic.specs.Every.{Every, every-split}
+use Rattle.mrd_logic.specs.Choice.{neither}
+use Rattle.mrd_logic.specs.ListLaws.{equal-same}
 use Rattle.mrd_logic.specs.Answer.{answered}
 use Rattle.mrd_logic.specs.Checks.{first, Passed}
-use Rattle.mrd_logic.specs.CheckLaws.{first-passed, every-split}
+use Rattle.mrd_logic.specs.CheckLaws.{first-passed}
 use Rattle.mrd_format.specs.declared.kind.Kind.{Kind}
-use Rattle.mrd_format.specs.declared.kind.Kind.the-variants.{ConfigurationName, ConfigurationText, HeaderText, Close, Text, Acquisition, Image, Waveform}
-use Rattle.mrd_format.specs.Kinds.{fixedSize, headerSize}
+use Rattle.mrd_format.specs.declared.kind.Kind.the-variants.{ConfigurationName}
+use Rattle.mrd_format.specs.Kinds.{headerSize}
 use Rattle.mrd_format.specs.Message.{limit}
 use Rattle.mrd_format.specs.Parts.{Contents}
-use Rattle.mrd_format.specs.Content.{fixedOf, bodyOf, contentOf}
 use Rattle.mrd_write_checks.specs.declared.lengths.Lengths.{Lengths}
-use Rattle.mrd_write_checks.specs.WriteChecks.{nameUnfit, ownChecks, bodyLength, sizeOf, lengthsOf, dueLengths, sameLengths, sizedChecks, contentsChecks, judged}
+use Rattle.mrd_write_checks.specs.WriteChecks.{nameUnfit, ownChecks, bodyLength, sizeOf, partLengths, lengthList, lengthsOf, dueLengths, sameLengths, sizedChecks, contentsChecks, judged}
 use Rattle.mrd_write_checks.specs.GivenLaws.{unless-answered, contents-numbered}
-use Rattle.mrd_put.specs.Room.{Ready}
 use Rattle.mrd_writer.specs.Write.{judgedContents, sizeGiven, givenChecks}
 
 -- what is given passes checks 3 to 10 and 18
@@ -37,21 +36,8 @@ pub record Sound (k : Kind) (c : Contents) : Type 0 where
 same-lengths : (m n : Lengths) → sameLengths m n ≡ true → m ≡ n
 unfolding sameLengths
 same-lengths m n e =
-    let p1 = both _ _ e in
-    let p2 = both _ _ (p1 .1) in
-    let p3 = both _ _ (p2 .1) in
-    let p4 = both _ _ (p3 .1) in
-    let p5 = both _ _ (p4 .1) in
-    let p6 = both _ _ (p5 .1) in
-    λ i. record {
-      name = eqb-true (m .name) (n .name) (p1 .0) i;
-      text = eqb-true (m .text) (n .text) (p2 .0) i;
-      trajectory = eqb-true (m .trajectory) (n .trajectory) (p3 .0) i;
-      samples = eqb-true (m .samples) (n .samples) (p4 .0) i;
-      attributes = eqb-true (m .attributes) (n .attributes) (p5 .0) i;
-      pixels = eqb-true (m .pixels) (n .pixels) (p6 .0) i;
-      waveform = eqb-true (m .waveform) (n .waveform) (p6 .1) i;
-    }
+    ap (λ (l : List ℕ). partLengths (getD l 0 0) (getD l 1 0) (getD l 2 0) (getD l 3 0) (getD l 4 0) (getD l 5 0) (getD l 6 0))
+    (equal-same (lengthList m) (lengthList n) e)
 
 -- what every check passed says
 pub passed-sound : (k : Kind) (c : Contents) → first (givenChecks k c) ≡ 0 → Sound k c
@@ -60,8 +46,8 @@ passed-sound k c e =
     let h = c .header in
     let n = lengthsOf c in
     let all = first-passed (givenChecks k c) (contents-numbered k h (c .parts .name) n) e in
-    let parted = every-split (sizedChecks k h (c .parts .name) n) _ (all .1) in
-    let sized = every-split (ownChecks k h (c .parts .name) n) _ (parted .0) in
+    let parted = every-split Passed (sizedChecks k h (c .parts .name) n) _ (all .1) in
+    let sized = every-split Passed (ownChecks k h (c .parts .name) n) _ (parted .0) in
     record {
       header = eqb-true (length h) (headerSize k) (not-false _ (all .0));
       own = sized .0;
@@ -83,54 +69,13 @@ sound-name c s =
     let tests = neither (ltb 1023 (length name)) (ltb (indexOf 0 name) (length name)) (s .own .0) in
     (ltb-false 1023 (length name) (tests .0), ltb-false (indexOf 0 name) (length name) (tests .1))
 
--- the fixed part has its kind's length
-pub fixed-length : (k : Kind) (c : Contents) → Sound k c → length (fixedOf k c) ≡ fixedSize k
-unfolding fixedOf
-fixed-length ConfigurationName c s = simp (length-append, length-replicate) (omega (arith, sound-name c s))
-fixed-length ConfigurationText c s = length-toBytes 4 (length (c .parts .text))
-fixed-length HeaderText c s = length-toBytes 4 (length (c .parts .text))
-fixed-length Close c s = refl
-fixed-length Text c s = length-toBytes 4 (length (c .parts .text))
-fixed-length Acquisition c s = s .header
-fixed-length Image c s = rw (length-append, s .header)
-fixed-length Waveform c s = s .header
+-- the parts together are within the limit
+parts-small : (k : Kind) (c : Contents) → Sound k c → bodyLength (lengthsOf c) ≤ limit
+unfolding sizeOf
+parts-small k c s = omega (arith, s .small, ap bodyLength (s .lengths))
 
--- the parts that follow are as long as the size says
-pub body-length : (k : Kind) (c : Contents) → Sound k c → length (bodyOf k c) ≡ bodyLength (dueLengths k (c .header) (lengthsOf c))
-unfolding bodyOf dueLengths
-body-length ConfigurationName c s = refl
-body-length ConfigurationText c s = omega arith
-body-length HeaderText c s = omega arith
-body-length Close c s = refl
-body-length Text c s = omega arith
-body-length Acquisition c s =
-    omega (
-      arith,
-      length-append (c .parts .trajectory) (c .parts .samples),
-      ap (λ (n : Lengths). n .trajectory) (s .lengths),
-      ap (λ (n : Lengths). n .samples) (s .lengths),
-    )
-body-length Image c s =
-    omega (arith, length-append (c .parts .attributes) (c .parts .pixels), ap (λ (n : Lengths). n .pixels) (s .lengths))
-body-length Waveform c s = omega (arith, ap (λ (n : Lengths). n .waveform) (s .lengths))
-
--- so what follows the id is as long as the message, less the id
-pub content-length : (k : Kind) (c : Contents) → Sound k c → 2 + length (contentOf k c) ≡ sizeGiven k c
-unfolding contentOf sizeOf
-content-length k c s = rw (length-append, fixed-length k c s, body-length k c s) (omega arith)
-
--- a text is within the limit
 pub text-small : (k : Kind) (c : Contents) → Sound k c → length (c .parts .text) ≤ limit
-unfolding sizeOf dueLengths
-text-small ConfigurationName c s = omega (arith, ap (λ (n : Lengths). n .text) (s .lengths))
-text-small ConfigurationText c s = omega (arith, s .small)
-text-small HeaderText c s = omega (arith, s .small)
-text-small Close c s = omega (arith, ap (λ (n : Lengths). n .text) (s .lengths))
-text-small Text c s = omega (arith, s .small)
-text-small Acquisition c s = omega (arith, ap (λ (n : Lengths). n .text) (s .lengths))
-text-small Image c s = omega (arith, ap (λ (n : Lengths). n .text) (s .lengths))
-text-small Waveform c s = omega (arith, ap (λ (n : Lengths). n .text) (s .lengths))
+text-small k c s = omega (arith, parts-small k c s)
 
--- what passes is ready to be put
-pub sound-ready : (k : Kind) (c : Contents) → Sound k c → Ready k c
-sound-ready k c s = record { fixed = fixed-length k c s; text = omega (arith, text-small k c s) }
+pub attributes-small : (k : Kind) (c : Contents) → Sound k c → length (c .parts .attributes) < 256 ^ 8
+attributes-small k c s = omega (arith, parts-small k c s)

@@ -7,14 +7,14 @@ use lib.Dec.{ltb}
 use lib.ListN.{length}
 use Rattle.mrd_numbers.specs.Stored.{stored}
 use Rattle.mrd_logic.specs.Answer.{Answer, answered, stream, number}
-use Rattle.mrd_logic.specs.Checks.{Check, _when_, first}
+use Rattle.mrd_logic.specs.Checks.{Check, _when_, first, unless}
 use Rattle.mrd_format.specs.declared.kind.Kind.{Kind}
 use Rattle.mrd_format.specs.declared.kind.Identified.{Identified}
 use Rattle.mrd_format.specs.declared.kind.Identified.the-variants.{Known, Unknown}
 use Rattle.mrd_format.specs.Kinds.{identified}
 use Rattle.mrd_format.specs.Parts.{Contents}
 use Rattle.mrd_format.specs.Content.{messageOf}
-use Rattle.mrd_write_checks.specs.WriteChecks.{lengthsOf, sizeOf, contentsChecks, unless, judged}
+use Rattle.mrd_write_checks.specs.WriteChecks.{lengthsOf, sizeOf, contentsChecks, judged}
 use Rattle.mrd_writer.specs.declared.answer.WriteAnswer.{WriteAnswer}
 use Rattle.mrd_writer.specs.declared.answer.WriteAnswer
 
@@ -41,7 +41,7 @@ writeChecks k c at o = givenChecks k c ++ ((14 when ltb (length o) (at + sizeGiv
 
 unfoldable pub answerAs : Identified → Contents → ℕ → List ℕ → Answer ℕ
 answerAs Unknown c at o = number 2
-answerAs (Known k) c at o = unless (first (writeChecks k c at o)) (at + sizeGiven k c)
+answerAs (Known k) c at o = unless (first (writeChecks k c at o)) number (answered (at + sizeGiven k c))
 
 -- the answer
 unfoldable pub writeAnswer : ℕ → Contents → ℕ → List ℕ → Answer ℕ

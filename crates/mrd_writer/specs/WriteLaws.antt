@@ -10,17 +10,19 @@ use borrow.Author.Tests.{lt-ltb, le-ltb}
 use Rattle.mrd_numbers.specs.Little.{toBytes}
 use Rattle.mrd_numbers.specs.Stored.{stored, front, partFrom, returned, stored-next, stored-part}
 use Rattle.mrd_logic.specs.Answer.{Answer, answered, number}
-use Rattle.mrd_logic.specs.Checks.{Check, _when_, first}
+use Rattle.mrd_logic.specs.Checks.{Check, _when_, first, unless}
+use Rattle.mrd_logic.specs.CheckLaws.{first-next}
 use Rattle.mrd_format.specs.declared.kind.Kind.{Kind}
 use Rattle.mrd_format.specs.declared.kind.Identified.the-variants.{Known, Unknown}
 use Rattle.mrd_format.specs.Kinds.{idOf, identified}
 use Rattle.mrd_format.specs.Parts.{Contents}
 use Rattle.mrd_format.specs.Content.{contentOf, messageOf}
-use Rattle.mrd_write_checks.specs.WriteChecks.{lengthsOf, unless, judged}
-use Rattle.mrd_write_checks.specs.GivenLaws.{unless-number, unless-passed, contents-numbered}
+use Rattle.mrd_write_checks.specs.WriteChecks.{lengthsOf, judged}
+use Rattle.mrd_write_checks.specs.GivenLaws.{unless-number, contents-numbered}
 use Rattle.mrd_put.specs.Room.{Ready}
 use Rattle.mrd_writer.specs.Write.{judgedContents, sizeGiven, givenChecks, writeChecks, answerAs, outputAs, writeAnswer, writeOutput}
-use Rattle.mrd_writer.specs.Sound.{passed-sound, judged-answered, content-length, sound-ready}
+use Rattle.mrd_writer.specs.Sound.{passed-sound, judged-answered}
+use Rattle.mrd_writer.specs.Written.{sound-ready, content-length}
 
 -- both halves of what a function ensures: its answer, and the output as it leaves it
 abbrev pub Ends : Kind → Contents → ℕ → List ℕ → Answer ℕ → List ℕ → Type 0
@@ -41,16 +43,15 @@ module _ (k : Kind) (c : Contents) (at : ℕ) (o : List ℕ) where
   unfolding judged answerAs writeChecks
   refused-contents e =
       ends-refused
-      (unless-number (givenChecks k c) (roomCheck (sizeGiven k c)) (contents-numbered k (c .header) (c .parts .name) (lengthsOf c))
-      (sizeGiven k c) (at + sizeGiven k c) e)
+      (unless-number (givenChecks k c) (roomCheck (sizeGiven k c)) (sizeGiven k c) (at + sizeGiven k c) e)
 
   -- it passes, and makes a message of size z: check 14 decides
   module _ {z : ℕ} (e : judgedContents k c ≡ answered z) where
-    last : answerAs (Known k) c at o ≡ unless (first (roomCheck z)) (at + z)
+    last : answerAs (Known k) c at o ≡ unless (first (roomCheck z)) number (answered (at + z))
     unfolding answerAs writeChecks
     last =
         let d = judged-answered k c e in
-        rw (unless-passed (givenChecks k c) (roomCheck (sizeGiven k c)) (contents-numbered k (c .header) (c .parts .name) (lengthsOf c)) (d .0), d .1)
+        rw (first-next (givenChecks k c) (roomCheck (sizeGiven k c)) (contents-numbered k (c .header) (c .parts .name) (lengthsOf c)) (d .0), d .1)
 
     pub no-room : length o < at + z → Ends k c at o (number 14) o
     no-room h = ends-refused (last ∙ rw (lt-ltb _ _ h))

@@ -93,7 +93,7 @@ fn store(
         return WriteAnswer::Refused(refusal::OUTPUT_SHORT);
     }
     put_u16(&mut out[position..], kind.id());
-    let content = position + 2;
+    let content = position + Kind::ID_SIZE;
     put_content(
         kind,
         header,

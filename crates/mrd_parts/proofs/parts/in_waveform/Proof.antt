@@ -7,7 +7,7 @@ use borrow.Author.Needs.{needs}
 use denote.Ref.{now}
 use Rattle.mrd_format.specs.declared.kind.Kind.{Kind}
 use Rattle.mrd_parts.specs.declared.parts.Part.{Part}
-use Rattle.mrd_format.specs.Parts.{lacks, lies}
+use Rattle.mrd_format.specs.Parts.{lacks}
 use Rattle.mrd_format.specs.Content.{extentOf}
 use Rattle.mrd_parts.specs.PartLaws.{waveform-rest, waveform-data}
 use Rattle.mrd_parts.specs.Sought.{partMeaning}

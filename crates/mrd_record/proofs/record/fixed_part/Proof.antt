@@ -8,7 +8,6 @@ use denote.Ref.{now}
 use lib.ListN.{take, drop}
 use Rattle.mrd_format.specs.Kinds.{fixedSize}
 use Rattle.mrd_format.specs.Shapes.{kindOf}
-use Rattle.mrd_stream.specs.Places.{place}
 use Rattle.mrd_stream.specs.ReaderMeaning.{recordMeaning}
 use Rattle.mrd_record.specs.RecordLaws.{fixed-place, fixed-fits}
 use Rattle.mrd_record.proofs.record.fixed_part.Statement.{statement}

@@ -6,7 +6,6 @@ use borrow.Author.Needs.{needs}
 use denote.Ref.{now}
 use Rattle.mrd_format.specs.Message.{fixedPart}
 use Rattle.mrd_format.specs.Shapes.{kindOf}
-use Rattle.mrd_stream.specs.Places.{place}
 use Rattle.mrd_stream.specs.ReaderMeaning.{recordMeaning}
 use Rattle.mrd_cut.specs.CutPlaces.{partAt}
 use Rattle.mrd_format.specs.Parts.{Reach}

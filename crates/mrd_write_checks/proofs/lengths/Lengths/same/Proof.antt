@@ -1,74 +1,13 @@
--- `mrd_write_checks::lengths::Lengths::same` meets its contract: the first part whose lengths differ decides.
+-- `mrd_write_checks::lengths::Lengths::same` meets its contract: the lengths are compared one after the other.
 -- Assumes nothing.
-use borrow.Author.Tests.{eq-eqb, ne-eqb}
+use mathlib.Core.Bool.{and-assoc, and-true}
 use Rattle.mrd_write_checks.specs.WriteChecks.{sameLengths}
 use Rattle.mrd_write_checks.proofs.lengths.Lengths.same.Statement.{statement}
 use Rattle.mrd_write_checks.proofs.lengths.Lengths.same.Tie as tie
 
 returns : tie.Need-returns
 unfolding sameLengths
-returns c = rw (ne-eqb _ _ (c .if1 .taken))
-
-returns-2 : tie.Need-returns-2
-unfolding sameLengths
-returns-2 c = rw (eq-eqb _ _ (c .before .before .before .if1 .left), ne-eqb _ _ (c .if2 .taken))
-
-returns-3 : tie.Need-returns-3
-unfolding sameLengths
-returns-3 c =
-    rw (
-      eq-eqb _ _ (c .before .before .before .before .before .before .if1 .left),
-      eq-eqb _ _ (c .before .before .before .if2 .left),
-      ne-eqb _ _ (c .if3 .taken),
-    )
-
-returns-4 : tie.Need-returns-4
-unfolding sameLengths
-returns-4 c =
-    rw (
-      eq-eqb _ _ (c .before .before .before .before .before .before .before .before .before .if1 .left),
-      eq-eqb _ _ (c .before .before .before .before .before .before .if2 .left),
-      eq-eqb _ _ (c .before .before .before .if3 .left),
-      ne-eqb _ _ (c .if4 .taken),
-    )
-
-returns-5 : tie.Need-returns-5
-unfolding sameLengths
-returns-5 c =
-    rw (
-      eq-eqb _ _ (c .before .before .before .before .before .before .before .before .before .before .before .before .if1 .left),
-      eq-eqb _ _ (c .before .before .before .before .before .before .before .before .before .if2 .left),
-      eq-eqb _ _ (c .before .before .before .before .before .before .if3 .left),
-      eq-eqb _ _ (c .before .before .before .if4 .left),
-      ne-eqb _ _ (c .if5 .taken),
-    )
-
-returns-6 : tie.Need-returns-6
-unfolding sameLengths
-returns-6 c =
-    rw (
-      eq-eqb _ _
-          (c .before .before .before .before .before .before .before .before .before .before .before .before .before .before .before .if1 .left),
-      eq-eqb _ _ (c .before .before .before .before .before .before .before .before .before .before .before .before .if2 .left),
-      eq-eqb _ _ (c .before .before .before .before .before .before .before .before .before .if3 .left),
-      eq-eqb _ _ (c .before .before .before .before .before .before .if4 .left),
-      eq-eqb _ _ (c .before .before .before .if5 .left),
-      ne-eqb _ _ (c .if6 .taken),
-    )
-
-returns-7 : tie.Need-returns-7
-unfolding sameLengths
-returns-7 c =
-    rw (
-      eq-eqb _ _
-          (c .before .before .before .before .before .before .before .before .before .before .before .before .before .before .before .before .before .if1 .left),
-      eq-eqb _ _ (c .before .before .before .before .before .before .before .before .before .before .before .before .before .before .if2 .left),
-      eq-eqb _ _ (c .before .before .before .before .before .before .before .before .before .before .before .if3 .left),
-      eq-eqb _ _ (c .before .before .before .before .before .before .before .before .if4 .left),
-      eq-eqb _ _ (c .before .before .before .before .before .if5 .left),
-      eq-eqb _ _ (c .before .before .if6 .left),
-    )
+returns c = simp (and-assoc, and-true)
 
 pub same-spec : {M : Type 1} → statement M
-same-spec =
-    tie.close (tie.spec returns returns-2 returns-3 returns-4 returns-5 returns-6 returns-7)
+same-spec = tie.close (tie.spec returns)

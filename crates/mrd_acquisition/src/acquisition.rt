@@ -9,7 +9,6 @@ ghost use Rattle.mrd_format.specs.Acquisition.{layout, get, checks, channelsDif
 ghost use Rattle.mrd_format.specs.Acquisition.{«channel-mask», «active-channels»};
 ghost use Rattle.mrd_format.specs.Shapes.{acquisitionNumbers};
 use mrd_format::AcquisitionShape;
-use mrd_format::checks::first_fault;
 use mrd_format::refusal;
 use mrd_format::size::product;
 use mrd_numbers::read_u16;
@@ -38,16 +37,16 @@ pub fn fault(h: &[u8]) -> u8
     requires { ⌜ length (now h) ≡ 340 ⌝ }
     ensures { λ r. ⌜ r ≡ first (checks (now (h .entry))) ⌝ }
 {
-    let version = read_u16(h, VERSION);
-    let channels = channels_differ(h);
-    let discards = discards_exceed(h);
-    first_fault(
-        version,
-        refusal::CHANNELS,
-        channels,
-        refusal::DISCARD,
-        discards,
-    )
+    if read_u16(h, VERSION) != 1 {
+        return refusal::VERSION;
+    }
+    if channels_differ(h) {
+        return refusal::CHANNELS;
+    }
+    if discards_exceed(h) {
+        return refusal::DISCARD;
+    }
+    0
 }
 
 // Whether more channels are active than available, or the mask does not agree.

@@ -3,7 +3,6 @@
 // specs/.
 //
 // Assumes nothing.
-pub mod checks;
 mod kind;
 pub mod refusal;
 mod shape;

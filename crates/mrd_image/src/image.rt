@@ -8,7 +8,6 @@ ghost use Rattle.mrd_format.specs.Image.{checks, typeUnknown, lengthsDiffer, at
 ghost use Rattle.mrd_format.specs.Sizes.{capped};
 ghost use Rattle.mrd_format.specs.Shapes.{imageNumbers};
 use mrd_format::ImageShape;
-use mrd_format::checks::first_fault;
 use mrd_format::refusal;
 use mrd_format::size::cap;
 use mrd_format::size::product;
@@ -40,16 +39,16 @@ pub fn fault(h: &[u8]) -> u8
     requires { ⌜ length (now h) ≡ 206 ⌝ }
     ensures { λ r. ⌜ r ≡ first (checks (now (h .entry))) ⌝ }
 {
-    let version = read_u16(h, VERSION);
-    let unknown = type_unknown(h);
-    let lengths = lengths_differ(h);
-    first_fault(
-        version,
-        refusal::DATA_TYPE,
-        unknown,
-        refusal::ATTRIBUTE_LENGTH,
-        lengths,
-    )
+    if read_u16(h, VERSION) != 1 {
+        return refusal::VERSION;
+    }
+    if type_unknown(h) {
+        return refusal::DATA_TYPE;
+    }
+    if lengths_differ(h) {
+        return refusal::ATTRIBUTE_LENGTH;
+    }
+    0
 }
 
 // Whether the data type is not one of 1 to 8.

@@ -6,7 +6,7 @@ use native.Mathlib.Decide.{decLe}
 use mathlib.Core.Path.{_≡_, refl, sym, ap, _∙_}
 use mathlib.Core.Bool.{true}
 use mathlib.Core.List.{List, [], _∷_, _++_}
-use borrow.Author.Tests.{eqb-false, lt-ltb, ltb-false}
+use borrow.Author.Tests.{eqb-false, lt-ltb, le-ltb, ltb-false}
 use lib.ListN.{length, drop, length-drop}
 use lib.Seq.{length-take-le}
 use Rattle.mrd_format.specs.declared.kind.Kind.{Kind}
@@ -92,6 +92,20 @@ unfolding judgeBody sizeChecks
 id-passed k c t front e =
     front-passed (Known k) c t front ∙
     ap (λ (f : ℕ). judgedBy (Known k) f t) (first-next (idChecks (Known k) c) (checksOf (fixed ∷ size ∷ []) (Known k) c t) (id-numbered (Known k) c) e)
+
+-- a size passes where it is within the limit and ends within t, and not otherwise
+module _ (z : ℕ) (t : List ℕ) where
+  pub size-large : limit < z → first (sizeChecks z t) ≡ 0 → ⊥
+  unfolding sizeChecks
+  size-large over e = let small : z ≤ limit = ltb-false limit z (first-passed (sizeChecks z t) refl e .0) in omega arith
+
+  pub size-short : length t < z → first (sizeChecks z t) ≡ 0 → ⊥
+  unfolding sizeChecks
+  size-short cut e = let fits : z ≤ length t = ltb-false (length t) z (first-passed (sizeChecks z t) refl e .1 .0) in omega arith
+
+  pub size-fits : z ≤ limit → z ≤ length t → first (sizeChecks z t) ≡ 0
+  unfolding sizeChecks
+  size-fits small fits = simp (le-ltb _ _ small, le-ltb _ _ fits)
 
 -- the checks of a size tell a capped size from no other
 capped-size : (z : ℕ) (t : List ℕ) → first (sizeChecks (capped z) t) ≡ first (sizeChecks z t)

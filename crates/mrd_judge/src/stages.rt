@@ -81,7 +81,9 @@ pub fn judge_id(c: Cursor, identified: Identified) -> u8
     }
 }
 
-// A message of a known kind, by its last two stages.
+// A message of a known kind, by its last two stages. Whether the last one passes is tested here, and its number is
+// worked out only where it does not: nearly every message passes, and two tests are faster than a number compared
+// with 0.
 fn judge_body(kind: Kind, t: &[u8]) -> Judgement
     requires { ⌜ 2 ≤ length (now t) ⌝ }
     ensures { λ r. ⌜ judgementMeaning r ≡ judgeBody kind (now (t .entry)) ⌝ }
@@ -90,12 +92,14 @@ fn judge_body(kind: Kind, t: &[u8]) -> Judgement
     if fixed != 0 {
         return Judgement::Faulty(fixed);
     }
-    let size = mrd_message::size(kind, fixed_part(kind, t));
-    let end = judge_size(size, t);
-    if end != 0 {
-        return Judgement::Faulty(end);
+    let end = mrd_message::size(kind, fixed_part(kind, t));
+    if MAX_MESSAGE_SIZE < end as u64 {
+        return Judgement::Faulty(judge_size(end, t));
     }
-    Judgement::Whole(kind, size)
+    if t.len() < end {
+        return Judgement::Faulty(judge_size(end, t));
+    }
+    Judgement::Whole(kind, end)
 }
 
 // The fixed part: 3 where it does not fit, else 4 to 9.

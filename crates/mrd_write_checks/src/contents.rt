@@ -5,7 +5,7 @@ ghost use mathlib.Core.List.{_++_};
 ghost use lib.ListN.{length};
 ghost use Rattle.mrd_numbers.specs.Little.{toBytes};
 ghost use Rattle.mrd_format.specs.Kinds.{fixedSize, headerSize};
-ghost use Rattle.mrd_write_checks.specs.WriteChecks.{judgedMeaning, sizeOf, dueLengths, judged};
+ghost use Rattle.mrd_write_checks.specs.WriteChecks.{judgedMeaning, sizeOf, dueLengths, sameLengths, judged};
 ghost use Rattle.mrd_write_checks.specs.Sized.{sized, sizedBy, nameSized, textSized};
 use crate::lengths::Lengths;
 use mrd_acquisition::trajectory_size;
@@ -32,7 +32,7 @@ pub fn judge(kind: Kind, header: &[u8], name: &[u8], given: Lengths) -> Contents
     let checked = checked_size(kind, header, name, given);
     match checked {
         ContentsJudged::Size(size) => {
-            if given.same(due(kind, header, size, given)) {
+            if as_due(kind, header, size, given) {
                 ContentsJudged::Size(size)
             } else {
                 ContentsJudged::Refused(refusal::BODY_LENGTH)
@@ -42,17 +42,21 @@ pub fn judge(kind: Kind, header: &[u8], name: &[u8], given: Lengths) -> Contents
     }
 }
 
-// The size of the message, or the first of checks 4 to 10 that refuses it.
+// The size of the message, or the first of checks 4 to 10 that refuses it. Each kind has an arm of its own, so that
+// the compiler goes on from it to the kind's arm of as_due.
 fn checked_size(kind: Kind, header: &[u8], name: &[u8], given: Lengths) -> ContentsJudged
     requires { ⌜ length (now header) ≡ headerSize kind ⌝ }
     ensures { λ r. ⌜ judgedMeaning r ≡ sized kind (now (header .entry)) (now (name .entry)) given ⌝ }
 {
     match kind {
         Kind::ConfigurationName => checked_name(name),
-        Kind::ConfigurationText | Kind::HeaderText | Kind::Text => checked_text(given.text),
+        Kind::ConfigurationText => checked_text(given.text),
+        Kind::HeaderText => checked_text(given.text),
         Kind::Close => ContentsJudged::Size(Kind::ID_SIZE),
-        Kind::Acquisition | Kind::Waveform => checked_fixed(kind, header),
+        Kind::Text => checked_text(given.text),
+        Kind::Acquisition => checked_fixed(Kind::Acquisition, header),
         Kind::Image => checked_fixed(Kind::Image, &image_fixed(header, given.attributes)),
+        Kind::Waveform => checked_fixed(Kind::Waveform, header),
     }
 }
 
@@ -107,26 +111,37 @@ fn image_fixed(header: &[u8], attributes: usize) -> [u8; 206]
     fixed
 }
 
-// The lengths that the parts of a message of this size must have: what the header says, and none for
-// a part that the kind lacks.
-fn due(kind: Kind, header: &[u8], size: usize, given: Lengths) -> Lengths
+// Whether the parts of a message of this size have the lengths that they must have: what the header says,
+// and none for a part that the kind lacks. Each kind compares for itself: seven lengths kept for one
+// comparison after all arms would fill the registers.
+fn as_due(kind: Kind, header: &[u8], size: usize, given: Lengths) -> bool
     requires { ⌜ (length (now header) ≡ headerSize kind) × (size ≡ sizeOf kind (now header) given) ⌝ }
-    ensures { λ r. ⌜ r ≡ dueLengths kind (now (header .entry)) given ⌝ }
+    ensures { λ r. ⌜ r ≡ sameLengths given (dueLengths kind (now (header .entry)) given) ⌝ }
 {
     let mut due = Lengths::none();
     match kind {
-        Kind::ConfigurationName => due.name = given.name,
-        Kind::ConfigurationText | Kind::HeaderText | Kind::Text => due.text = given.text,
-        Kind::Close => {}
+        Kind::ConfigurationName => {
+            due.name = given.name;
+            given.same(due)
+        }
+        Kind::ConfigurationText | Kind::HeaderText | Kind::Text => {
+            due.text = given.text;
+            given.same(due)
+        }
+        Kind::Close => given.same(due),
         Kind::Acquisition => {
             due.trajectory = trajectory_size(header);
             due.samples = size - (Kind::ID_SIZE + Kind::ACQUISITION_FIXED) - due.trajectory;
+            given.same(due)
         }
         Kind::Image => {
             due.attributes = given.attributes;
             due.pixels = size - (Kind::ID_SIZE + Kind::IMAGE_FIXED) - given.attributes;
+            given.same(due)
         }
-        Kind::Waveform => due.waveform = size - (Kind::ID_SIZE + Kind::WAVEFORM_FIXED),
+        Kind::Waveform => {
+            due.waveform = size - (Kind::ID_SIZE + Kind::WAVEFORM_FIXED);
+            given.same(due)
+        }
     }
-    due
 }

@@ -31,21 +31,32 @@ size-requires c κs =
 
 returns-2 : tie.Need-returns-2
 returns-2 c =
-    let sized = c .before .before in
+    let large = c .before in
+    let sized = large .before in
     let test = sized .before .before in
     let a = test .before .before .before .args in
     sym (laws.size-stops (a .kind) (now (a .t)) (sym (test .before .judge-fixed .ensures) ∙ test .if1 .left)
     (sized .size .ensures ∙ ap (λ (h : List ℕ). capped (sizeOf (a .kind) h)) (sized .before .fixed-part .ensures))
-    (sym (c .before .judge-size .ensures)) (c .if2 .taken))
+    (sym (c .judge-size .ensures)) (λ z. laws.size-large _ _ (large .if2 .taken) (sym (c .judge-size .ensures) ∙ z)))
 
 returns-3 : tie.Need-returns-3
 returns-3 c =
+    let short = c .before in
+    let sized = short .before .before in
+    let test = sized .before .before in
+    let a = test .before .before .before .args in
+    sym (laws.size-stops (a .kind) (now (a .t)) (sym (test .before .judge-fixed .ensures) ∙ test .if1 .left)
+    (sized .size .ensures ∙ ap (λ (h : List ℕ). capped (sizeOf (a .kind) h)) (sized .before .fixed-part .ensures))
+    (sym (c .judge-size2 .ensures)) (λ z. laws.size-short _ _ (short .if3 .taken) (sym (c .judge-size2 .ensures) ∙ z)))
+
+returns-4 : tie.Need-returns-4
+returns-4 c =
     let sized = c .before .before in
     let test = sized .before .before in
     let a = test .before .before .before .args in
     sym (laws.size-passed (a .kind) (now (a .t)) (sym (test .before .judge-fixed .ensures) ∙ test .if1 .left)
     (sized .size .ensures ∙ ap (λ (h : List ℕ). capped (sizeOf (a .kind) h)) (sized .before .fixed-part .ensures))
-    (sym (c .before .judge-size .ensures) ∙ c .if2 .left))
+    (laws.size-fits _ _ (c .before .if2 .left) (c .if3 .left)))
 
 pub judge-body-spec : {M : Type 1} → statement M
 judge-body-spec =
@@ -57,4 +68,6 @@ judge-body-spec =
     size-requires
     (λ c κs. search needs)
     returns-2
-    returns-3)
+    (λ c κs. search needs)
+    returns-3
+    returns-4)

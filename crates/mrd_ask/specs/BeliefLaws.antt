@@ -4,6 +4,7 @@ use Prim.Native.Nat.{ℕ}
 use native.Mathlib.Omega.{arith}
 use mathlib.Core.Path.{_≡_, refl, sym, ap, _∙_}
 use mathlib.Core.List.{List}
+use Rattle.mrd_logic.specs.AnswerLaws.{stream-not-number}
 use Rattle.mrd_logic.specs.Answer.{Verdict, accepted, refused, Answer, answered, stream, number, andThen}
 use Rattle.mrd_stream.specs.Walk.{answer}
 use Rattle.mrd_stream.specs.Index.{index}
@@ -38,7 +39,7 @@ module _ (s : List ℕ) {own : Type 0} (m : Answer (Unit {0})) (x : Exactly s ow
 
   only-other : (n : Answer (Unit {0})) → m ≡ n → asked n ≡ number 15 → Accepted s (own → ⊥)
   only-other (answered t) e w = absurd (refuses-above 16 (askOf s q cs) (ask-refuses s q cs) (omega arith) w)
-  only-other (stream f r b) e w = let z : _≡_ {A = ℕ} 0 1 = cc in absurd (omega arith)
+  only-other (stream f r b) e w = absurd (stream-not-number w)
   only-other (number k) e w = x .other-15 .0 (e ∙ ap number (x .no-other-number e))
 
   believed : Believed s own (askOf s q cs) (asked m)

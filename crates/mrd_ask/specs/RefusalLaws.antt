@@ -7,6 +7,7 @@ use mathlib.Core.Bool.{Bool, true, false}
 use mathlib.Core.List.{List, [], _∷_}
 use lib.ListN.{take, drop}
 use Rattle.mrd_logic.specs.Answer.{Verdict, accepted, refused, Answer, answered, stream, number, unlessRefused, andThen}
+use Rattle.mrd_logic.specs.AnswerLaws.{answered-not-number, stream-not-number}
 use Rattle.mrd_logic.specs.Choice.{pick}
 use Rattle.mrd_logic.specs.CheckLaws.{fault-not-zero}
 use Rattle.mrd_format.specs.declared.kind.Kind.{Kind}
@@ -63,8 +64,8 @@ module _ {A : Type 0} (m : ℕ) where
 
   -- a number alone that is less is none
   pub refuses-above : (a : Answer A) → Refuses m a → {n : ℕ} → n < m → a ≡ number n → ⊥
-  refuses-above (answered x) r h e = let z : _≡_ {A = ℕ} 0 1 = cc in omega arith
-  refuses-above (stream f i b) r h e = let z : _≡_ {A = ℕ} 0 1 = cc in omega arith
+  refuses-above (answered x) r h e = answered-not-number e
+  refuses-above (stream f i b) r h e = stream-not-number e
   refuses-above (number k) r {n} h e = let z : k ≡ n = cc in omega (arith, r, h, z)
 
 -- a walk, from any cursor

@@ -2,14 +2,17 @@
 -- Assumes nothing.
 use Prim.Native.Nat.{ℕ, zero, suc, _+_, _≤_}
 use native.Mathlib.Omega.{arith}
-use mathlib.Core.Path.{_≡_, refl, subst}
+use mathlib.Core.Path.{_≡_, refl, sym}
 use mathlib.Core.List.{List, [], _∷_, _++_, append-assoc}
 use lib.ListN.{length, length-append}
 use lib.Seq.{take-append-seam, drop-at}
 use Rattle.mrd_logic.specs.Every.{Every}
 use Rattle.mrd_format.specs.Message.{fixedPart, numbersOf, WellFormed}
 use Rattle.mrd_cursor.specs.declared.cursor.Cursor.{Cursor}
-use Rattle.mrd_logic.specs.Answer.{Verdict, accepted, refused, answered, unlessRefused}
+use Rattle.mrd_logic.specs.Answer.{answered}
+use Rattle.mrd_logic.specs.AnswerLaws.{answered-not-number, answered-accepted}
+use Rattle.mrd_logic.specs.Lists.{Nth}
+use Rattle.mrd_logic.specs.ListLaws.{every-nth}
 use Rattle.mrd_stream.specs.Walk.{Trace, trace, answer}
 use Rattle.mrd_stream.specs.Places.{Located, located, places, nth, place}
 use Rattle.mrd_cut.specs.CutPlaces.{partAt}
@@ -41,16 +44,16 @@ places-inside (meets {c} {m} {rest} {r} w a n v) before h =
       later,
     )
 
-nth-inside : {s : List ℕ} (ls : List Located) (n : ℕ) {l : Located} → Every (Inside s) ls → nth ls n ≡ answered l → Inside s l
-nth-inside [] n i e = absurd (let z : _≡_ {A = ℕ} 0 1 = cc in omega arith)
-nth-inside (l ∷ ls) zero i e = subst (Inside _) (cc) (i .0)
-nth-inside (l ∷ ls) (suc n) i e = nth-inside ls n (i .1) e
+found-nth : (ls : List Located) (n : ℕ) {l : Located} → nth ls n ≡ answered l → Nth ls n l
+found-nth [] n e = absurd (answered-not-number (sym e))
+found-nth (k ∷ ls) zero e = cc
+found-nth (k ∷ ls) (suc n) e = found-nth ls n e
 
--- the place that is answered for a record lies in the stream
-pub place-inside : (s : List ℕ) (n : ℕ) {l : Located} → place s n ≡ answered l → Inside s l
+-- the place that is answered for a record is the walk's of that number
+pub place-nth : (s : List ℕ) (n : ℕ) {l : Located} → place s n ≡ answered l → Nth (places (trace s)) n l
 unfolding place
-place-inside s n {l} e = by-verdict (answer s) e
-  where
-    by-verdict : (v : Verdict) → unlessRefused v (nth (places (trace s)) n) ≡ answered l → Inside s l
-    by-verdict (accepted k) e = nth-inside (places (trace s)) n (places-inside (walks s) [] refl) e
-    by-verdict (refused f r b) e = absurd (let z : _≡_ {A = ℕ} 0 1 = cc in omega arith)
+place-nth s n e = found-nth (places (trace s)) n (answered-accepted (answer s) (nth (places (trace s)) n) e)
+
+-- so it lies in the stream
+pub place-inside : (s : List ℕ) (n : ℕ) {l : Located} → place s n ≡ answered l → Inside s l
+place-inside s n {l} e = every-nth (Inside s) (places (trace s)) n l (places-inside (walks s) [] refl) (place-nth s n e)

@@ -1,13 +1,15 @@
 -- The views of a record of a stream are the parts of that record, and the record is the record list's.
 -- Assumes nothing.
-use Prim.Native.Nat.{ℕ, zero, suc, _+_, _*_, _≤_}
+use Prim.Native.Nat.{ℕ, _+_, _*_, _≤_}
 use native.Mathlib.Omega.{arith}
 use mathlib.Core.Path.{_≡_, refl, sym, ap, ap₂, _∙_}
 use mathlib.Core.List.{List, [], _∷_, _++_, map, append-assoc}
 use lib.ListN.{length, take, drop, length-append}
 use lib.Seq.{drop-drop, take-append-seam, drop-at}
 use Rattle.mrd_logic.specs.Lists.{Nth}
-use Rattle.mrd_logic.specs.Answer.{Verdict, accepted, refused, answered, unlessRefused}
+use Rattle.mrd_logic.specs.ListLaws.{nth-map}
+use Rattle.mrd_logic.specs.AnswerLaws.{answered-not-number}
+use Rattle.mrd_logic.specs.Answer.{answered}
 use Rattle.mrd_numbers.specs.Laws.{part-take}
 use Rattle.mrd_format.specs.Message.{fixedPart, sizeOf}
 use Rattle.mrd_format.specs.Parts as part
@@ -16,12 +18,12 @@ use Rattle.mrd_format.specs.Content.{extentOf, contentsOf, Record, recordOf}
 use Rattle.mrd_format.specs.ReachLaws.{part-within, channel-is-share}
 use Rattle.mrd_parts.specs.declared.parts.Part.the-variants as asked
 use Rattle.mrd_cursor.specs.declared.cursor.Cursor.{Cursor}
-use Rattle.mrd_stream.specs.Walk.{Trace, trace, answer}
-use Rattle.mrd_stream.specs.Places.{Located, located, places, nth, place}
+use Rattle.mrd_stream.specs.Walk.{Trace, trace}
+use Rattle.mrd_stream.specs.Places.{Located, located, places, place}
 use Rattle.mrd_demands.specs.Records.{recordsOf, records}
 use Rattle.mrd_cut.specs.Walked.{Walks, ends, faults, meets, walks}
 use Rattle.mrd_cut.specs.CutPlaces.{partAt}
-use Rattle.mrd_cut.specs.Inside.{Inside, place-inside}
+use Rattle.mrd_cut.specs.Inside.{Inside, place-nth, place-inside}
 use Rattle.mrd_record.specs.RecordLaws.{fixed-long}
 use Rattle.mrd_views.specs.declared.views.Span.{Span}
 use Rattle.mrd_views.specs.Views.{span, shownAt, viewOf, shown}
@@ -51,19 +53,10 @@ records-placed (meets {c} {m} {rest} {r} w a n v) before h =
     let later : recordsOf r ≡ map (recordAt (before ++ (m ++ rest))) (places r) = rw append-assoc at (records-placed v (before ++ m) far) in
     ap₂ (λ (x : Record) (xs : List Record). x ∷ xs) (ap (recordOf (w .kind)) (sym here)) later
 
-nth-of : (s : List ℕ) (ls : List Located) (n : ℕ) {l : Located} → nth ls n ≡ answered l → Nth (map (recordAt s) ls) n (recordAt s l)
-nth-of s [] n e = let z : _≡_ {A = ℕ} 0 1 = cc in absurd (omega arith)
-nth-of s (k ∷ ls) zero {l} e = let same : k ≡ l = cc in ap (recordAt s) same
-nth-of s (k ∷ ls) (suc n) e = nth-of s ls n e
-
 -- the record at the place of record n is the record list's
-pub place-record : (s : List ℕ) (n : ℕ) {l : Located} → place s n ≡ answered l → Nth (records s) n (recordAt s l)
-unfolding place records
-place-record s n {l} e = rw (records-placed (walks s) [] refl) (by (answer s) e)
-  where
-    by : (v : Verdict) → unlessRefused v (nth (places (trace s)) n) ≡ answered l → Nth (map (recordAt s) (places (trace s))) n (recordAt s l)
-    by (accepted k) q = nth-of s (places (trace s)) n q
-    by (refused f r b) q = let z : _≡_ {A = ℕ} 0 1 = cc in absurd (omega arith)
+place-record : (s : List ℕ) (n : ℕ) {l : Located} → place s n ≡ answered l → Nth (records s) n (recordAt s l)
+unfolding records
+place-record s n {l} e = rw (records-placed (walks s) [] refl) (nth-map (recordAt s) (places (trace s)) n l (place-nth s n e))
 
 -- what a view shows of a record that lies in s are the bytes of that part of its message
 module _ (s : List ℕ) (l : Located) (i : Inside s l) (p : Part) where
@@ -88,7 +81,7 @@ channel-shown s l i c {x} q = by (extentOf (part.channel c) (l .kind) (fixedPart
   where
     by : (r : Reach) → extentOf (part.channel c) (l .kind) (fixedPart (l .kind) (partAt s l)) ≡ r → shownAt r (l .start) ≡ answered x →
         shown (answered x) s ≡ take (x .length) (drop (c * x .length) (recordAt s l .parts .samples))
-    by lacks e q = let z : _≡_ {A = ℕ} 0 1 = cc in absurd (omega arith)
+    by lacks e q = absurd (answered-not-number (sym q))
     by (lies d) e q =
         let y : span (l .start + d .offset) (d .size) ≡ x = cc in
         rw (← y) (reach-shown s l i (part.channel c) (lies d) e ∙ channel-is-share (l .kind) (partAt s l) c e)

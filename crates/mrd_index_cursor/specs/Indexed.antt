@@ -8,7 +8,7 @@ use mathlib.Core.List.{List, [], _∷_, map}
 use borrow.Author.Tests.{lt-ltb}
 use lib.ListN.{length, getD, take, drop, take-append-drop}
 use Rattle.mrd_logic.specs.Lists.{Nth}
-use Rattle.mrd_logic.specs.Answer.{Verdict, accepted, refused, answered, number, unlessRefused}
+use Rattle.mrd_logic.specs.Answer.{answered, number}
 use Rattle.mrd_format.specs.declared.kind.Kind.{Kind}
 use Rattle.mrd_format.specs.declared.kind.Kind.the-variants.{ConfigurationName, ConfigurationText, HeaderText, Close, Text, Acquisition, Image, Waveform}
 use Rattle.mrd_format.specs.Kinds.{idOf, identified}
@@ -17,13 +17,13 @@ use Rattle.mrd_cursor.specs.declared.cursor.Phase.{Phase}
 use Rattle.mrd_cursor.specs.declared.cursor.Cursor.{Cursor}
 use Rattle.mrd_cursor.specs.Order.{allowed}
 use Rattle.mrd_cursor.specs.Cursors.{maxMessages}
-use Rattle.mrd_stream.specs.Walk.{Trace, trace, answer}
-use Rattle.mrd_stream.specs.Places.{Located, located, places, nth, place, stepAt, step}
+use Rattle.mrd_stream.specs.Walk.{Trace}
+use Rattle.mrd_stream.specs.Places.{Located, located, places, place, stepAt, step}
 use Rattle.mrd_stream.specs.Index.{Entry, entriesOf, entries, startColumn, idColumn}
 use Rattle.mrd_cut.specs.Walked.{Walks, ends, faults, meets, walks}
 use Rattle.mrd_cut.specs.Steps.{step-well}
 use Rattle.mrd_cut.specs.CutPlaces.{partAt}
-use Rattle.mrd_cut.specs.Inside.{Inside, place-inside}
+use Rattle.mrd_cut.specs.Inside.{Inside, place-nth, place-inside}
 use Rattle.mrd_record.specs.AtCursor.{placeBy, placeAt}
 use Rattle.mrd_views.specs.Views.{viewBy, viewOf}
 use Rattle.mrd_fields.specs.Fields.{fieldBy, fieldOf}
@@ -57,27 +57,18 @@ record Listed (es : List Entry) (n i : ℕ) (l : Located) : Type 0 where
   starts : Nth (map (λ (e : Entry). e .start) es) i (l .start)
   ids : Nth (map (λ (e : Entry). e .id) es) i (idOf (l .kind))
 
-nowhere : {l : Located} → number 16 ≡ answered l → ⊥
-nowhere e = let z : _≡_ {A = ℕ} 0 1 = cc in omega arith
-
-walk-listed : {c : Cursor} {s : List ℕ} {r : Trace} → Walks c s r → (i : ℕ) {l : Located} → nth (places r) i ≡ answered l →
+walk-listed : {c : Cursor} {s : List ℕ} {r : Trace} → Walks c s r → (i : ℕ) (l : Located) → Nth (places r) i l →
     Listed (entriesOf r) (c .number) i l
-walk-listed ends i e = absurd (nowhere e)
-walk-listed (faults q) i e = absurd (nowhere e)
-walk-listed (meets {c} {m} w a n v) zero {l} e =
-    let same : located c (w .kind) m ≡ l = cc in
-    rw (← same) (record { numbered = omega arith; few = n; starts = refl; ids = refl })
-walk-listed (meets {c} {m} w a n v) (suc i) e =
-    let later = walk-listed v i e in
+walk-listed ends i l h = absurd h
+walk-listed (faults q) i l h = absurd h
+walk-listed (meets {c} {m} w a n v) zero l h = rw (← h) (record { numbered = omega arith; few = n; starts = refl; ids = refl })
+walk-listed (meets {c} {m} w a n v) (suc i) l h =
+    let later = walk-listed v i l h in
     record { numbered = omega (arith, later .numbered); few = later .few; starts = later .starts; ids = later .ids }
 
 place-listed : (s : List ℕ) (n : ℕ) {l : Located} → place s n ≡ answered l → Listed (entries s) 0 n l
-unfolding place entries
-place-listed s n {l} e = by (answer s) e
-  where
-    by : (v : Verdict) → unlessRefused v (nth (places (trace s)) n) ≡ answered l → Listed (entriesOf (trace s)) 0 n l
-    by (accepted k) q = walk-listed (walks s) n q
-    by (refused f r b) q = let z : _≡_ {A = ℕ} 0 1 = cc in absurd (omega arith)
+unfolding entries
+place-listed s n {l} e = walk-listed (walks s) n l (place-nth s n e)
 
 -- the order allows a message in the phase that its id gives
 phase-allows : (k : Kind) → allowed k (phaseFor (identified (idOf k))) ≡ true

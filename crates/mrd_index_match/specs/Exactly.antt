@@ -1,7 +1,6 @@
 -- A given index is believed exactly when it is the one that the stream yields.
 -- Assumes nothing.
 use Prim.Native.Nat.{ℕ}
-use native.Mathlib.Omega.{arith}
 use mathlib.Core.Path.{_≡_, refl, sym, ap, _∙_}
 use mathlib.Core.Logic.{_↔_}
 use mathlib.Core.Bool.{Bool, true, false, _&&_, true≢false}
@@ -11,6 +10,7 @@ use Rattle.mrd_logic.specs.Choice.{both}
 use Rattle.mrd_logic.specs.Lists.{begins, equal}
 use Rattle.mrd_logic.specs.ListLaws.{equal-refl, equal-same, begins-take, take-begins}
 use Rattle.mrd_logic.specs.Answer.{Verdict, accepted, refused, Answer, answered, stream, number, unlessRefused}
+use Rattle.mrd_logic.specs.AnswerLaws.{answered-not-number, answered-not-stream, stream-not-number}
 use Rattle.mrd_stream.specs.Walk.{answer}
 use Rattle.mrd_stream.specs.Index.{index, startColumn, idColumn, counterColumn}
 use Rattle.mrd_cut.specs.Walked.{refused-not-accepted}
@@ -36,18 +36,9 @@ pub record Exactly (s : List ℕ) (own : Type 0) (m : Answer (Unit {0})) : Type 
   pub no-other-number : {k : ℕ} → m ≡ number k → k ≡ 15
   pub stream-first : {f r b : ℕ} → (m ≡ stream f r b) ↔ (answer s ≡ refused f r b)
 
--- two answers of different cases are not the same
+-- two answers of one case are the same where their numbers are
 abbrev Same : Answer (Unit {0}) → Answer (Unit {0}) → Type 0
 Same a b = a ≡ b
-
-own-not-number : {k : ℕ} → Same (answered tt) (number k) → ⊥
-own-not-number e = let z : _≡_ {A = ℕ} 0 1 = cc in omega arith
-
-own-not-stream : {f r b : ℕ} → Same (answered tt) (stream f r b) → ⊥
-own-not-stream e = let z : _≡_ {A = ℕ} 0 1 = cc in omega arith
-
-stream-not-number : {f r b k : ℕ} → Same (stream f r b) (number k) → ⊥
-stream-not-number e = let z : _≡_ {A = ℕ} 0 1 = cc in omega arith
 
 same-number : {n k : ℕ} → Same (number n) (number k) → k ≡ n
 same-number e = cc
@@ -61,21 +52,21 @@ module _ (s : List ℕ) {own : Type 0} (x : Bool) (told : (x ≡ true) ↔ own) 
   exactly (accepted n) e true t =
       record {
         own-believed = (λ _. record { count = n; passed = e; holds = told .0 t }, λ _. refl);
-        other-15 = (λ q. absurd (own-not-number q), λ a. absurd (a .holds (told .0 t)));
-        no-other-number = λ q. absurd (own-not-number q);
-        stream-first = (λ q. absurd (own-not-stream q), λ q. absurd (refused-not-accepted (sym q ∙ e)));
+        other-15 = (λ q. absurd (answered-not-number q), λ a. absurd (a .holds (told .0 t)));
+        no-other-number = λ q. absurd (answered-not-number q);
+        stream-first = (λ q. absurd (answered-not-stream q), λ q. absurd (refused-not-accepted (sym q ∙ e)));
       }
   exactly (accepted n) e false t =
       let other : own → ⊥ = λ o. true≢false (sym (told .1 o) ∙ t) in
       record {
-        own-believed = (λ q. absurd (own-not-number (sym q)), λ a. absurd (other (a .holds)));
+        own-believed = (λ q. absurd (answered-not-number (sym q)), λ a. absurd (other (a .holds)));
         other-15 = (λ _. record { count = n; passed = e; holds = other }, λ _. refl);
         no-other-number = same-number;
         stream-first = (λ q. absurd (stream-not-number (sym q)), λ q. absurd (refused-not-accepted (sym q ∙ e)));
       }
   exactly (refused f r b) e y t =
       record {
-        own-believed = (λ q. absurd (own-not-stream (sym q)), λ a. absurd (refused-not-accepted (sym e ∙ a .passed)));
+        own-believed = (λ q. absurd (answered-not-stream (sym q)), λ a. absurd (refused-not-accepted (sym e ∙ a .passed)));
         other-15 = (λ q. absurd (stream-not-number q), λ a. absurd (refused-not-accepted (sym e ∙ a .passed)));
         no-other-number = λ q. absurd (stream-not-number q);
         stream-first = (λ q. e ∙ same-stream q, λ q. ap (λ (v : Verdict). unlessRefused v (believed y)) (sym e ∙ q));

@@ -4,5 +4,6 @@ pub mod Joined
 pub mod Checks
 pub mod CheckLaws
 pub mod Answer
+pub mod AnswerLaws
 pub mod Lists
 pub mod ListLaws

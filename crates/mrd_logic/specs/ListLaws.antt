@@ -1,16 +1,28 @@
--- Lists found to stand at the front of others, or to be equal: exactly those that do, and those that are.
+-- What stands at a place of a list; and lists found to stand at the front of others, or to be equal: exactly those that do, and those that are.
 -- Assumes nothing.
-use Prim.Native.Nat.{ℕ, suc, _+_, _<_}
+use Prim.Native.Nat.{ℕ, zero, suc, _+_, _<_}
 use native.Mathlib.Omega.{arith}
-use mathlib.Core.Path.{_≡_, refl, sym, ap, _∙_}
+use mathlib.Core.Path.{_≡_, refl, sym, ap, _∙_, subst}
 use mathlib.Core.Bool.{Bool, true, false, _&&_, and-assoc, and-true, and-false, false≢true}
-use mathlib.Core.List.{List, [], _∷_, _++_}
+use mathlib.Core.List.{List, [], _∷_, _++_, map}
 use borrow.Author.Tests.{eq-eqb, eqb-true}
 use lib.Dec.{eqb}
 use lib.ListN.{length, getD, take, drop, length-drop}
 use lib.Seq.{drop-cons, drop-drop}
 use Rattle.mrd_logic.specs.Choice.{both}
-use Rattle.mrd_logic.specs.Lists.{begins, equal}
+use Rattle.mrd_logic.specs.Every.{Every}
+use Rattle.mrd_logic.specs.Lists.{Nth, begins, equal}
+
+-- what holds of each element holds of the one at a place; a list of images has the image there
+pub every-nth : {A : Type 0} (P : A → Type 0) (xs : List A) (n : ℕ) (x : A) → Every P xs → Nth xs n x → P x
+every-nth P [] n x e h = absurd h
+every-nth P (y ∷ xs) zero x e h = subst P h (e .0)
+every-nth P (y ∷ xs) (suc n) x e h = every-nth P xs n x (e .1) h
+
+pub nth-map : {A B : Type 0} (f : A → B) (xs : List A) (n : ℕ) (x : A) → Nth xs n x → Nth (map f xs) n (f x)
+nth-map f [] n x h = h
+nth-map f (y ∷ xs) zero x h = ap f h
+nth-map f (y ∷ xs) (suc n) x h = nth-map f xs n x h
 
 begins-append : (a b t : List ℕ) → begins (a ++ b) t ≡ (begins a t && begins b (drop (length a) t))
 begins-append [] b t = refl

@@ -14,7 +14,7 @@ use Rattle.mrd_logic.specs.Answer.{Verdict, accepted, refused, Answer, answered
 use Rattle.mrd_cursor.specs.Cursors.{beginning}
 use Rattle.mrd_stream.specs.Walk.{Trace, message, done, trace, verdict, answer}
 use Rattle.mrd_stream.specs.Places.{Located, located, places, nth, place, Stepped, yields, over, step}
-use Rattle.mrd_stream.specs.StepLaws.{Passes, step-yields}
+use Rattle.mrd_stream.specs.StepLaws.{Passes, over-not-yields, step-yields}
 use Rattle.mrd_cut.specs.CutPlaces.{partAt}
 use Rattle.mrd_cut.specs.Inside.{Inside, place-inside}
 use Rattle.mrd_cut.specs.Steps.{Yields, steps-follow}
@@ -51,9 +51,6 @@ at-lies c s = by (step c s) refl
     by (over (accepted n)) e = tt
     by (over (refused f r b)) e = tt
 
-not-over : {l : Located} {d : Cursor} {v : Verdict} → over v ≡ yields l d → ⊥
-not-over e = let z : _≡_ {A = ℕ} 0 1 = cc in omega arith
-
 reached-place : (s : List ℕ) (c d : Cursor) (n : ℕ) (r : Trace) {k : ℕ} → Yields s c r → Reached s c n d → verdict r ≡ accepted k →
     placeAt d s ≡ nth (places r) n
 unfolding placeAt
@@ -67,7 +64,7 @@ reached-place s c d (suc n) (message b k m r) h e a =
   where
     same-next : {l m : Located} {x y : Cursor} → yields l x ≡ yields m y → x ≡ y
     same-next e = cc
-reached-place s c d (suc n) (done v) h e a = absurd (not-over (sym h ∙ e .1 .1 .0))
+reached-place s c d (suc n) (done v) h e a = absurd (over-not-yields (sym h ∙ e .1 .1 .0))
 
 -- the record where a walk over an accepted stream stands after n steps is record n; so its views and fields are those by number
 pub walked-place : (s : List ℕ) {k : ℕ} → answer s ≡ accepted k → (n : ℕ) (d : Cursor) → Reached s beginning n d → placeAt d s ≡ place s n

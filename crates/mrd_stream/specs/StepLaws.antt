@@ -33,8 +33,8 @@ pub record Passes (c : Cursor) (s : List ℕ) (l : Located) (d : Cursor) : Type 
   pub split : drop (c .start) s ≡ bytes ++ drop (d .start) s
 
 -- a step hands out a message or ends the walk, and not both
-not-both : {l : Located} {d : Cursor} {v : Verdict} → over v ≡ yields l d → ⊥
-not-both e = let z : _≡_ {A = ℕ} 0 1 = cc in omega arith
+pub over-not-yields : {l : Located} {d : Cursor} {v : Verdict} → over v ≡ yields l d → ⊥
+over-not-yields e = let z : _≡_ {A = ℕ} 0 1 = cc in omega arith
 
 pub step-over : (c : Cursor) (s : List ℕ) {v : Verdict} → step c s ≡ over v → from c s ≡ done v
 unfolding step stepAt
@@ -42,7 +42,7 @@ step-over c s {v} e = at (drop (c .start) s) e
   where
     judged : (b : ℕ) (t : List ℕ) (j : Judged) → judge c (b ∷ t) ≡ j → stepBy j c (b ∷ t) ≡ over v → walk (b ∷ t) 0 c ≡ done v
     judged b t (faulty f) q e = walk-fault b t c q ∙ ap done (cc)
-    judged b t (whole k z) q e = absurd (not-both (sym e))
+    judged b t (whole k z) q e = absurd (over-not-yields (sym e))
 
     at : (t : List ℕ) → stepAt c t ≡ over v → walk t 0 c ≡ done v
     at [] e = walk-end c ∙ ap done (cc)
@@ -54,7 +54,7 @@ step-yields c s {l} {d} e = at (drop (c .start) s) refl e
   where
     judged : (b : ℕ) (t : List ℕ) → drop (c .start) s ≡ b ∷ t → (j : Judged) → judge c (b ∷ t) ≡ j → stepBy j c (b ∷ t) ≡ yields l d →
         Passes c s l d
-    judged b t here (faulty f) q e = absurd (not-both e)
+    judged b t here (faulty f) q e = absurd (over-not-yields e)
     judged b t here (whole k z) q e =
         let w : WholeAt c (b ∷ t) k z = judge-whole c (b ∷ t) q in
         let least = size-least k (fixedPart k (b ∷ t)) in
@@ -77,7 +77,7 @@ step-yields c s {l} {d} e = at (drop (c .start) s) refl e
         }
 
     at : (t : List ℕ) → drop (c .start) s ≡ t → stepAt c t ≡ yields l d → Passes c s l d
-    at [] here e = absurd (not-both e)
+    at [] here e = absurd (over-not-yields e)
     at (b ∷ t) here e = judged b t here (judge c (b ∷ t)) refl e
 
 -- a walk over s that is at c, and of whose trace f is to be found: f of what is left is the answer wanted

@@ -11,7 +11,8 @@ use borrow.Author.Tests.{lt-ltb, le-ltb, eq-eqb, ne-eqb}
 use Rattle.bytes.specs.Bytes.{indexOf}
 use Rattle.mrd_format.specs.declared.kind.Kind.{Kind}
 use Rattle.mrd_format.specs.declared.kind.Kind.the-variants.{ConfigurationName, ConfigurationText, HeaderText, Close, Text, Acquisition, Image, Waveform}
-use Rattle.mrd_logic.specs.Answer.{Answer, answered, number}
+use Rattle.mrd_logic.specs.Answer.{answered, number}
+use Rattle.mrd_logic.specs.AnswerLaws.{answered-not-number}
 use Rattle.mrd_logic.specs.Checks.{Check, _when_, first, unless}
 use Rattle.mrd_logic.specs.CheckLaws.{numbered, numbered-append, first-next, unless-stops, unless-passed, unless-fault}
 use Rattle.mrd_format.specs.OwnCheckLaws as format
@@ -25,10 +26,6 @@ use Rattle.mrd_format.specs.Message.{limit}
 use Rattle.mrd_write_checks.specs.declared.lengths.Lengths.{Lengths}
 use Rattle.mrd_write_checks.specs.Sized.{sized, nameSized, textSized, sizedBy}
 use Rattle.mrd_write_checks.specs.WriteChecks.{nameUnfit, ownChecks, sizeOf, partLengths, dueLengths, sameLengths, sizedChecks, contentsChecks, judged}
-
--- an answer is one or the other
-pub answered-not-number : {z x : ℕ} → _≡_ {A = Answer ℕ} (answered z) (number x) → ⊥
-answered-not-number e = let z : _≡_ {A = ℕ} 0 1 = cc in omega arith
 
 -- where a number is answered, no check refused
 pub unless-answered : (f z : ℕ) {y : ℕ} → unless f number (answered z) ≡ answered y → (f ≡ 0) × (z ≡ y)

@@ -11,6 +11,7 @@ use lib.ListN.{length, take, drop}
 use lib.Seq.{length-take-le, take-at, drop-at}
 use Rattle.mrd_numbers.specs.Stored.{stored}
 use Rattle.mrd_logic.specs.Answer.{answered}
+use Rattle.mrd_logic.specs.AnswerLaws.{answered-not-number}
 use Rattle.mrd_logic.specs.Every.{every-split}
 use Rattle.mrd_logic.specs.Checks.{_when_, first, Passed}
 use Rattle.mrd_logic.specs.CheckLaws.{first-passed, passed-first, numbered-append}
@@ -28,7 +29,7 @@ use Rattle.mrd_cursor.specs.Cursors.{maxMessages, after}
 use Rattle.mrd_stream.specs.Walk.{message, walk, from}
 use Rattle.mrd_cut.specs.Walked.{walk-well}
 use Rattle.mrd_write_checks.specs.WriteChecks.{lengthsOf}
-use Rattle.mrd_write_checks.specs.GivenLaws.{answered-not-number, unless-answered, contents-numbered}
+use Rattle.mrd_write_checks.specs.GivenLaws.{unless-answered, contents-numbered}
 use Rattle.mrd_writer.specs.Write.{sizeGiven, givenChecks, writeChecks, answerAs, outputAs, writeAnswer, writeOutput}
 use Rattle.mrd_writer.specs.Sound.{Sound, passed-sound}
 use Rattle.mrd_writer.specs.Written.{sound-fitting, message-length, written-well}

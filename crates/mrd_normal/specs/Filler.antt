@@ -52,19 +52,19 @@ filled-as : (h : Shape) (m : List ℕ) → shapeNumbers h ≡ numbersOf (kindOf 
     first (ownChecks (kindOf h) (fixedPart (kindOf h) m)) ≡ 0 → sizeOf (kindOf h) (fixedPart (kindOf h) m) ≡ length m →
     Filled (kindOf h) m (fillerOf h)
 unfolding numbersOf sizeOf bodySize
-filled-as (ConfigurationName s) m told sound whole =
+filled-as (ConfigurationName s) m meant sound whole =
     let n = nameLength (nameBytes m) in
     let same : s .length ≡ n = cc in
     let short : n < 1024 = name-short m sound in
     let stays : length m - (1024 - n) ≡ 2 + n = omega arith in
     record { within = omega arith; normal = rw (same, stays) (name-ends m (sym whole) short) }
-filled-as (ConfigurationText s) m told sound whole = unfilled Kind.ConfigurationText m (kept Kind.ConfigurationText m refl whole)
-filled-as (HeaderText s) m told sound whole = unfilled Kind.HeaderText m (kept Kind.HeaderText m refl whole)
-filled-as Close m told sound whole = unfilled Kind.Close m (kept Kind.Close m refl whole)
-filled-as (Text s) m told sound whole = unfilled Kind.Text m (kept Kind.Text m refl whole)
-filled-as (Acquisition s) m told sound whole = unfilled Kind.Acquisition m (kept Kind.Acquisition m refl whole)
-filled-as (Image s) m told sound whole = unfilled Kind.Image m (kept Kind.Image m refl whole)
-filled-as (Waveform s) m told sound whole = unfilled Kind.Waveform m (kept Kind.Waveform m refl whole)
+filled-as (ConfigurationText s) m meant sound whole = unfilled Kind.ConfigurationText m (kept Kind.ConfigurationText m refl whole)
+filled-as (HeaderText s) m meant sound whole = unfilled Kind.HeaderText m (kept Kind.HeaderText m refl whole)
+filled-as Close m meant sound whole = unfilled Kind.Close m (kept Kind.Close m refl whole)
+filled-as (Text s) m meant sound whole = unfilled Kind.Text m (kept Kind.Text m refl whole)
+filled-as (Acquisition s) m meant sound whole = unfilled Kind.Acquisition m (kept Kind.Acquisition m refl whole)
+filled-as (Image s) m meant sound whole = unfilled Kind.Image m (kept Kind.Image m refl whole)
+filled-as (Waveform s) m meant sound whole = unfilled Kind.Waveform m (kept Kind.Waveform m refl whole)
 
 -- the filler that a message's record tells
 pub record-filler : {c d : Cursor} {s : List ℕ}

@@ -66,9 +66,9 @@ records-again c = no-candidate (turn-at (c .before .before)) (sym (c .before .ca
 
 -- it is a candidate
 candidate-at : (c : tie.After-place Inv-loop μ-loop Inv-records μ-records) →
-    let told = c .before .before .before in
-    let here = told .before .step .given .0 .0 in
-    candidate (told .before .before .before .before .before .before .before .before .args .n) (here .place .number) (kindOf (here .shape)) ≡ true
+    let meant = c .before .before .before in
+    let here = meant .before .step .given .0 .0 in
+    candidate (meant .before .before .before .before .before .before .before .before .args .n) (here .place .number) (kindOf (here .shape)) ≡ true
 candidate-at c = sym (c .before .before .candidate .ensures) ∙ not-false _ (c .before .if1 .left)
 
 sub-fixed-part : tie.Need-sub-fixed-part Inv-loop μ-loop Inv-records μ-records
@@ -85,10 +85,10 @@ fixed-part-requires c κs = fixed-there (turn-at (c .before .before .before .bef
 
 -- and its header is read
 read-at : (c : tie.After-fixed-part Inv-loop μ-loop Inv-records μ-records) →
-    let told = c .before .before .before .before .before in
-    let a = told .before .before .before .before .before .before .before .before .args in
-    let given = told .before .step .given .0 in
-    Read (a .n) (now (a .counters)) (told .before .before .before .before .records .c) (now (a .s)) (given .0) (given .1 .0) (now (c .fixed-part .result))
+    let meant = c .before .before .before .before .before in
+    let a = meant .before .before .before .before .before .before .before .before .args in
+    let given = meant .before .step .given .0 in
+    Read (a .n) (now (a .counters)) (meant .before .before .before .before .records .c) (now (a .s)) (given .0) (given .1 .0) (now (c .fixed-part .result))
 read-at c =
     record {
       turn = turn-at (c .before .before .before .before .before);

@@ -31,10 +31,10 @@ found-whole c =
 
 fixed-part-requires : tie.Need-fixed-part-requires
 fixed-part-requires c κs =
-    let told = c .before in
-    let test = told .before .before .before .before .before in
+    let meant = c .before in
+    let test = meant .before .before .before .before .before in
     let a = test .before .before .args in
-    rw part-from (laws.whole-fixed (a .c) (now (a .s)) (test .if1 .left) (found-whole told))
+    rw part-from (laws.whole-fixed (a .c) (now (a .s)) (test .if1 .left) (found-whole meant))
 
 -- and its fixed part is passed on
 fixed-is : (c : tie.After-fixed-part) →
@@ -46,33 +46,33 @@ fixed-is c =
 
 yields-requires : tie.Need-yields-requires
 yields-requires c κs =
-    let told = c .before .before in
-    let test = told .before .before .before .before .before in
+    let meant = c .before .before in
+    let test = meant .before .before .before .before .before in
     let a = test .before .before .args in
-    let size = laws.whole-ends (a .c) (now (a .s)) (test .if1 .left) (found-whole told) in (
-      ap length (fixed-is c) ∙ laws.whole-long (a .c) (now (a .s)) (test .if1 .left) (found-whole told),
-      laws.whole-counted (a .c) (now (a .s)) (test .if1 .left) (found-whole told),
+    let size = laws.whole-ends (a .c) (now (a .s)) (test .if1 .left) (found-whole meant) in (
+      ap length (fixed-is c) ∙ laws.whole-long (a .c) (now (a .s)) (test .if1 .left) (found-whole meant),
+      laws.whole-counted (a .c) (now (a .s)) (test .if1 .left) (found-whole meant),
       search needs,
     )
 
 returns-2 : tie.Need-returns-2
 returns-2 c =
-    let told = c .before .before .before in
-    let test = told .before .before .before .before .before in
+    let meant = c .before .before .before in
+    let test = meant .before .before .before .before .before in
     let a = test .before .before .args in
-    let given = told .before .judgement .given .0 in
+    let given = meant .before .judgement .given .0 in
     c .yields .ensures ∙ ap (λ (h : List ℕ). yielded (a .c) (given .0) h (given .1 .0)) (fixed-is (c .before)) ∙
-    laws.step-yields-record (a .c) (now (a .s)) (test .if1 .left) (found-whole told)
+    laws.step-yields-record (a .c) (now (a .s)) (test .if1 .left) (found-whole meant)
 
 returns-3 : tie.Need-returns-3
 returns-3 c =
-    let told = c .before in
-    let judged = told .before .before .before in
+    let meant = c .before in
+    let judged = meant .before .before .before in
     let test = judged .before .before in
     let a = test .before .before .args in
-    let due : judge (a .c) (drop (a .c .start) (now (a .s))) ≡ faulty (told .before .judgement2 .given .0 .0) =
+    let due : judge (a .c) (drop (a .c .start) (now (a .s))) ≡ faulty (meant .before .judgement2 .given .0 .0) =
     ap (judge (a .c)) (sym (part-from (a .c .start) (now (a .s)))) ∙ sym (judged .judge .ensures) ∙ ap judgementMeaning
-    (told .before .judgement2 .given .1) in
+    (meant .before .judgement2 .given .1) in
     ap over (c .refused .ensures) ∙ sym (laws.step-faulty (a .c) (now (a .s)) (test .if1 .left) due)
 
 pub next-spec : {M : Type 1} → statement M

@@ -10,8 +10,8 @@ use Rattle.mrd_logic.specs.Answer.{Answer, answered, stream, number}
 use Rattle.mrd_stream.specs.Places.{place}
 use Rattle.mrd_record.specs.RecordLaws.{place-lies}
 use Rattle.mrd_views.specs.declared.views.Span.{Span}
-use Rattle.mrd_views.specs.Views.{viewOf}
-use Rattle.mrd_views.specs.ViewLaws.{ViewIn, view-fits}
+use Rattle.mrd_views.specs.Views.{viewOf, ViewIn}
+use Rattle.mrd_views.specs.ViewLaws.{view-fits}
 use Rattle.mrd_fields.specs.Fields.{fieldOf}
 use Rattle.mrd_find.specs.Find.{findOf}
 use Rattle.mrd_ask.specs.declared.question.Question.{Question}

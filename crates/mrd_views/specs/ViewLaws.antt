@@ -1,6 +1,6 @@
 -- Each view lies in its stream.
 -- Assumes nothing.
-use Prim.Native.Nat.{ℕ, _+_, _≤_}
+use Prim.Native.Nat.{ℕ, _≤_}
 use native.Mathlib.Omega.{arith}
 use mathlib.Core.Path.{_≡_, refl, sym, _∙_}
 use mathlib.Core.List.{List}
@@ -18,13 +18,7 @@ use Rattle.mrd_cut.specs.Inside.{Inside}
 use Rattle.mrd_record.specs.AtCursor.{LiesIn}
 use Rattle.mrd_record.specs.RecordLaws.{fixed-long}
 use Rattle.mrd_views.specs.declared.views.Span.{Span}
-use Rattle.mrd_views.specs.Views.{shownAt, startOf, viewBy}
-
--- a view's place lies in s
-abbrev pub ViewIn : List ℕ → Answer Span → Type 0
-ViewIn s (answered x) = x .start + x .length ≤ length s
-ViewIn s (stream f r b) = Unit {0}
-ViewIn s (number n) = Unit {0}
+use Rattle.mrd_views.specs.Views.{shownAt, startOf, viewBy, ViewIn}
 
 -- a record that lies in s
 module _ (s : List ℕ) (l : Located) (i : Inside s l) where

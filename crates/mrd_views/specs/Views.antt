@@ -1,8 +1,8 @@
 -- 'Views': 'text, name, attributes, trajectory, one channel's samples, pixels, waveform data: each is that part of the lent stream itself'.
 -- Assumes nothing.
-use Prim.Native.Nat.{ℕ, _+_}
+use Prim.Native.Nat.{ℕ, _+_, _≤_}
 use mathlib.Core.List.{List, []}
-use lib.ListN.{take, drop}
+use lib.ListN.{length, take, drop}
 use Rattle.mrd_logic.specs.Answer.{Answer, answered, stream, number, andThen}
 use Rattle.mrd_format.specs.Message.{fixedPart}
 use Rattle.mrd_format.specs.Parts.{Reach, lies, lacks}
@@ -44,6 +44,12 @@ abbrev pub startOf : Answer Span → ℕ
 startOf (answered x) = x .start
 startOf (stream f r b) = 0
 startOf (number n) = 0
+
+-- a view's place lies in s
+abbrev pub ViewIn : List ℕ → Answer Span → Type 0
+ViewIn s (answered x) = x .start + x .length ≤ length s
+ViewIn s (stream f r b) = Unit {0}
+ViewIn s (number n) = Unit {0}
 
 -- what each case of an answered place says
 abbrev pub viewMeaning : ViewPlace → Answer Span

@@ -42,7 +42,7 @@ use Rattle.mrd_writer.specs.Write.{writeAnswer, writeOutput}
 use Rattle.mrd_writer.specs.ReadBack.{ReadsBack}
 use Rattle.mrd_writer.specs.ReadBack as writer
 use Rattle.mrd_demands.specs.Refusals.{Refusal, output-kept, written-kept}
-use Rattle.mrd_demands.specs.RecordViews.{ViewsOf}
+use Rattle.mrd_demands.specs.RecordViews.{ViewsOf, EachPart}
 use Rattle.mrd_demands.specs.RecordViews as views
 use Rattle.mrd_demands.specs.Messages.{recordsIn}
 use Rattle.mrd_demands.specs.NormalStreams.{accepted-again, normal-long, normal-records, normal-own, normal-written, records-cut}
@@ -93,6 +93,10 @@ walk-stands-at-record = records-at.walked-place
 pub views-are-the-records-parts : (s : List ℕ) (n : ℕ) {l : Located} → place s n ≡ answered l →
     (r : Record) × (Nth (records s) n r × ViewsOf s n r)
 views-are-the-records-parts = views.views-are-parts
+
+-- the view of each part of a record's message is at that part's place, and a view of what is no part of it is 17
+pub parts-are-shown : (s : List ℕ) (n : ℕ) {l : Located} → place s n ≡ answered l → EachPart s n l
+parts-are-shown = views.each-part-shown
 
 -- what we write reads back as the same record: where the writer answers, what it left is a well-formed message whose record is that of what was
 -- given, and wherever order and count allow, a walk over any stream that has it there meets it

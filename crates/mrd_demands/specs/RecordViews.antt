@@ -6,17 +6,23 @@ use mathlib.Core.Path.{_≡_, refl, sym, ap, ap₂, _∙_}
 use mathlib.Core.List.{List, [], _∷_, _++_, map, append-assoc}
 use lib.ListN.{length, take, drop, length-append}
 use lib.Seq.{drop-drop, take-append-seam, drop-at}
+use mathlib.Core.Bool.{false}
+use Rattle.mrd_logic.specs.Every.{Every, every-map}
 use Rattle.mrd_logic.specs.Lists.{Nth}
 use Rattle.mrd_logic.specs.ListLaws.{nth-map}
 use Rattle.mrd_logic.specs.AnswerLaws.{answered-not-number}
-use Rattle.mrd_logic.specs.Answer.{answered}
+use Rattle.mrd_logic.specs.Answer.{answered, number}
 use Rattle.mrd_numbers.specs.Laws.{part-take}
 use Rattle.mrd_format.specs.Message.{fixedPart, sizeOf}
 use Rattle.mrd_format.specs.Parts as part
 use Rattle.mrd_format.specs.Parts.{Part, Reach, lies, lacks, bytesIn}
-use Rattle.mrd_format.specs.Content.{extentOf, contentsOf, Record, recordOf}
+use Rattle.mrd_format.specs.Content.{piecesOf, extentOf, contentsOf, Record, recordOf}
+use Rattle.mrd_format.specs.Segments.{Piece}
 use Rattle.mrd_format.specs.ReachLaws.{part-within, channel-is-share}
+use Rattle.mrd_format.specs.ExtentLaws.{FoundAt, parts-found, NoneIs, others-lacking}
+use Rattle.mrd_parts.specs.declared.parts.Part as parts
 use Rattle.mrd_parts.specs.declared.parts.Part.the-variants as asked
+use Rattle.mrd_parts.specs.Sought.{partMeaning}
 use Rattle.mrd_cursor.specs.declared.cursor.Cursor.{Cursor}
 use Rattle.mrd_stream.specs.Walk.{Trace, trace}
 use Rattle.mrd_stream.specs.Places.{Located, located, places, place}
@@ -105,3 +111,36 @@ views-are-parts s n {l} e =
         },
       ),
     )
+
+-- the parts of the message at a place
+abbrev pub partsAt : List ℕ → Located → List Piece
+partsAt s l = piecesOf (l .kind) (fixedPart (l .kind) (partAt s l))
+
+-- the view that is asked for by the name of a part is at that part's place
+abbrev pub ViewOfPart : List ℕ → ℕ → Located → Piece → Type 0
+ViewOfPart s n l q = (p : parts.Part) → partMeaning p ≡ q .part → viewOf s n p ≡ answered (span (l .start + q .place .offset) (q .place .size))
+
+-- the views of record n, which lies at l: each part of its message at its place, one channel after the other, and 17 for what is no part of it
+pub record EachPart (s : List ℕ) (n : ℕ) (l : Located) : Type 0 where
+  pub there : Every (ViewOfPart s n l) (partsAt s l)
+  pub else-17 : (p : parts.Part) → NoneIs (partMeaning p) (partsAt s l) → viewOf s n p ≡ number 17
+
+-- no view is asked for the samples of all channels
+one-part : (p : parts.Part) → part.same (partMeaning p) part.samples ≡ false
+one-part asked.Name = refl
+one-part asked.Text = refl
+one-part asked.Attributes = refl
+one-part asked.Trajectory = refl
+one-part (asked.Channel c) = refl
+one-part asked.Pixels = refl
+one-part asked.Waveform = refl
+
+pub each-part-shown : (s : List ℕ) (n : ℕ) {l : Located} → place s n ≡ answered l → EachPart s n l
+unfolding viewOf
+each-part-shown s n {l} e =
+    let k = l .kind in
+    let h = fixedPart k (partAt s l) in
+    record {
+      there = every-map (FoundAt k h) (ViewOfPart s n l) (λ q f p named. rw (e, named, f)) (partsAt s l) (parts-found k h);
+      else-17 = λ p none. rw (e, others-lacking (partMeaning p) h (one-part p) k none);
+    }

@@ -17,6 +17,7 @@ pub mod Shapes
 pub mod Content
 pub mod PieceLaws
 pub mod ReachLaws
+pub mod ExtentLaws
 pub mod NormalLaws
 pub mod HeaderLaws
 pub mod Made

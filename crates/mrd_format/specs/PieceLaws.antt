@@ -89,7 +89,7 @@ Fits h (channels c n) = Unit {0}
 abbrev pub placesOf : List Piece → List Extent
 placesOf ps = map (λ (p : Piece). p .place) ps
 
-channels-adjoin : (n c at z : ℕ) → Adjoins at (at + n * z) (placesOf (channelsFrom n c at z))
+pub channels-adjoin : (n c at z : ℕ) → Adjoins at (at + n * z) (placesOf (channelsFrom n c at z))
 channels-adjoin zero c at z = rw zero-mul (sym (add-zero at))
 channels-adjoin (suc n) c at z =
     let end : at + suc n * z ≡ at + z + n * z = omega (arith, suc-mul n z) in

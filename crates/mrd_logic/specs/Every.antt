@@ -15,3 +15,8 @@ every-split P (x ∷ xs) ys p = let r = every-split P xs ys (p .1) in ((p .0, r 
 pub every-append : {A : Type 0} (P : A → Type 0) (xs ys : List A) → Every P xs → Every P ys → Every P (xs ++ ys)
 every-append P [] ys p q = q
 every-append P (x ∷ xs) ys p q = (p .0, every-append P xs ys (p .1) q)
+
+-- what follows from P holds of each, where P does
+pub every-map : {A : Type 0} (P Q : A → Type 0) → ((x : A) → P x → Q x) → (xs : List A) → Every P xs → Every Q xs
+every-map P Q f [] p = tt
+every-map P Q f (x ∷ xs) p = (f x (p .0), every-map P Q f xs (p .1))

@@ -3,7 +3,7 @@
 use Prim.Native.Nat.{ℕ}
 use lib.IntN.{ℤ, pos}
 use Rattle.mrd_logic.specs.Answer.{Answer, answered, stream, number}
-use Rattle.mrd_element.specs.Field.{FieldValue, whole, signed, float}
+use Rattle.mrd_element.specs.Element.{FieldValue, whole, signed, float}
 use Rattle.mrd_views.specs.declared.views.Span.{Span}
 use Rattle.c_record.specs.declared.view.ViewPlace.{ViewPlace}
 use Rattle.c_record.specs.declared.field.FieldAnswer.{FieldAnswer}

@@ -23,7 +23,7 @@ use Rattle.mrd_stream.specs.Output.{answerBy, answerFor}
 use Rattle.mrd_record.specs.AtCursor.{placeAt}
 use Rattle.mrd_parts.specs.declared.parts.Part.{Part}
 use Rattle.mrd_views.specs.Views.{viewBy, viewOf}
-use Rattle.mrd_element.specs.Field.{FieldValue, whole, signed, float}
+use Rattle.mrd_element.specs.Element.{FieldValue, whole, signed, float}
 use Rattle.mrd_fields.specs.Fields.{fieldBy, fieldOf}
 use Rattle.mrd_find.specs.Find.{findOf}
 use Rattle.mrd_columns.specs.Columns.{columnsAnswer}

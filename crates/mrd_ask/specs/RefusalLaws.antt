@@ -31,7 +31,7 @@ use Rattle.mrd_record.specs.AtCursor.{placeBy, placeAt}
 use Rattle.mrd_parts.specs.declared.parts.Part.{Part}
 use Rattle.mrd_parts.specs.Sought.{partMeaning}
 use Rattle.mrd_views.specs.Views.{shownAt, viewBy, viewOf}
-use Rattle.mrd_element.specs.Field.{Start, starts, none, elementAt, readAt, elementOf}
+use Rattle.mrd_element.specs.Element.{Start, starts, none, elementAt, readAt, elementOf}
 use Rattle.mrd_fields.specs.Fields.{fieldBy, fieldOf}
 use Rattle.mrd_find.specs.Find.{matches, firstMatch, findOf}
 use Rattle.mrd_ask.specs.declared.question.Question.{Question}

@@ -7,7 +7,7 @@ use lib.Dec.{T}
 use Rattle.mrd_logic.specs.Answer.{Answer, answered, stream, number, andThen}
 use Rattle.mrd_stream.specs.Places.{Located}
 use Rattle.mrd_stream.specs.ReaderMeaning.{recordMeaning}
-use Rattle.mrd_element.specs.Field.{FieldValue}
+use Rattle.mrd_element.specs.Element.{FieldValue}
 use Rattle.mrd_element.specs.ValueMeaning.{valueMeaning, nanApart}
 use Rattle.mrd_views.specs.declared.views.Span.{Span}
 use Rattle.mrd_ask.specs.declared.question.Reply.{Reply}

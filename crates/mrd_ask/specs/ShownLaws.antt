@@ -1,4 +1,5 @@
--- A place is shown exactly where the bytes have it; and a stream has every place that is replied about it, with no index given or with one.
+-- A place is shown exactly where the bytes have it; a stream has every place that is replied about it, with no index given or with one; and a view that
+-- is replied is the one of the record's number.
 -- Assumes nothing.
 use Prim.Native.Nat.{ℕ, _-_, _≤_, _<_}
 use native.Mathlib.Omega.{arith}
@@ -9,8 +10,9 @@ use lib.ListN.{length}
 use Rattle.mrd_logic.specs.Answer.{Answer, answered, stream, number, andThen}
 use Rattle.mrd_stream.specs.Places.{place}
 use Rattle.mrd_record.specs.RecordLaws.{place-lies}
+use Rattle.mrd_parts.specs.declared.parts.Part.{Part}
 use Rattle.mrd_views.specs.declared.views.Span.{Span}
-use Rattle.mrd_views.specs.Views.{viewOf, ViewIn}
+use Rattle.mrd_views.specs.Views.{viewOf, shown, ViewIn}
 use Rattle.mrd_views.specs.ViewLaws.{view-fits}
 use Rattle.mrd_fields.specs.Fields.{fieldOf}
 use Rattle.mrd_find.specs.Find.{findOf}
@@ -19,7 +21,7 @@ use Rattle.mrd_ask.specs.declared.question.Question
 use Rattle.mrd_ask.specs.Replies as replies
 use Rattle.mrd_ask.specs.Replies.{Replied, reply}
 use Rattle.mrd_ask.specs.Questions.{askOf}
-use Rattle.mrd_ask.specs.Shown.{emptySpan, spanOf, fitted, SpanIn}
+use Rattle.mrd_ask.specs.Shown.{emptySpan, spanOf, fitted, SpanIn, spanned}
 
 module _ (n : ℕ) (x : Span) where
   -- it begins past their end
@@ -65,3 +67,14 @@ module _ (s : List ℕ) where
   indexed-fits (answered t) q cs = asked-fits q cs
   indexed-fits (stream f r b) q cs = empty-fitted (length s)
   indexed-fits (number n) q cs = empty-fitted (length s)
+
+  -- and the view that is replied is the one that its record's number gives
+  pub asked-view : (n : ℕ) (p : Part) (cs : List ℕ) →
+      spanned (fitted (length s) (spanOf (askOf s (Question.View n p) cs))) s ≡ shown (viewOf s n p) s
+  unfolding askOf
+  asked-view n p cs = rw (asked-fits (Question.View n p) cs) (by (viewOf s n p))
+    where
+      by : (a : Answer Span) → spanned (spanOf (reply replies.view a)) s ≡ shown a s
+      by (answered x) = refl
+      by (stream f r b) = refl
+      by (number k) = refl

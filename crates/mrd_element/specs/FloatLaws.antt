@@ -9,7 +9,7 @@ use lib.Ieee.Bits.{toBits-ofBits, nanBits-is, nanBits-above}
 use borrow.Author.Tests.{lt-ltb, le-ltb}
 use Rattle.mrd_element.specs.declared.value.Value.{Value}
 use Rattle.mrd_element.specs.declared.value.Value
-use Rattle.mrd_element.specs.Field.{float}
+use Rattle.mrd_element.specs.Element.{float}
 use Rattle.mrd_element.specs.ValueMeaning.{TellsValue}
 
 -- without its sign, a NaN's pattern is above the infinity's

@@ -9,7 +9,7 @@ use Rattle.mrd_element.specs.declared.value.Value.{Value}
 use Rattle.mrd_element.specs.declared.value.Value
 use Rattle.mrd_element.specs.declared.value.Element.{Element}
 use Rattle.mrd_element.specs.declared.value.Element
-use Rattle.mrd_element.specs.Field.{FieldValue, whole, signed, float}
+use Rattle.mrd_element.specs.Element.{FieldValue, whole, signed, float}
 
 abbrev pub valueMeaning : Value → FieldValue
 valueMeaning (Value.Whole n) = whole n

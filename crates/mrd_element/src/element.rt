@@ -13,7 +13,7 @@ use mrd_numbers::read_u64;
 ghost use mathlib.Core.Path.{_≡_};
 ghost use lib.ListN.{length};
 ghost use Rattle.mrd_format.specs.Kinds.{fixedSize};
-ghost use Rattle.mrd_element.specs.Field.{elementOf, float};
+ghost use Rattle.mrd_element.specs.Element.{elementOf, float};
 ghost use Rattle.mrd_element.specs.ValueMeaning.{TellsValue, TellsElement};
 
 // 32 bits as a float; where they are a NaN's, as its bit pattern.

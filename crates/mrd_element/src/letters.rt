@@ -6,7 +6,7 @@
 use mrd_format::Kind;
 ghost use mathlib.Core.Path.{_≡_};
 ghost use lib.ListN.{getD};
-ghost use Rattle.mrd_element.specs.Field.{elementAt};
+ghost use Rattle.mrd_element.specs.Element.{elementAt};
 ghost use Rattle.mrd_element.specs.Letters.{letterOf};
 
 const ACQUISITION: [u8; 340] = *b"\

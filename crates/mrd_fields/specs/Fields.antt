@@ -9,7 +9,7 @@ use Rattle.mrd_logic.specs.Answer.{Answer, answered, stream, number, andThen}
 use Rattle.mrd_format.specs.Message.{fixedPart}
 use Rattle.mrd_stream.specs.Places.{Located, place}
 use Rattle.mrd_cut.specs.CutPlaces.{partAt}
-use Rattle.mrd_element.specs.Field.{FieldValue, elementOf}
+use Rattle.mrd_element.specs.Element.{FieldValue, elementOf}
 use Rattle.mrd_element.specs.ValueMeaning.{valueMeaning, nanApart}
 use Rattle.mrd_fields.specs.declared.fields.FieldAnswer.{FieldAnswer}
 use Rattle.mrd_fields.specs.declared.fields.FieldAnswer.the-variants.{Value, Stream, Refused}

@@ -8,9 +8,9 @@ use mir.ValLaws.{toZ-ofZ}
 use Rattle.mrd_logic.specs.Answer.{answered}
 use Rattle.mrd_format.specs.Elements.{ElementType, u16, u32, u64, i32, f32}
 use Rattle.mrd_counter_step.specs.Counters as counters
-use Rattle.mrd_element.specs.Field.{starts, none, whole, signed, float}
+use Rattle.mrd_element.specs.Element.{starts, none, whole, signed, float}
 use Rattle.mrd_element.specs.Letters.{letterOf}
-use Rattle.mrd_element.specs.FieldLaws.{meant, FoundElement, found-by-letter, absent-by-letter}
+use Rattle.mrd_element.specs.ElementLaws.{meant, FoundElement, found-by-letter, absent-by-letter}
 use borrow.Author.Needs.{needs}
 use Rattle.mrd_element.proofs.element.read_element.Statement.{statement}
 use Rattle.mrd_element.proofs.element.read_element.Tie as tie

@@ -7,7 +7,7 @@ use Rattle.mrd_format.specs.Acquisition as acquisition
 use Rattle.mrd_format.specs.Image as image
 use Rattle.mrd_format.specs.Waveform as waveform
 use Rattle.mrd_format.proofs.Arms.{arm-same}
-use Rattle.mrd_element.specs.Field.{typeAt, elementAt}
+use Rattle.mrd_element.specs.Element.{typeAt, elementAt}
 use Rattle.mrd_element.specs.Letters.{letterOf}
 use Rattle.mrd_element.specs.LetterLaws.{drawn-letter}
 use borrow.Author.Needs.{needs}

@@ -6,7 +6,7 @@ use Rattle.mrd_format.specs.Message.{fixedPart}
 use Rattle.mrd_format.specs.Shapes.{kindOf}
 use Rattle.mrd_stream.specs.ReaderMeaning.{recordMeaning}
 use Rattle.mrd_cut.specs.CutPlaces.{partAt}
-use Rattle.mrd_element.specs.Field.{elementOf}
+use Rattle.mrd_element.specs.Element.{elementOf}
 use Rattle.mrd_element.specs.ValueMeaning.{elementMeaning}
 use Rattle.mrd_record.specs.RecordLaws.{fixed-long}
 use borrow.Author.Needs.{needs}

@@ -1,4 +1,4 @@
--- What a letter says of the field at an offset: that its bytes lie in the fixed part, and how they are read.
+-- What a letter says of the header element at an offset: that its bytes lie in the fixed part, and how they are read.
 -- Assumes nothing.
 use Prim.Native.Nat.{ℕ, _+_, _≤_}
 use native.Mathlib.Omega.{arith}
@@ -13,7 +13,7 @@ use Rattle.mrd_format.specs.declared.kind.Kind.{Kind}
 use Rattle.mrd_format.specs.declared.kind.Kind
 use Rattle.mrd_format.specs.Kinds.{formOf, fixedSize}
 use Rattle.mrd_format.specs.Elements.{ElementType, u16, u32, u64, i32, f32, width}
-use Rattle.mrd_element.specs.Field.{Start, starts, none, typeAt, elementAt, valueOf, readAt, elementOf}
+use Rattle.mrd_element.specs.Element.{Start, starts, none, typeAt, elementAt, valueOf, readAt, elementOf}
 use Rattle.mrd_element.specs.Letters.{letterOf}
 use Rattle.mrd_element.specs.LetterLaws.{within, starts-inside}
 

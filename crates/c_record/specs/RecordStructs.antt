@@ -3,7 +3,7 @@
 use Prim.Native.Nat.{ℕ}
 use lib.IntN.{ℤ, pos}
 use Rattle.mrd_logic.specs.Answer.{Answer, answered, stream, number}
-use Rattle.mrd_element.specs.Field as header
+use Rattle.mrd_element.specs.Element.{FieldValue, whole, signed, float}
 use Rattle.mrd_views.specs.declared.views.Span.{Span}
 use Rattle.c_record.specs.declared.view.ViewPlace.{ViewPlace}
 use Rattle.c_record.specs.declared.field.FieldAnswer.{FieldAnswer}
@@ -26,13 +26,12 @@ fieldAs f r b t w i x =
 abbrev pub refusedField : (refusal r byte : ℕ) → FieldAnswer
 refusedField f r b = fieldAs f r b 0 0 (pos 0) 0
 
-abbrev pub cValue : header.FieldAnswer → FieldAnswer
-cValue (header.whole n) = fieldAs 0 0 0 1 n (pos 0) 0
-cValue (header.signed z) = fieldAs 0 0 0 2 0 z 0
-cValue (header.float n) = fieldAs 0 0 0 3 0 (pos 0) n
-cValue (header.number n) = refusedField n 0 0
+abbrev pub cValue : FieldValue → FieldAnswer
+cValue (whole n) = fieldAs 0 0 0 1 n (pos 0) 0
+cValue (signed z) = fieldAs 0 0 0 2 0 z 0
+cValue (float n) = fieldAs 0 0 0 3 0 (pos 0) n
 
-abbrev pub cField : Answer header.FieldAnswer → FieldAnswer
+abbrev pub cField : Answer FieldValue → FieldAnswer
 cField (answered v) = cValue v
 cField (stream f r b) = refusedField f r b
 cField (number n) = refusedField n 0 0

@@ -5,7 +5,6 @@ ghost use Rattle.mrd_element.specs.ValueMeaning.{valueMeaning, nanApart};
 ghost use Rattle.mrd_fields.specs.Fields.{fieldMeaning, fieldApart};
 ghost use Rattle.c_record.specs.RecordStructs.{refusedField, cValue, cField};
 use mrd_element::Value;
-use mrd_format::refusal;
 
 // A header element: its type, 1 whole, 2 signed or 3 float, and its value in the member for that type.
 #[repr(C)]
@@ -68,7 +67,6 @@ impl FieldAnswer {
                 r.float_bits = bits;
                 r
             }
-            Value::Absent => FieldAnswer::refused(refusal::NO_FIELD, 0, 0),
         }
     }
 

@@ -14,20 +14,17 @@ use Rattle.mrd_logic.specs.Checks.{first, unless}
 use Rattle.mrd_format.specs.declared.kind.Identified.{Identified}
 use Rattle.mrd_format.specs.declared.kind.Identified.the-variants.{Known, Unknown}
 use Rattle.mrd_format.specs.Kinds.{identified}
-use Rattle.mrd_format.specs.Elements.{ElementType, u16, u32, u64, i32, f32}
-use Rattle.mrd_format.specs.Message.{fixedPart}
 use Rattle.mrd_format.specs.Parts.{Contents}
 use Rattle.mrd_cursor.specs.declared.cursor.Cursor as walk
 use Rattle.mrd_stream.specs.Walk.{from, verdict, answer}
 use Rattle.mrd_stream.specs.Places.{Located, place, Stepped, yields, over, step}
 use Rattle.mrd_stream.specs.Index.{index, entries, startColumn, idColumn, counterColumn}
 use Rattle.mrd_stream.specs.Output.{answerBy, answerFor}
-use Rattle.mrd_cut.specs.CutPlaces.{partAt}
 use Rattle.mrd_record.specs.AtCursor.{placeAt}
 use Rattle.mrd_parts.specs.declared.parts.Part.{Part}
 use Rattle.mrd_views.specs.Views.{viewBy, viewOf}
-use Rattle.mrd_element.specs.Field as header
-use Rattle.mrd_fields.specs.Fields.{valued, fieldBy, fieldOf}
+use Rattle.mrd_element.specs.Element.{FieldValue, whole, signed, float}
+use Rattle.mrd_fields.specs.Fields.{fieldBy, fieldOf}
 use Rattle.mrd_find.specs.Find.{findOf}
 use Rattle.mrd_columns.specs.Columns.{columnsAnswer}
 use Rattle.mrd_index_match.specs.Compare.{believed, fileMatch, columnsMatch}
@@ -102,31 +99,20 @@ pub zero-field-at : (c : walk.Cursor) (s : List ℕ) (o : ℕ) → cField (field
 zero-field-at c s o = zero-valued (placeAt c s) o s (at-refuses c s)
 
 -- and it has a type
-typed : (a : Answer Located) (o : ℕ) (s : List ℕ) → Refuses 16 a → cField (fieldBy a o s) .refusal ≡ 0 → 0 < cField (fieldBy a o s) .«value_type»
-unfolding header.fieldOf
-typed (answered l) o s r z = started (header.startOf (l .kind) o) (fixedPart (l .kind) (partAt s l)) z
-  where
-    value : (t : ElementType) (n : ℕ) → 0 < cField (valued (header.valueOf t n)) .«value_type»
-    value u16 n = omega arith
-    value u32 n = omega arith
-    value u64 n = omega arith
-    value i32 n = omega arith
-    value f32 n = omega arith
-
-    started : (x : header.Start) (h : List ℕ) → cField (valued (header.answered x h o)) .refusal ≡ 0 →
-        0 < cField (valued (header.answered x h o)) .«value_type»
-    started (header.starts t) h z = value t _
-    started header.none h z = absurd (omega (arith, z))
-typed (stream f i b) o s r z = absurd (omega (arith, r, z))
-typed (number n) o s r z = absurd (omega (arith, r, z))
+typed : (a : Answer FieldValue) → Refuses 16 a → cField a .refusal ≡ 0 → 0 < cField a .«value_type»
+typed (answered (whole n)) r z = omega arith
+typed (answered (signed n)) r z = omega arith
+typed (answered (float n)) r z = omega arith
+typed (stream f i b) r z = absurd (omega (arith, r, z))
+typed (number n) r z = absurd (omega (arith, r, z))
 
 pub field-typed : (s : List ℕ) (n o : ℕ) → cField (fieldOf s n o) .refusal ≡ 0 → 0 < cField (fieldOf s n o) .«value_type»
 unfolding fieldOf
-field-typed s n o = typed (place s n) o s (place-refuses s n)
+field-typed s n o = typed (fieldBy (place s n) o s) (field-refuses (place s n) o s (place-refuses s n))
 
 pub field-at-typed : (c : walk.Cursor) (s : List ℕ) (o : ℕ) → cField (fieldBy (placeAt c s) o s) .refusal ≡ 0 →
     0 < cField (fieldBy (placeAt c s) o s) .«value_type»
-field-at-typed c s o = typed (placeAt c s) o s (at-refuses c s)
+field-at-typed c s o = typed (fieldBy (placeAt c s) o s) (field-refuses (placeAt c s) o s (at-refuses c s))
 
 -- what was looked for
 pub zero-found : (s : List ℕ) (n : ℕ) (cs : List ℕ) → cFound (findOf s n cs) .refusal ≡ 0 → Answered (findOf s n cs)

@@ -1,4 +1,4 @@
--- Whatever is asked, a given index is believed exactly when it is the stream's own; and a view that is replied is one of the given stream.
+-- Whatever is asked, a given index is believed exactly when it is the stream's own.
 -- Assumes nothing.
 use Prim.Native.Nat.{ℕ}
 use native.Mathlib.Omega.{arith}
@@ -9,6 +9,7 @@ use Rattle.mrd_logic.specs.Answer.{Verdict, accepted, refused, Answer, answered
 use Rattle.mrd_stream.specs.Walk.{answer}
 use Rattle.mrd_stream.specs.Index.{index}
 use Rattle.mrd_stream.specs.Places.{place}
+use Rattle.mrd_cut.specs.Walked.{refused-not-accepted}
 use Rattle.mrd_index_match.specs.Compare.{fileMatch, columnsMatch}
 use Rattle.mrd_index_match.specs.Exactly.{Held, Accepted, Exactly, believed-exactly}
 use Rattle.mrd_views.specs.Views.{viewOf}
@@ -37,8 +38,17 @@ module _ (s : List ℕ) {own : Type 0} (m : Answer (Unit {0})) (x : Exactly s ow
   own-answered o (accepted n) e = ap asked (x .own-believed .1 (record { count = n; passed = e; holds = o }))
   own-answered o (refused f r b) e = ap asked (x .stream-first .1 e) ∙ sym (stream-asked s q cs e)
 
+  -- with no index given no question is refused with 15
+  asked-not-15 : askOf s q cs ≡ number 15 → ⊥
+  asked-not-15 = refuses-above 16 (askOf s q cs) (ask-refuses s q cs) (omega arith)
+
+  only-own : {k : ℕ} → answer s ≡ accepted k → (n : Answer (Unit {0})) → m ≡ n → asked n ≡ askOf s q cs → own
+  only-own a (answered t) e w = x .own-believed .0 e .holds
+  only-own a (stream f r b) e w = absurd (refused-not-accepted (sym (x .stream-first .0 e) ∙ a))
+  only-own a (number k) e w = absurd (asked-not-15 (sym w ∙ ap number (x .no-other-number e)))
+
   only-other : (n : Answer (Unit {0})) → m ≡ n → asked n ≡ number 15 → Accepted s (own → ⊥)
-  only-other (answered t) e w = absurd (refuses-above 16 (askOf s q cs) (ask-refuses s q cs) (omega arith) w)
+  only-other (answered t) e w = absurd (asked-not-15 w)
   only-other (stream f r b) e w = absurd (stream-not-number w)
   only-other (number k) e w = x .other-15 .0 (e ∙ ap number (x .no-other-number e))
 
@@ -46,6 +56,7 @@ module _ (s : List ℕ) {own : Type 0} (m : Answer (Unit {0})) (x : Exactly s ow
   believed =
       record {
         own-answered = λ o. own-answered o (answer s) refl;
+        own-believed = λ a. (only-own a m refl, λ o. own-answered o (answer s) refl);
         other-15 = (only-other m refl, λ a. ap asked (x .other-15 .1 a));
         stream-first = λ e. ap asked (x .stream-first .1 e);
       }

@@ -12,7 +12,6 @@ use Rattle.mrd_logic.specs.Choice.{pick}
 use Rattle.mrd_logic.specs.CheckLaws.{fault-not-zero}
 use Rattle.mrd_format.specs.declared.kind.Kind.{Kind}
 use Rattle.mrd_format.specs.Kinds.{identified}
-use Rattle.mrd_format.specs.Elements.{ElementType, u16, u32, u64, i32, f32}
 use Rattle.mrd_format.specs.Message.{idAt, fixedPart}
 use Rattle.mrd_format.specs.Parts.{Reach, lies, lacks}
 use Rattle.mrd_format.specs.Content.{extentOf}
@@ -32,8 +31,8 @@ use Rattle.mrd_record.specs.AtCursor.{placeBy, placeAt}
 use Rattle.mrd_parts.specs.declared.parts.Part.{Part}
 use Rattle.mrd_parts.specs.Sought.{partMeaning}
 use Rattle.mrd_views.specs.Views.{shownAt, viewBy, viewOf}
-use Rattle.mrd_element.specs.Field as header
-use Rattle.mrd_fields.specs.Fields.{valued, fieldBy, fieldOf}
+use Rattle.mrd_element.specs.Element.{Start, starts, none, elementAt, readAt, elementOf}
+use Rattle.mrd_fields.specs.Fields.{fieldBy, fieldOf}
 use Rattle.mrd_find.specs.Find.{matches, firstMatch, findOf}
 use Rattle.mrd_ask.specs.declared.question.Question.{Question}
 use Rattle.mrd_ask.specs.declared.question.Question
@@ -136,20 +135,13 @@ view-refuses a p s r =
     reached (lies e) i = tt
     reached lacks i = omega arith
 
-value-refuses : (t : ElementType) (n : ℕ) → Refuses 16 (valued (header.valueOf t n))
-value-refuses u16 n = tt
-value-refuses u32 n = tt
-value-refuses u64 n = tt
-value-refuses i32 n = tt
-value-refuses f32 n = tt
-
 pub field-refuses : (a : Answer Located) (o : ℕ) (s : List ℕ) → Refuses 16 a → Refuses 16 (fieldBy a o s)
-unfolding header.fieldOf
-field-refuses a o s r = then-refuses 16 a _ r (λ l. started (header.startOf (l .kind) o) (fixedPart (l .kind) (partAt s l)))
+unfolding elementOf
+field-refuses a o s r = then-refuses 16 a _ r (λ l. started (elementAt (l .kind) o) (fixedPart (l .kind) (partAt s l)))
   where
-    started : (x : header.Start) (h : List ℕ) → Refuses 16 (valued (header.answered x h o))
-    started (header.starts t) h = value-refuses t _
-    started header.none h = omega arith
+    started : (x : Start) (h : List ℕ) → Refuses 16 (readAt x h o)
+    started (starts t) h = tt
+    started none h = omega arith
 
 -- a search
 pub find-refuses : (s : List ℕ) (n : ℕ) (cs : List ℕ) → Refuses 16 (findOf s n cs)

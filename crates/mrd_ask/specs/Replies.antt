@@ -7,7 +7,7 @@ use lib.Dec.{T}
 use Rattle.mrd_logic.specs.Answer.{Answer, answered, stream, number, andThen}
 use Rattle.mrd_stream.specs.Places.{Located}
 use Rattle.mrd_stream.specs.ReaderMeaning.{recordMeaning}
-use Rattle.mrd_element.specs.Field.{FieldAnswer}
+use Rattle.mrd_element.specs.Element.{FieldValue}
 use Rattle.mrd_element.specs.ValueMeaning.{valueMeaning, nanApart}
 use Rattle.mrd_views.specs.declared.views.Span.{Span}
 use Rattle.mrd_ask.specs.declared.question.Reply.{Reply}
@@ -17,7 +17,7 @@ use Rattle.mrd_ask.specs.declared.question.Reply
 pub data Replied : Type 0 where
   place : Located → Replied
   view : Span → Replied
-  field : FieldAnswer → Replied
+  field : FieldValue → Replied
   found : ℕ → Replied
 
 -- a question's answer as a reply; its refusals stay

@@ -1,4 +1,5 @@
--- A place is shown exactly where the bytes have it, which those have that a question is answered with.
+-- A place is shown exactly where the bytes have it; a stream has every place that is replied about it, with no index given or with one; and a view that
+-- is replied is the one of the record's number.
 -- Assumes nothing.
 use Prim.Native.Nat.{ℕ, _-_, _≤_, _<_}
 use native.Mathlib.Omega.{arith}
@@ -6,11 +7,12 @@ use mathlib.Core.Path.{_≡_, refl}
 use mathlib.Core.List.{List}
 use borrow.Author.Tests.{le-leb, lt-leb}
 use lib.ListN.{length}
-use Rattle.mrd_logic.specs.Answer.{Answer, answered, stream, number}
+use Rattle.mrd_logic.specs.Answer.{Answer, answered, stream, number, andThen}
 use Rattle.mrd_stream.specs.Places.{place}
 use Rattle.mrd_record.specs.RecordLaws.{place-lies}
+use Rattle.mrd_parts.specs.declared.parts.Part.{Part}
 use Rattle.mrd_views.specs.declared.views.Span.{Span}
-use Rattle.mrd_views.specs.Views.{viewOf, ViewIn}
+use Rattle.mrd_views.specs.Views.{viewOf, shown, ViewIn}
 use Rattle.mrd_views.specs.ViewLaws.{view-fits}
 use Rattle.mrd_fields.specs.Fields.{fieldOf}
 use Rattle.mrd_find.specs.Find.{findOf}
@@ -19,7 +21,7 @@ use Rattle.mrd_ask.specs.declared.question.Question
 use Rattle.mrd_ask.specs.Replies as replies
 use Rattle.mrd_ask.specs.Replies.{Replied, reply}
 use Rattle.mrd_ask.specs.Questions.{askOf}
-use Rattle.mrd_ask.specs.Shown.{emptySpan, spanOf, fitted}
+use Rattle.mrd_ask.specs.Shown.{emptySpan, spanOf, fitted, SpanIn, spanned}
 
 module _ (n : ℕ) (x : Span) where
   -- it begins past their end
@@ -36,21 +38,43 @@ module _ (n : ℕ) (x : Span) where
   unfolding fitted
   fitted-whole h g = simp (le-leb _ _ h, le-leb _ _ g)
 
--- what no view answers shows nothing
-none-shown : {A : Type 0} (f : A → Replied) → ((x : A) → spanOf (answered (f x)) ≡ emptySpan) → (a : Answer A) → spanOf (reply f a) ≡ emptySpan
-none-shown f e (answered x) = e x
-none-shown f e (stream n r b) = refl
-none-shown f e (number n) = refl
+-- any bytes have nothing at their front
+empty-fitted : (n : ℕ) → fitted n emptySpan ≡ emptySpan
+empty-fitted n = fitted-whole n emptySpan (omega arith) (omega arith)
 
--- so the view of what was asked is the place that the answer says
-pub asked-fits : (s : List ℕ) (q : Question) (cs : List ℕ) → fitted (length s) (spanOf (askOf s q cs)) ≡ spanOf (askOf s q cs)
-unfolding askOf viewOf
-asked-fits s (Question.Place n) cs = rw (none-shown replies.place (λ x. refl) (place s n)) (fitted-whole (length s) emptySpan (omega arith) (omega arith))
-asked-fits s (Question.View n p) cs = by (viewOf s n p) (view-fits s (place s n) p (place-lies s n))
-  where
-    by : (a : Answer Span) → ViewIn s a → fitted (length s) (spanOf (reply replies.view a)) ≡ spanOf (reply replies.view a)
-    by (answered x) v = fitted-whole (length s) x (omega (arith, v)) (omega (arith, v))
-    by (stream f r b) v = fitted-whole (length s) emptySpan (omega arith) (omega arith)
-    by (number k) v = fitted-whole (length s) emptySpan (omega arith) (omega arith)
-asked-fits s (Question.Field n o) cs = rw (none-shown replies.field (λ x. refl) (fieldOf s n o)) (fitted-whole (length s) emptySpan (omega arith) (omega arith))
-asked-fits s (Question.Find n) cs = rw (none-shown replies.found (λ x. refl) (findOf s n cs)) (fitted-whole (length s) emptySpan (omega arith) (omega arith))
+module _ (s : List ℕ) where
+  -- what no view answers shows nothing
+  none-shown : {A : Type 0} (f : A → Replied) → ((x : A) → spanOf (answered (f x)) ≡ emptySpan) → (a : Answer A) → SpanIn s (reply f a)
+  none-shown f e (answered x) = rw (e x) (empty-fitted (length s))
+  none-shown f e (stream n r b) = empty-fitted (length s)
+  none-shown f e (number n) = empty-fitted (length s)
+
+  view-shown : (a : Answer Span) → ViewIn s a → SpanIn s (reply replies.view a)
+  view-shown (answered x) v = fitted-whole (length s) x (omega (arith, v)) (omega (arith, v))
+  view-shown (stream f r b) v = empty-fitted (length s)
+  view-shown (number n) v = empty-fitted (length s)
+
+  -- so the view of what was asked is the place that the answer says
+  pub asked-fits : (q : Question) (cs : List ℕ) → SpanIn s (askOf s q cs)
+  unfolding askOf viewOf
+  asked-fits (Question.Place n) cs = none-shown replies.place (λ x. refl) (place s n)
+  asked-fits (Question.View n p) cs = view-shown (viewOf s n p) (view-fits s (place s n) p (place-lies s n))
+  asked-fits (Question.Field n o) cs = none-shown replies.field (λ x. refl) (fieldOf s n o)
+  asked-fits (Question.Find n) cs = none-shown replies.found (λ x. refl) (findOf s n cs)
+
+  -- whatever a given index is found to be
+  pub indexed-fits : (m : Answer (Unit {0})) (q : Question) (cs : List ℕ) → SpanIn s (andThen m (λ _. askOf s q cs))
+  indexed-fits (answered t) q cs = asked-fits q cs
+  indexed-fits (stream f r b) q cs = empty-fitted (length s)
+  indexed-fits (number n) q cs = empty-fitted (length s)
+
+  -- and the view that is replied is the one that its record's number gives
+  pub asked-view : (n : ℕ) (p : Part) (cs : List ℕ) →
+      spanned (fitted (length s) (spanOf (askOf s (Question.View n p) cs))) s ≡ shown (viewOf s n p) s
+  unfolding askOf
+  asked-view n p cs = rw (asked-fits (Question.View n p) cs) (by (viewOf s n p))
+    where
+      by : (a : Answer Span) → spanned (spanOf (reply replies.view a)) s ≡ shown a s
+      by (answered x) = refl
+      by (stream f r b) = refl
+      by (number k) = refl

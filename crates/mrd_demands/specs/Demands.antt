@@ -36,6 +36,8 @@ use Rattle.mrd_index_cursor.specs.IndexCursor.{cursorFor}
 use Rattle.mrd_index_cursor.specs.Indexed.{AtRecord, believed-cursor}
 use Rattle.mrd_ask.specs.declared.question.Question.{Question}
 use Rattle.mrd_ask.specs.Questions.{askOf}
+use Rattle.mrd_ask.specs.Shown.{SpanIn}
+use Rattle.mrd_ask.specs.ShownLaws.{asked-fits, indexed-fits}
 use Rattle.mrd_ask.specs.Belief.{Believed}
 use Rattle.mrd_ask.specs.BeliefLaws.{ask-believed}
 use Rattle.mrd_writer.specs.Write.{writeAnswer, writeOutput}
@@ -108,6 +110,13 @@ pub index-believed-exactly : (s : List ℕ) (q : Question) (cs file starts ids c
     Believed s (file ≡ index s) (askOf s q cs) (andThen (fileMatch s file) (λ _. askOf s q cs)) ×
     Believed s (Held s starts ids counters) (askOf s q cs) (andThen (columnsMatch s starts ids counters) (λ _. askOf s q cs))
 index-believed-exactly = ask-believed
+
+-- a view's place that is replied, with no index given or with one in either form, lies in the given stream: so the view is that part of it
+pub replied-views-lie-in-the-stream : (s : List ℕ) (q : Question) (cs file starts ids counters : List ℕ) →
+    SpanIn s (askOf s q cs) × (SpanIn s (andThen (fileMatch s file) (λ _. askOf s q cs)) ×
+    SpanIn s (andThen (columnsMatch s starts ids counters) (λ _. askOf s q cs)))
+replied-views-lie-in-the-stream s q cs f a b c =
+    (asked-fits s q cs, (indexed-fits s (fileMatch s f) q cs, indexed-fits s (columnsMatch s a b c) q cs))
 
 -- a cursor made from columns that were found to be the stream's own index is at the record with that number: views and fields there are that
 -- record's

@@ -13,7 +13,7 @@ use mir.Facts.{and-yes}
 use borrow.Author.Tests.{eqb-true, eqb-false}
 use Rattle.mrd_logic.specs.Choice.{pick, either}
 use Rattle.mrd_format.specs.Elements.{ElementType, u16, u32, u64, i32, f32, width, Run}
-use Rattle.mrd_element.specs.Field.{Start, starts, none, startsAmong, typeAt}
+use Rattle.mrd_element.specs.Element.{Start, starts, none, startsAmong, typeAt}
 use Rattle.mrd_element.specs.Letters.{letterOf}
 
 -- the letters of n bytes of a table, from a byte on

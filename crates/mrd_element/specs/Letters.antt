@@ -2,7 +2,7 @@
 -- Assumes nothing.
 use Prim.Native.Nat.{ℕ}
 use Rattle.mrd_format.specs.Elements.{u16, u32, u64, i32, f32}
-use Rattle.mrd_element.specs.Field.{Start, starts, none}
+use Rattle.mrd_element.specs.Element.{Start, starts, none}
 
 -- the letters H, I, Q, i and f, and the dot
 abbrev pub letterOf : Start → ℕ

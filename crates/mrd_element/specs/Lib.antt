@@ -1,6 +1,6 @@
-pub mod Field
+pub mod Element
 pub mod ValueMeaning
 pub mod Letters
 pub mod LetterLaws
 pub mod FloatLaws
-pub mod FieldLaws
+pub mod ElementLaws

@@ -6,7 +6,7 @@
 use mrd_format::Kind;
 ghost use mathlib.Core.Path.{_≡_};
 ghost use lib.ListN.{getD};
-ghost use Rattle.mrd_element.specs.Field.{startOf};
+ghost use Rattle.mrd_element.specs.Element.{elementAt};
 ghost use Rattle.mrd_element.specs.Letters.{letterOf};
 
 const ACQUISITION: [u8; 340] = *b"\
@@ -57,7 +57,7 @@ fn letter_in(letters: &[u8], offset: usize) -> u8
 
 // The letter at an offset of a kind's header, and a dot where the kind has no header.
 pub fn letter(kind: Kind, offset: usize) -> u8
-    ensures { λ r. ⌜ r ≡ letterOf (startOf kind offset) ⌝ }
+    ensures { λ r. ⌜ r ≡ letterOf (elementAt kind offset) ⌝ }
 {
     match kind {
         Kind::Acquisition => letter_in(&ACQUISITION, offset),

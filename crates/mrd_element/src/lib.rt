@@ -1,9 +1,10 @@
 // A field of a header, by its offset.
 //
 // Assumes nothing.
-mod fields;
+mod element;
 mod letters;
 mod value;
 
-pub use fields::field;
+pub use element::read_element;
+pub use value::Element;
 pub use value::Value;

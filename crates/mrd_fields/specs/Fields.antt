@@ -9,28 +9,21 @@ use Rattle.mrd_logic.specs.Answer.{Answer, answered, stream, number, andThen}
 use Rattle.mrd_format.specs.Message.{fixedPart}
 use Rattle.mrd_stream.specs.Places.{Located, place}
 use Rattle.mrd_cut.specs.CutPlaces.{partAt}
-use Rattle.mrd_element.specs.Field as header
+use Rattle.mrd_element.specs.Element.{FieldValue, elementOf}
 use Rattle.mrd_element.specs.ValueMeaning.{valueMeaning, nanApart}
 use Rattle.mrd_fields.specs.declared.fields.FieldAnswer.{FieldAnswer}
 use Rattle.mrd_fields.specs.declared.fields.FieldAnswer.the-variants.{Value, Stream, Refused}
 
--- what a header answers, of a record: a number of refusal, 20, is no value
-abbrev pub valued : header.FieldAnswer → Answer header.FieldAnswer
-valued (header.whole n) = answered (header.whole n)
-valued (header.signed z) = answered (header.signed z)
-valued (header.float n) = answered (header.float n)
-valued (header.number n) = number n
-
 -- the field at an offset of the record whose place is answered
-abbrev pub fieldBy : Answer Located → ℕ → List ℕ → Answer header.FieldAnswer
-fieldBy a o s = andThen a (λ l. valued (header.fieldOf (l .kind) (fixedPart (l .kind) (partAt s l)) o))
+abbrev pub fieldBy : Answer Located → ℕ → List ℕ → Answer FieldValue
+fieldBy a o s = andThen a (λ l. elementOf (l .kind) (fixedPart (l .kind) (partAt s l)) o)
 
 -- the field at an offset of record n: the stream's refusal first, then 16, then 20
-unfoldable pub fieldOf : List ℕ → ℕ → ℕ → Answer header.FieldAnswer
+unfoldable pub fieldOf : List ℕ → ℕ → ℕ → Answer FieldValue
 fieldOf s n o = fieldBy (place s n) o s
 
 -- what each case of an answer says
-abbrev pub fieldMeaning : FieldAnswer → Answer header.FieldAnswer
+abbrev pub fieldMeaning : FieldAnswer → Answer FieldValue
 fieldMeaning (Value v) = answered (valueMeaning v)
 fieldMeaning (Stream r) = stream (r .number) (r .record) (r .byte)
 fieldMeaning (Refused n) = number n
@@ -41,6 +34,6 @@ fieldApart (Stream r) = true
 fieldApart (Refused n) = true
 
 -- an answer that says this, with NaNs, and only NaNs, in the case that is meant for them
-pub record TellsField (f : FieldAnswer) (a : Answer header.FieldAnswer) : Type 0 where
+pub record TellsField (f : FieldAnswer) (a : Answer FieldValue) : Type 0 where
   pub says : fieldMeaning f ≡ a
   pub apart : T (fieldApart f)

@@ -1,10 +1,11 @@
 // A field of a record's header, by its offset.
 ghost use lib.Dec.{T};
-ghost use Rattle.mrd_element.specs.ValueMeaning.{valueMeaning, nanApart};
+ghost use Rattle.mrd_element.specs.ValueMeaning.{elementMeaning, elementApart};
 ghost use Rattle.mrd_stream.specs.ReaderMeaning.{placedMeaning};
 ghost use Rattle.mrd_record.specs.AtCursor.{LiesIn, placeAt};
-ghost use Rattle.mrd_fields.specs.Fields.{valued, fieldBy, fieldOf, TellsField};
+ghost use Rattle.mrd_fields.specs.Fields.{fieldBy, fieldOf, TellsField};
 use mrd_cursor::Cursor;
+use mrd_element::Element;
 use mrd_element::Value;
 use mrd_format::refusal;
 use mrd_record::fixed_part;
@@ -14,7 +15,7 @@ use mrd_stream::Refusal;
 
 // The answer about a field.
 pub enum FieldAnswer {
-    // What stands there; never Value::Absent.
+    // What stands there.
     Value(Value),
     // The stream itself is refused.
     Stream(Refusal),
@@ -48,20 +49,20 @@ fn placed_field(placed: Placed, s: &[u8], offset: usize) -> FieldAnswer
     match placed {
         Placed::Found(here) => {
             let shape = here.shape;
-            valued(mrd_element::field(shape.kind(), fixed_part(s, here), offset))
+            answer_of(mrd_element::read_element(shape.kind(), fixed_part(s, here), offset))
         }
         Placed::Stream(refusal) => FieldAnswer::Stream(refusal),
         Placed::Refused(number) => FieldAnswer::Refused(number),
     }
 }
 
-// What a header answered; 20 where it is no value.
-fn valued(value: Value) -> FieldAnswer
-    requires { ⌜ T (nanApart value) ⌝ }
-    ensures { λ r. ⌜ TellsField r (valued (valueMeaning value)) ⌝ }
+// What was read of a header; 20 where no element starts at the offset.
+fn answer_of(element: Element) -> FieldAnswer
+    requires { ⌜ T (elementApart element) ⌝ }
+    ensures { λ r. ⌜ TellsField r (elementMeaning element) ⌝ }
 {
-    match value {
-        Value::Absent => FieldAnswer::Refused(refusal::NO_FIELD),
-        _ => FieldAnswer::Value(value),
+    match element {
+        Element::Value(value) => FieldAnswer::Value(value),
+        Element::Absent => FieldAnswer::Refused(refusal::NO_FIELD),
     }
 }

@@ -7,7 +7,7 @@ use Rattle.mrd_format.specs.Acquisition as acquisition
 use Rattle.mrd_format.specs.Image as image
 use Rattle.mrd_format.specs.Waveform as waveform
 use Rattle.mrd_format.proofs.Arms.{arm-same}
-use Rattle.mrd_element.specs.Field.{typeAt, startOf}
+use Rattle.mrd_element.specs.Element.{typeAt, elementAt}
 use Rattle.mrd_element.specs.Letters.{letterOf}
 use Rattle.mrd_element.specs.LetterLaws.{drawn-letter}
 use borrow.Author.Needs.{needs}
@@ -33,9 +33,10 @@ returns-3 c = rw
     (c .letter-in3 .ensures ∙ drawn-letter 32 waveform.table (c .before .before .before .before .args .offset) tt)
 
 returns-4 : tie.Need-returns-4
+unfolding typeAt
 returns-4 c =
     let a = c .before .args in
-    sym (arm-same (λ (k : Kind). letterOf (startOf k (a .offset))) 46 (0 ∷ 1 ∷ 2 ∷ 3 ∷ 4 ∷ []) (a .kind) (c .match .keys4) refl)
+    sym (arm-same (λ (k : Kind). letterOf (elementAt k (a .offset))) 46 (0 ∷ 1 ∷ 2 ∷ 3 ∷ 4 ∷ []) (a .kind) (c .match .keys4) refl)
 
 pub letter-spec : {M : Type 1} → statement M
 letter-spec =

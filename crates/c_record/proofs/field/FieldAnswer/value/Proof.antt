@@ -1,8 +1,5 @@
 -- `c_record::FieldAnswer::value` meets its contract: it goes by the value's case.
 -- Assumes nothing.
-use mathlib.Core.Path.{sym, ap, _∙_}
-use Rattle.mrd_element.specs.ValueMeaning.{valueMeaning}
-use Rattle.c_record.specs.RecordStructs.{cValue}
 use mir.Syntax.{w32}
 use mir.ValLaws.{toZ-ofZ}
 use borrow.Author.Needs.{needs}
@@ -26,9 +23,6 @@ returns-3 c = rw (c .before .before .before .refused .ensures, c .before .value3
 returns-4 : tie.Need-returns-4
 returns-4 c = rw (c .before .before .before .refused .ensures, c .before .value4 .given .1)
 
-returns-5 : tie.Need-returns-5
-returns-5 c = c .refused2 .ensures ∙ sym (ap (λ v. cValue (valueMeaning v)) (c .before .enum-told .given .1))
-
 pub value-spec : {M : Type 1} → statement M
 value-spec =
     tie.close
@@ -39,10 +33,7 @@ value-spec =
     (λ c. search needs)
     float-to-bits-r
     (λ c. search needs)
-    (λ c. search needs)
-    (λ c κs. search needs)
     returns
     returns-2
     returns-3
-    returns-4
-    returns-5)
+    returns-4)

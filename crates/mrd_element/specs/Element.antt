@@ -5,14 +5,12 @@ use mathlib.Core.Bool.{Bool, false, _||_}
 use mathlib.Core.List.{List, [], _∷_}
 use lib.Dec.{eqb}
 use lib.IntN.{ℤ}
+use Rattle.mrd_logic.specs.Answer.{Answer, answered, number}
 use Rattle.mrd_logic.specs.Choice.{pick}
 use Rattle.mrd_numbers.specs.Little.{num}
 use Rattle.mrd_format.specs.declared.kind.Kind.{Kind}
-use Rattle.mrd_format.specs.declared.kind.Kind
 use Rattle.mrd_format.specs.Elements.{ElementType, u16, u32, u64, i32, f32, width, Run}
-use Rattle.mrd_format.specs.Acquisition as acquisition
-use Rattle.mrd_format.specs.Image as image
-use Rattle.mrd_format.specs.Waveform as waveform
+use Rattle.mrd_format.specs.Kinds.{formOf}
 use Rattle.mrd_counter_step.specs.Counters as counters
 
 -- the type of the header element that starts at an offset, or that none does
@@ -31,25 +29,17 @@ typeAt [] at = none
 typeAt (r ∷ rs) at = pick (startsAmong (r .count) (width (r .type)) (r .offset) at) (starts (r .type)) (typeAt rs at)
 
 -- the element of a kind's header that starts at `at`
-abbrev pub startOf : Kind → ℕ → Start
-startOf Kind.ConfigurationName at = none
-startOf Kind.ConfigurationText at = none
-startOf Kind.HeaderText at = none
-startOf Kind.Close at = none
-startOf Kind.Text at = none
-startOf Kind.Acquisition at = typeAt acquisition.table at
-startOf Kind.Image at = typeAt image.table at
-startOf Kind.Waveform at = typeAt waveform.table at
+abbrev pub elementAt : Kind → ℕ → Start
+elementAt k at = typeAt (formOf k .table) at
 
--- the answer about a field: a whole number, a signed number, a float by its bits, or a number of refusal
-pub data FieldAnswer : Type 0 where
-  whole : ℕ → FieldAnswer
-  signed : ℤ → FieldAnswer
-  float : ℕ → FieldAnswer
-  number : ℕ → FieldAnswer
+-- what a field holds: 'a whole number, a signed number or a 32-bit float', the float by its bits
+pub data FieldValue : Type 0 where
+  whole : ℕ → FieldValue
+  signed : ℤ → FieldValue
+  float : ℕ → FieldValue
 
 -- what an element's bits stand for
-abbrev pub valueOf : ElementType → ℕ → FieldAnswer
+abbrev pub valueOf : ElementType → ℕ → FieldValue
 valueOf u16 n = whole n
 valueOf u32 n = whole n
 valueOf u64 n = whole n
@@ -57,10 +47,10 @@ valueOf i32 n = signed (counters.signed n)
 valueOf f32 n = float n
 
 -- 20: 'no header element starts at that offset, or the record has no header'
-abbrev pub answered : Start → List ℕ → ℕ → FieldAnswer
-answered (starts t) h at = valueOf t (num (width t) h at)
-answered none h at = number 20
+abbrev pub readAt : Start → List ℕ → ℕ → Answer FieldValue
+readAt (starts t) h at = answered (valueOf t (num (width t) h at))
+readAt none h at = number 20
 
--- the field at an offset of a fixed part h
-unfoldable pub fieldOf : Kind → List ℕ → ℕ → FieldAnswer
-fieldOf k h at = answered (startOf k at) h at
+-- the header element at an offset of a fixed part h
+unfoldable pub elementOf : Kind → List ℕ → ℕ → Answer FieldValue
+elementOf k h at = readAt (elementAt k at) h at

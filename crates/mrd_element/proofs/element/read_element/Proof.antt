@@ -1,22 +1,23 @@
--- `mrd_element::fields::field` meets its contract: the letter tells the element's type, so its bytes lie in the fixed part and each arm reads them as
--- that type. Past the five letters no element starts there.
+-- `mrd_element::element::read_element` meets its contract: the letter tells the element's type, so its bytes lie in the fixed part and each arm
+-- reads them as that type. Past the five letters no element starts there.
 -- Assumes nothing.
 use mathlib.Core.Path.{_≡_, sym, ap, _∙_}
 use borrow.Author.Tests.{ne-eqb}
 use mir.Syntax.{w32}
 use mir.ValLaws.{toZ-ofZ}
+use Rattle.mrd_logic.specs.Answer.{answered}
 use Rattle.mrd_format.specs.Elements.{ElementType, u16, u32, u64, i32, f32}
 use Rattle.mrd_counter_step.specs.Counters as counters
-use Rattle.mrd_element.specs.Field.{starts, none, whole, signed, float}
+use Rattle.mrd_element.specs.Element.{starts, none, whole, signed, float}
 use Rattle.mrd_element.specs.Letters.{letterOf}
-use Rattle.mrd_element.specs.FieldLaws.{meant, Found, found-by-letter, absent-by-letter}
+use Rattle.mrd_element.specs.ElementLaws.{meant, FoundElement, found-by-letter, absent-by-letter}
 use borrow.Author.Needs.{needs}
-use Rattle.mrd_element.proofs.fields.field.Statement.{statement}
-use Rattle.mrd_element.proofs.fields.field.Tie as tie
+use Rattle.mrd_element.proofs.element.read_element.Statement.{statement}
+use Rattle.mrd_element.proofs.element.read_element.Tie as tie
 
 -- in each arm, what is known of the element
 abbrev FoundIn : tie.After-letter → ElementType → Type 0
-FoundIn c e = Found (c .before .before .args .kind) (c .before .before .args .h .now) (c .before .before .args .offset) e
+FoundIn c e = FoundElement (c .before .before .args .kind) (c .before .before .args .h .now) (c .before .before .args .offset) e
 
 found : (c : tie.After-letter) (e : ElementType) → c .letter .result ≡ letterOf (starts e) → FoundIn c e
 found c e key = found-by-letter _ _ _ e (c .before .before .pre) (sym (c .letter .ensures) ∙ key)
@@ -52,18 +53,18 @@ read-u32-requires-3 : tie.Need-read-u32-requires-3
 read-u32-requires-3 c κs = at-f32 c .inside
 
 returns : tie.Need-returns
-returns c = record { says = ap whole (c .read-u16 .ensures) ∙ sym (at-u16 (c .before) .value); apart = tt }
+returns c = record { says = ap answered (ap whole (c .read-u16 .ensures)) ∙ sym (at-u16 (c .before) .value); apart = tt }
 
 returns-2 : tie.Need-returns-2
-returns-2 c = record { says = ap whole (c .read-u32 .ensures) ∙ sym (at-u32 (c .before) .value); apart = tt }
+returns-2 c = record { says = ap answered (ap whole (c .read-u32 .ensures)) ∙ sym (at-u32 (c .before) .value); apart = tt }
 
 returns-3 : tie.Need-returns-3
-returns-3 c = record { says = ap whole (c .read-u64 .ensures) ∙ sym (at-u64 (c .before) .value); apart = tt }
+returns-3 c = record { says = ap answered (ap whole (c .read-u64 .ensures)) ∙ sym (at-u64 (c .before) .value); apart = tt }
 
 returns-4 : tie.Need-returns-4
 returns-4 c =
     record {
-      says = ap signed
+      says = ap (λ z. answered (signed z))
           (toZ-ofZ w32
           (c .as-signed .result) (search needs) ∙ c .as-signed .ensures ∙ ap counters.signed
           (c .before .read-u322 .ensures)) ∙ sym
@@ -74,7 +75,7 @@ returns-4 c =
 returns-5 : tie.Need-returns-5
 returns-5 c =
     record {
-      says = c .float-of .ensures .says ∙ ap float (c .before .read-u323 .ensures) ∙ sym (at-f32 (c .before .before) .value);
+      says = ap answered (c .float-of .ensures .says ∙ ap float (c .before .read-u323 .ensures)) ∙ sym (at-f32 (c .before .before) .value);
       apart = c .float-of .ensures .apart;
     }
 
@@ -93,8 +94,8 @@ returns-6 c =
     let absent = absent-by-letter (a .kind) (a .h .now) (a .offset) (ap meant (sym (c .before .letter .ensures)) ∙ means) in
     record { says = sym absent; apart = tt }
 
-pub field-spec : {M : Type 1} → statement M
-field-spec =
+pub read-element-spec : {M : Type 1} → statement M
+read-element-spec =
     tie.close
     (tie.spec
     (λ c κs. search needs)

@@ -1,8 +1,8 @@
--- `mrd_element::fields::float_of` meets its contract: the test tells a NaN's pattern, and any other pattern is read back from its float.
+-- `mrd_element::element::float_of` meets its contract: the test tells a NaN's pattern, and any other pattern is read back from its float.
 -- Assumes nothing.
 use Rattle.mrd_element.specs.FloatLaws.{nan-meaning, no-nan, float-meaning}
-use Rattle.mrd_element.proofs.fields.float_of.Statement.{statement}
-use Rattle.mrd_element.proofs.fields.float_of.Tie as tie
+use Rattle.mrd_element.proofs.element.float_of.Statement.{statement}
+use Rattle.mrd_element.proofs.element.float_of.Tie as tie
 
 returns : tie.Need-returns
 returns c = nan-meaning (c .before .args .bits) (c .if1 .taken)

@@ -14,7 +14,7 @@ use Rattle.c_record.specs.declared.view.ViewPlace.{ViewPlace}
 use Rattle.c_record.specs.declared.field.FieldAnswer.{FieldAnswer}
 use Rattle.c_record.specs.declared.found.Found.{Found}
 use Rattle.c_record.specs.RecordStructs.{viewAs, refusedField, cValue, foundAs}
-use Rattle.c_record.specs.PartNumbers.{noPart, partOf}
+use Rattle.c_record.specs.PartNumbers.{noPart, partNumbered}
 use Rattle.c_ask.specs.declared.question.Question.{Question}
 use Rattle.c_ask.specs.declared.reply.Reply.{Reply}
 
@@ -23,7 +23,7 @@ unfoldable pub questionOf : Question → ask.Question
 questionOf q =
     let n = q .number in
     pick (eqb (q .what) 1) (Place n)
-    (pick (eqb (q .what) 2) (View n (partOf (q .part) (q .channel)))
+    (pick (eqb (q .what) 2) (View n (partNumbered (q .part) (q .channel)))
     (pick (eqb (q .what) 3) (Field n (q .offset))
     (pick (eqb (q .what) 4) (Find n) (View n noPart))))
 

@@ -22,11 +22,11 @@ use Rattle.mrd_format.specs.Parts.{lacks}
 use Rattle.mrd_format.specs.Content.{extentOf}
 use Rattle.mrd_parts.specs.Sought.{partMeaning}
 use Rattle.mrd_views.specs.Views.{viewOf}
-use Rattle.c_record.specs.PartNumbers.{noPart, partOf}
+use Rattle.c_record.specs.PartNumbers.{noPart, partNumbered}
 
 -- the number of another part is that of none
-other-number : (n c : ℕ) → (1 ≤ n → 7 < n) → partOf n c ≡ noPart
-unfolding partOf
+other-number : (n c : ℕ) → (1 ≤ n → 7 < n) → partNumbered n c ≡ noPart
+unfolding partNumbered
 other-number zero c h = refl
 other-number (suc m) c h = simp (no 0, no 1, no 2, no 3, no 4, no 5, no 6)
   where
@@ -58,7 +58,7 @@ none-lies Waveform h bytes = refl
 
 -- the view of it, of a record of a stream of bytes, is 17
 pub no-such-part : (s : List ℕ) (i n c : ℕ) {l : Located} → Bytes s → place s i ≡ answered l → (1 ≤ n → 7 < n) →
-    viewOf s i (partOf n c) ≡ number 17
+    viewOf s i (partNumbered n c) ≡ number 17
 unfolding viewOf fixedPart
 no-such-part s i n c {l} bytes e other =
     let k = l .kind in

@@ -11,8 +11,8 @@ abbrev pub noPart : Part
 noPart = Channel (2 ^ 64 - 1)
 
 -- the parts, from 1 on, one of them for the channel c; any other number is a part that no record has
-unfoldable pub partOf : ℕ → ℕ → Part
-partOf n c =
+unfoldable pub partNumbered : ℕ → ℕ → Part
+partNumbered n c =
     pick (eqb n 1) Name
     (pick (eqb n 2) Text
     (pick (eqb n 3) Attributes

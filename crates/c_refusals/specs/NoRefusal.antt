@@ -7,11 +7,11 @@ use Rattle.mrd_logic.specs.Answer.{Verdict, accepted, Answer, answered}
 use Rattle.mrd_cursor.specs.declared.cursor.Cursor.{Cursor}
 use Rattle.mrd_stream.specs.Places.{Located, Stepped, yields, over}
 
-abbrev pub Accepted : Verdict → Type 0
-Accepted v = (n : ℕ) × (v ≡ accepted n)
+abbrev pub IsAccepted : Verdict → Type 0
+IsAccepted v = (n : ℕ) × (v ≡ accepted n)
 
-abbrev pub Answered : {A : Type 0} → Answer A → Type 0
-Answered {A} a = (x : A) × (a ≡ answered x)
+abbrev pub IsAnswered : {A : Type 0} → Answer A → Type 0
+IsAnswered {A} a = (x : A) × (a ≡ answered x)
 
 -- by whether the step says that the walk ended
 abbrev pub StepSays : Bool → Stepped → Type 0

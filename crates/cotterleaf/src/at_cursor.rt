@@ -5,7 +5,7 @@ ghost use Rattle.mrd_index_cursor.specs.IndexCursor.{cursorFor};
 ghost use Rattle.mrd_record.specs.AtCursor.{placeAt};
 ghost use Rattle.mrd_views.specs.Views.{viewBy};
 ghost use Rattle.c_record.specs.RecordStructs.{cView, cField};
-ghost use Rattle.c_record.specs.PartNumbers.{partOf};
+ghost use Rattle.c_record.specs.PartNumbers.{partNumbered};
 ghost use Rattle.c_walk.specs.WalkStructs.{cursorOf, cCursorAnswer};
 use c_record::FieldAnswer;
 use c_record::ViewPlace;
@@ -25,7 +25,7 @@ pub extern "C" fn mrd_cursor_for(starts: &[u64], ids: &[u16], n: usize) -> Curso
 // Where a part of the record lies that is due at the cursor.
 #[no_mangle]
 pub extern "C" fn mrd_view_at(stream: &[u8], cursor: Cursor, part: u32, channel: usize) -> ViewPlace
-    ensures { λ r. ⌜ r ≡ cView (viewBy (placeAt (cursorOf cursor) (now (stream .entry))) (partOf part channel) (now (stream .entry))) ⌝ }
+    ensures { λ r. ⌜ r ≡ cView (viewBy (placeAt (cursorOf cursor) (now (stream .entry))) (partNumbered part channel) (now (stream .entry))) ⌝ }
 {
     let c = cursor_of(cursor);
     let asked = part_of(part, channel);

@@ -4,7 +4,7 @@ ghost use Rattle.mrd_find.specs.Find.{findOf};
 ghost use Rattle.mrd_fields.specs.Fields.{fieldOf};
 ghost use Rattle.mrd_views.specs.Views.{viewOf};
 ghost use Rattle.c_record.specs.RecordStructs.{cView, cField, cFound};
-ghost use Rattle.c_record.specs.PartNumbers.{partOf};
+ghost use Rattle.c_record.specs.PartNumbers.{partNumbered};
 use c_record::FieldAnswer;
 use c_record::Found;
 use c_record::ViewPlace;
@@ -13,7 +13,7 @@ use c_record::part_of;
 // Where a part of record n lies; `channel` is looked at for a channel alone.
 #[no_mangle]
 pub extern "C" fn mrd_view(stream: &[u8], n: usize, part: u32, channel: usize) -> ViewPlace
-    ensures { λ r. ⌜ r ≡ cView (viewOf (now (stream .entry)) n (partOf part channel)) ⌝ }
+    ensures { λ r. ⌜ r ≡ cView (viewOf (now (stream .entry)) n (partNumbered part channel)) ⌝ }
 {
     ViewPlace::of(mrd_views::view_place(stream, n, part_of(part, channel)))
 }

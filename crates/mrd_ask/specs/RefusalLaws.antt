@@ -41,9 +41,9 @@ use Rattle.mrd_ask.specs.Replies as replies
 use Rattle.mrd_ask.specs.Questions.{askOf}
 
 -- a verdict's number is not 0
-abbrev pub Numbered : Verdict → Type 0
-Numbered (accepted n) = Unit {0}
-Numbered (refused f r b) = 0 < f
+abbrev pub NumberedRefusal : Verdict → Type 0
+NumberedRefusal (accepted n) = Unit {0}
+NumberedRefusal (refused f r b) = 0 < f
 
 -- nor is that of a stream's refusal in an answer, and a number alone is at least m
 abbrev pub Refuses : {A : Type 0} → ℕ → Answer A → Type 0
@@ -52,7 +52,7 @@ Refuses m (stream f r b) = 0 < f
 Refuses m (number n) = m ≤ n
 
 module _ {A : Type 0} (m : ℕ) where
-  pub unless-refuses : (v : Verdict) (a : Answer A) → Numbered v → Refuses m a → Refuses m (unlessRefused v a)
+  pub unless-refuses : (v : Verdict) (a : Answer A) → NumberedRefusal v → Refuses m a → Refuses m (unlessRefused v a)
   unless-refuses (accepted n) a v r = r
   unless-refuses (refused f n b) a v r = v
 
@@ -74,11 +74,11 @@ judge-numbered c t {f} e =
     let some = fault-not-zero (checksAs i c t) {f = f} (all-numbered i c t) (judge-faulty c t e) in
     omega (arith, some)
 
-ended-numbered : (c : Cursor) → Numbered (ended c)
+ended-numbered : (c : Cursor) → NumberedRefusal (ended c)
 unfolding ended
 ended-numbered c = by (isClosed (c .phase))
   where
-    by : (b : Bool) → Numbered (endedAs b c)
+    by : (b : Bool) → NumberedRefusal (endedAs b c)
     by true = tt
     by false = omega arith
 
@@ -87,25 +87,25 @@ walk-whole : (b : ℕ) (t : List ℕ) (c : Cursor) {k : Kind} {z : ℕ} → judg
 unfolding walk
 walk-whole b t c e = rw (e, walk)
 
-walk-numbered : (t : List ℕ) (k : ℕ) (c : Cursor) → Numbered (verdict (walk t k c))
+walk-numbered : (t : List ℕ) (k : ℕ) (c : Cursor) → NumberedRefusal (verdict (walk t k c))
 unfolding walk
 walk-numbered [] k c = ended-numbered c
 walk-numbered (b ∷ t) (suc k) c = walk-numbered t k c
 walk-numbered (b ∷ t) zero c = by (λ k d. walk-numbered t k d) (judge c (b ∷ t)) refl
   where
-    by : ((k : ℕ) (d : Cursor) → Numbered (verdict (walk t k d))) → (j : Judged) → judge c (b ∷ t) ≡ j → Numbered (verdict (walk (b ∷ t) 0 c))
+    by : ((k : ℕ) (d : Cursor) → NumberedRefusal (verdict (walk t k d))) → (j : Judged) → judge c (b ∷ t) ≡ j → NumberedRefusal (verdict (walk (b ∷ t) 0 c))
     by later (faulty f) e = rw (walk-fault b t c e) (judge-numbered c (b ∷ t) e)
     by later (whole k z) e = rw (walk-whole b t c e) (later (pred z) (after c k z))
 
-pub from-numbered : (c : Cursor) (s : List ℕ) → Numbered (verdict (from c s))
+pub from-numbered : (c : Cursor) (s : List ℕ) → NumberedRefusal (verdict (from c s))
 from-numbered c s = walk-numbered (drop (c .start) s) 0 c
 
-pub answer-numbered : (s : List ℕ) → Numbered (answer s)
+pub answer-numbered : (s : List ℕ) → NumberedRefusal (answer s)
 unfolding answer trace
 answer-numbered s = walk-numbered s 0 _
 
-pub over-numbered : (c : Cursor) (s : List ℕ) {v : Verdict} → step c s ≡ over v → Numbered v
-over-numbered c s e = subst (λ (r : Trace). Numbered (verdict r)) (step-over c s e) (from-numbered c s)
+pub over-numbered : (c : Cursor) (s : List ℕ) {v : Verdict} → step c s ≡ over v → NumberedRefusal v
+over-numbered c s e = subst (λ (r : Trace). NumberedRefusal (verdict r)) (step-over c s e) (from-numbered c s)
 
 -- place and kind
 nth-refuses : (ls : List Located) (n : ℕ) → Refuses 16 (nth ls n)

@@ -45,15 +45,15 @@ unfolding findOf answer
 finding-start n cs s = on-start (findIn n cs) s
 
 -- a turn of the walk, which hands out a record and goes on from c to next
-pub record Turn (n : ℕ) (cs : List ℕ) (c : Cursor) (s : List ℕ) (here : PlacedRecord) (next : Cursor) : Type 0 where
+pub record SearchTurn (n : ℕ) (cs : List ℕ) (c : Cursor) (s : List ℕ) (here : PlacedRecord) (next : Cursor) : Type 0 where
   pub finding : Finding n cs c s
   pub passes : Passes c s (recordMeaning here) next
 
 pub turned : (n : ℕ) (cs : List ℕ) {c next : Cursor} {s : List ℕ} {r : Step} {here : PlacedRecord} → Finding n cs c s →
-    stepMeaning r ≡ step c s → r ≡ Step.Message here next → Turn n cs c s here next
+    stepMeaning r ≡ step c s → r ≡ Step.Message here next → SearchTurn n cs c s here next
 turned n cs {c} {s = s} f meant e = record { finding = f; passes = step-yields c s (sym meant ∙ ap stepMeaning e) }
 
-module _ {n : ℕ} {cs : List ℕ} {c : Cursor} {s : List ℕ} {here : PlacedRecord} {next : Cursor} (t : Turn n cs c s here next) where
+module _ {n : ℕ} {cs : List ℕ} {c : Cursor} {s : List ℕ} {here : PlacedRecord} {next : Cursor} (t : SearchTurn n cs c s here next) where
   pub nearer : length s - next .start < length s - c .start
   nearer = on-less s (t .passes)
 
@@ -91,7 +91,7 @@ module _ {n : ℕ} {cs : List ℕ} {c : Cursor} {s : List ℕ} {here : PlacedRec
 
 -- a turn at a candidate, whose header h was read
 pub record Read (n : ℕ) (cs : List ℕ) (c : Cursor) (s : List ℕ) (here : PlacedRecord) (next : Cursor) (h : List ℕ) : Type 0 where
-  pub turn : Turn n cs c s here next
+  pub turn : SearchTurn n cs c s here next
   pub one : candidate n (here .place .number) (kindOf (here .shape)) ≡ true
   pub header : h ≡ fixedPart Kind.Acquisition (partFrom (here .place .start) s)
 

@@ -19,8 +19,8 @@ abbrev pub entryAt : List ℕ → Located → Entry
 entryAt s l = entryOf (l .start) (l .kind) (drop (l .start) s)
 
 -- the id and the fixed part of the record at l lie in s
-abbrev pub Within : List ℕ → Located → Type 0
-Within s l = l .start + (2 + fixedSize (l .kind)) ≤ length s
+abbrev pub WithinStream : List ℕ → Located → Type 0
+WithinStream s l = l .start + (2 + fixedSize (l .kind)) ≤ length s
 
 -- a message that a step passes
 module _ {c d : Cursor} {s : List ℕ} {l : Located} (p : Passes c s l d) where
@@ -33,7 +33,7 @@ module _ {c d : Cursor} {s : List ℕ} {l : Located} (p : Passes c s l d) where
   least : 2 + fixedSize (p .kind) ≤ length (p .bytes)
   least = rw (← p .known) (well-least (p .bytes) (p .well))
 
-  pub passes-within : Within s l
+  pub passes-within : WithinStream s l
   passes-within =
       let size = simp (length-append, length-drop) at (ap length (p .split)) in
       rw (here, kind) (omega (arith, size, least, p .ahead, p .within))

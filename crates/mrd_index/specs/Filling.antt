@@ -16,7 +16,7 @@ use Rattle.mrd_stream.specs.StepLaws.{Passes, On, on-start, on-next, on-end}
 use Rattle.mrd_index.specs.Entries.{entryAt, passes-number, passes-entry}
 
 -- how entries are laid out, one after the other: where that of record n stands, what one and what all of them are written as
-pub record Layout : Type 0 where
+pub record Arrangement : Type 0 where
   pub at : ℕ → ℕ
   pub one : Entry → List ℕ
   pub all : List Entry → List ℕ
@@ -25,7 +25,7 @@ pub record Layout : Type 0 where
   pub next-at : (n : ℕ) (e : Entry) → at (n + 1) ≡ at n + length (one e)
 
 -- in a file, from byte 16 on
-abbrev pub inFile : Layout
+abbrev pub inFile : Arrangement
 inFile =
     record {
       at = λ n. 16 + 17 * n;
@@ -37,7 +37,7 @@ inFile =
     }
 
 -- in a column, which holds one number of each
-abbrev pub inColumn : (Entry → ℕ) → Layout
+abbrev pub inColumn : (Entry → ℕ) → Arrangement
 inColumn number =
     record {
       at = λ n. n;
@@ -49,14 +49,14 @@ inColumn number =
     }
 
 -- the walk over s stands at c; out, which was o, holds the entries of what was passed
-pub record Filling (f : Layout) (s o : List ℕ) (c : Cursor) (out : List ℕ) : Type 0 where
+pub record Filling (f : Arrangement) (s o : List ℕ) (c : Cursor) (out : List ℕ) : Type 0 where
   pub room : f .at 0 + length (f .all (entries s)) ≤ length o
   pub ready : List ℕ
   pub long : f .at (c .number) ≡ f .at 0 + length ready
   pub holds : out ≡ stored (f .at 0) ready o
   pub whole : On (λ r. ready ++ f .all (entriesOf r)) (f .all (entries s)) c s
 
-pub start : {f : Layout} {s o : List ℕ} → f .at 0 + length (f .all (entries s)) ≤ length o → Filling f s o beginning o
+pub start : {f : Arrangement} {s o : List ℕ} → f .at 0 + length (f .all (entries s)) ≤ length o → Filling f s o beginning o
 unfolding entries stored
 start {f} {s} {o} h =
     record {
@@ -68,13 +68,13 @@ start {f} {s} {o} h =
     }
 
 -- the output keeps its length
-pub same-size : {f : Layout} {s o out : List ℕ} {c : Cursor} → Filling f s o c out → length out ≡ length o
+pub same-size : {f : Arrangement} {s o out : List ℕ} {c : Cursor} → Filling f s o c out → length out ≡ length o
 same-size {f} {s} {o} {out} {c} h =
     let all = simp length-append at (ap length (h .whole .kept)) in
     ap length (h .holds) ∙ length-stored (f .at 0) (h .ready) o (omega (arith, all, h .room))
 
 -- past a message with the entry e
-module _ {f : Layout} {s o out : List ℕ} {c d : Cursor} {l : Located} (h : Filling f s o c out) (p : Passes c s l d) where
+module _ {f : Arrangement} {s o out : List ℕ} {c d : Cursor} {l : Located} (h : Filling f s o c out) (p : Passes c s l d) where
   more : On (λ r. (h .ready ++ f .one (entryAt s l)) ++ f .all (entriesOf r)) (f .all (entries s)) d s
   more =
       let a = h .ready in
@@ -108,7 +108,7 @@ module _ {f : Layout} {s o out : List ℕ} {c d : Cursor} {l : Located} (h : Fil
       }
 
 -- at the end
-pub finish : {f : Layout} {s o out : List ℕ} {c : Cursor} {v : Verdict} → Filling f s o c out → step c s ≡ over v →
+pub finish : {f : Arrangement} {s o out : List ℕ} {c : Cursor} {v : Verdict} → Filling f s o c out → step c s ≡ over v →
     out ≡ stored (f .at 0) (f .all (entries s)) o
 finish {f} {s} {o} {out} {c} {v} h e =
     let all : h .ready ++ f .all [] ≡ f .all (entries s) = on-end (λ r. h .ready ++ f .all (entriesOf r)) s (h .whole) e in

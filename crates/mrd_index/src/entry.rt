@@ -2,7 +2,7 @@
 ghost use mathlib.Core.Path.{_≡_};
 ghost use Rattle.mrd_stream.specs.ReaderMeaning.{recordMeaning};
 ghost use Rattle.mrd_index_fields.specs.IndexFields.{entryMeaning};
-ghost use Rattle.mrd_index.specs.Entries.{entryAt, Within};
+ghost use Rattle.mrd_index.specs.Entries.{entryAt, WithinStream};
 use mrd_index_fields::Entry;
 use mrd_judge::fixed_part;
 use mrd_message::scan_counter;
@@ -10,7 +10,7 @@ use mrd_stream::PlacedRecord;
 
 // The entry of a record of the stream s.
 pub fn entry_of(s: &[u8], here: PlacedRecord) -> Entry
-    requires { ⌜ Within (now s) (recordMeaning here) ⌝ }
+    requires { ⌜ WithinStream (now s) (recordMeaning here) ⌝ }
     ensures { λ r. ⌜ entryMeaning r ≡ entryAt (now (s .entry)) (recordMeaning here) ⌝ }
 {
     let place = here.place;

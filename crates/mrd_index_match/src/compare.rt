@@ -9,7 +9,7 @@ ghost use Rattle.mrd_cursor.specs.Cursors.{maxMessages};
 ghost use Rattle.mrd_stream.specs.Walk.{answer as streamAnswer};
 ghost use Rattle.mrd_stream.specs.Index.{entries};
 ghost use Rattle.mrd_stream.specs.ReaderMeaning.{checkedMeaning, recordMeaning};
-ghost use Rattle.mrd_index.specs.Entries.{entryAt, Within};
+ghost use Rattle.mrd_index.specs.Entries.{entryAt, WithinStream};
 ghost use Rattle.mrd_index_match.specs.Compare.{matchedMeaning, fileMatch, columnsMatch, given, entryBy, allSame, endBy, Counts, conclusion};
 use mrd_cursor::Cursor;
 use mrd_index::entry_of;
@@ -99,7 +99,7 @@ fn record_same(
     ids: &[u16],
     counters: &[u32],
 ) -> bool
-    requires { ⌜ Within (now s) (recordMeaning here) × (here .place .number < maxMessages) ⌝ }
+    requires { ⌜ WithinStream (now s) (recordMeaning here) × (here .place .number < maxMessages) ⌝ }
     ensures { λ r. ⌜ r ≡ entryBy form (given form (now (file .entry)) (now (starts .entry)) (now (ids .entry)) (now (counters .entry))) (here .place .number) (entryAt (now (s .entry)) (recordMeaning here)) ⌝ }
 {
     let place = here.place;

@@ -63,14 +63,14 @@ pub never-past : {s o out : List ℕ} {c d : Cursor} {l : Located} → Clearing 
 never-past {s} {c = c} h e = omega (arith, same-size h, h .copied .room, step-yields c s e .within)
 
 -- a turn of the walk, from c to d: it passes a message that ends in f bytes of filler
-pub record Turn (s : List ℕ) (c : Cursor) (out : List ℕ) (r : PlacedRecord) (d : Cursor) (f : ℕ) : Type 0 where
+pub record ClearingTurn (s : List ℕ) (c : Cursor) (out : List ℕ) (r : PlacedRecord) (d : Cursor) (f : ℕ) : Type 0 where
   pub passes : Passes c s (recordMeaning r) d
   pub filled : Filled (passes .kind) (passes .bytes) f
   pub fits : f ≤ d .start
 
 pub turn : {s o out : List ℕ} {c d : Cursor}
     (r : PlacedRecord) {f : ℕ} → Clearing s o c out → step c s ≡ yields (recordMeaning r) d → f ≡ fillerOf (r .shape) →
-    Turn s c out r d f
+    ClearingTurn s c out r d f
 turn {s} {o} {out} {c} {d} r {f} h e q =
     let p = step-yields c s e in
     let filled : Filled (p .kind) (p .bytes) f = rw q (record-filler r p) in
@@ -98,7 +98,7 @@ module _ (a m b : List ℕ) (f : ℕ) (within : f ≤ length m) where
       rw (q, length-replicate {A = ℕ} f 0, end, before-filler, after-filler) (simp append-assoc)
 
 -- past a message whose filler was made zero, in the part that starts with it
-pub next : {s o out : List ℕ} {c d : Cursor} {r : PlacedRecord} {f : ℕ} {ys : List ℕ} → Clearing s o c out → Turn s c out r d f →
+pub next : {s o out : List ℕ} {c d : Cursor} {r : PlacedRecord} {f : ℕ} {ys : List ℕ} → Clearing s o c out → ClearingTurn s c out r d f →
     ys ≡ replicate f 0 ++ drop f (partFrom (d .start - f) out) → Clearing s o d (returned (d .start - f) out ys)
 next {s} {o} {out} {c} {d} {r} {f} {ys} h t zeros =
     let p = t .passes in

@@ -30,12 +30,12 @@ pub data Example : Type 0 where
   flags : ℕ → ℕ → Example
   steps : ℕ → ℕ → ℤ → Example
 
-abbrev pub Holds : Example → Type 0
-Holds (answers s v) = answer s ≡ v
-Holds (indexed s x) = index s ≡ x
-Holds (measures k h n) = sizeOf k h ≡ n
-Holds (flags n x) = flagSet n 0 ≡ x
-Holds (steps a b z) = counterStep a b ≡ z
+abbrev pub ExampleHolds : Example → Type 0
+ExampleHolds (answers s v) = answer s ≡ v
+ExampleHolds (indexed s x) = index s ≡ x
+ExampleHolds (measures k h n) = sizeOf k h ≡ n
+ExampleHolds (flags n x) = flagSet n 0 ≡ x
+ExampleHolds (steps a b z) = counterStep a b ≡ z
 
 -- the header of an acquisition of 256 samples in 2 channels, with this many dimensions
 abbrev pub readout : ℕ → List ℕ
@@ -70,7 +70,7 @@ examples =
     indexed (3 ∷ 0 ∷ 0 ∷ 0 ∷ 0 ∷ 0 ∷ 4 ∷ 0 ∷ []) paperIndex ∷  -- 'Index and listing'
     []
 
-pub worked-examples : Every Holds examples
+pub worked-examples : Every ExampleHolds examples
 unfolding answer trace walk judge judgeAs checksAs frontChecks idChecks fixedChecks sizeChecks ended identified num fixedPart ownChecks bodySize sizeOf textLength acquisition.bodySize acquisition.trajectorySize acquisition.channelSize flagSet withBit bit counterStep signed index entries counterOf
 worked-examples =
     (refl, (refl, (refl, (refl, (refl, (refl, (refl, (refl, (refl, (refl, (refl, (refl, (refl, (refl, (refl, tt)))))))))))))))

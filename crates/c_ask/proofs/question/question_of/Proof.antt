@@ -1,16 +1,16 @@
 -- `c_ask::question::question_of` meets its contract: it goes by the number of what is asked.
 -- Assumes nothing.
 use borrow.Author.Tests.{ne-eqb}
-use Rattle.c_record.specs.PartNumbers.{partOf}
+use Rattle.c_record.specs.PartNumbers.{partNumbered}
 use Rattle.c_ask.specs.AskStructs.{questionOf}
 use borrow.Author.Tests.{ne-eqb}
-use Rattle.c_record.specs.PartNumbers.{partOf}
+use Rattle.c_record.specs.PartNumbers.{partNumbered}
 use Rattle.c_ask.specs.AskStructs.{questionOf}
 use borrow.Author.Tests.{ne-eqb}
-use Rattle.c_record.specs.PartNumbers.{partOf}
+use Rattle.c_record.specs.PartNumbers.{partNumbered}
 use Rattle.c_ask.specs.AskStructs.{questionOf}
 use borrow.Author.Tests.{ne-eqb}
-use Rattle.c_record.specs.PartNumbers.{partOf}
+use Rattle.c_record.specs.PartNumbers.{partNumbered}
 use Rattle.c_ask.specs.AskStructs.{questionOf}
 use borrow.Author.Needs.{needs}
 use Rattle.c_ask.proofs.question.question_of.Statement.{statement}
@@ -33,7 +33,7 @@ unfolding questionOf
 returns-4 c = rw (c .match .keys4)
 
 returns-5 : tie.Need-returns-5
-unfolding questionOf partOf
+unfolding questionOf partNumbered
 returns-5 c =
     let r = c .before .match .rest in
     rw (c .part-of2 .ensures) (simp (ne-eqb _ _ (r .1), ne-eqb _ _ (r .0 .1), ne-eqb _ _ (r .0 .0 .1), ne-eqb _ _ (r .0 .0 .0 .1)))

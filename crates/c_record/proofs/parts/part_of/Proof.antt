@@ -1,40 +1,40 @@
 -- `c_record::parts::part_of` meets its contract: the cases are the list's.
 -- Assumes nothing.
 use borrow.Author.Tests.{ne-eqb}
-use Rattle.c_record.specs.PartNumbers.{partOf}
+use Rattle.c_record.specs.PartNumbers.{partNumbered}
 use Rattle.c_record.proofs.parts.part_of.Statement.{statement}
 use Rattle.c_record.proofs.parts.part_of.Tie as tie
 
 returns : tie.Need-returns
-unfolding partOf
+unfolding partNumbered
 returns c = rw (c .match .keys1)
 
 returns-2 : tie.Need-returns-2
-unfolding partOf
+unfolding partNumbered
 returns-2 c = rw (c .match .keys2)
 
 returns-3 : tie.Need-returns-3
-unfolding partOf
+unfolding partNumbered
 returns-3 c = rw (c .match .keys3)
 
 returns-4 : tie.Need-returns-4
-unfolding partOf
+unfolding partNumbered
 returns-4 c = rw (c .match .keys4)
 
 returns-5 : tie.Need-returns-5
-unfolding partOf
+unfolding partNumbered
 returns-5 c = rw (c .match .keys5)
 
 returns-6 : tie.Need-returns-6
-unfolding partOf
+unfolding partNumbered
 returns-6 c = rw (c .match .keys6)
 
 returns-7 : tie.Need-returns-7
-unfolding partOf
+unfolding partNumbered
 returns-7 c = rw (c .match .keys7)
 
 returns-8 : tie.Need-returns-8
-unfolding partOf
+unfolding partNumbered
 returns-8 c =
     let r = c .match .rest in
     simp (

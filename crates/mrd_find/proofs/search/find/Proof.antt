@@ -16,7 +16,7 @@ use Rattle.mrd_stream.specs.StepLaws.{on-end}
 use Rattle.mrd_stream.specs.ReaderMeaning.{stepMeaning}
 use Rattle.mrd_find.specs.Alike.{Alike, start, step, differs, all-same}
 use Rattle.mrd_find.specs.Find.{candidate}
-use Rattle.mrd_find.specs.FindLaws.{findIn, Finding, finding-start, Turn, turned, nearer, no-candidate, header-fits, fixed-there, Read, header-long, no-match, match-found}
+use Rattle.mrd_find.specs.FindLaws.{findIn, Finding, finding-start, SearchTurn, turned, nearer, no-candidate, header-fits, fixed-there, Read, header-long, no-match, match-found}
 use Rattle.mrd_find.proofs.search.find.Statement.{statement}
 use Rattle.mrd_find.proofs.search.find.Tie as tie
 
@@ -53,7 +53,7 @@ candidate-requires c κs = search needs
 turn-at : (c : tie.After-known-told Inv-loop μ-loop Inv-records μ-records) →
     let a = c .before .before .before .before .before .before .before .before .args in
     let given = c .before .step .given .0 in
-    Turn (a .n) (now (a .counters)) (c .before .before .before .before .records .c) (now (a .s)) (given .0) (given .1 .0)
+    SearchTurn (a .n) (now (a .counters)) (c .before .before .before .before .records .c) (now (a .s)) (given .0) (given .1 .0)
 turn-at c =
     let a = c .before .before .before .before .before .before .before .before .args in
     turned (a .n) (now (a .counters)) (c .before .before .before .before .records .inv) (c .before .before .before .next .ensures) (c .before .step .given .1)

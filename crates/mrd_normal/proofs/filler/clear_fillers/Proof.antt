@@ -10,7 +10,7 @@ use lib.ListN.{length}
 use Rattle.mrd_numbers.specs.Stored.{length-part}
 use Rattle.mrd_stream.specs.StepLaws.{on-less}
 use Rattle.mrd_stream.specs.ReaderMeaning.{stepMeaning}
-use Rattle.mrd_normal.specs.Clearing.{Clearing, start, never-past, Turn, turn, next, same-size, finish}
+use Rattle.mrd_normal.specs.Clearing.{Clearing, start, never-past, ClearingTurn, turn, next, same-size, finish}
 use Rattle.mrd_normal.proofs.filler.clear_fillers.Statement.{statement}
 use Rattle.mrd_normal.proofs.filler.clear_fillers.Tie as tie
 
@@ -50,7 +50,7 @@ filler-requires c κs = search needs
 turn-at : (c : tie.After-filler Inv-loop μ-loop) →
     let loop = c .before .before .before .before .before .before .loop in
     let step = c .before .before .before .step .given .0 in
-    Turn (now (c .before .before .before .before .before .before .before .before .before .before .args .s))
+    ClearingTurn (now (c .before .before .before .before .before .before .before .before .before .before .args .s))
     (loop .c) (loop .out) (step .0) (step .1 .0) (c .filler .result)
 turn-at c =
     let step = c .before .before .before .step .given in

@@ -90,7 +90,7 @@ fn on_index(rng: &mut Rng, stream: &[u8]) {
     }
     let mut files = vec![vec![], vec![0; room]];
     if reader::check(stream).is_ok() {
-        let given = streams::lent_files(rng, stream).into_iter();
+        let given = streams::given_files(rng, stream).into_iter();
         files.extend(given.map(|file| file.bytes));
     }
     for file in files {

@@ -77,7 +77,7 @@ fn records_come_once_each_and_then_the_refusal() {
 }
 
 #[test]
-fn a_view_is_the_very_part_of_the_lent_stream() {
+fn a_view_is_the_very_part_of_the_given_stream() {
     let stream = Stream::new(ALL_KINDS);
     let name = stream.view(0, Part::Name).unwrap();
     assert_eq!(name, b"default.xml");

@@ -1,8 +1,11 @@
 /* A stream that another thread changes during a call: the answer may be wrong, but nothing outside the outputs is
- * written. Each output ends where a page begins that may not be touched, so that a write past it ends the program.
+ * written. Each output ends where a page begins that may not be touched, and what lies before it in its own page is
+ * looked at in the end.
  *
- * The stream is a text whose bytes are themselves empty texts, and a close. The other thread flips the text's length
- * between all of them and none: 2 records or TEXTS + 2, both accepted. */
+ * The stream is a text whose bytes are themselves messages, empty texts and a configuration name, and a close. The
+ * other thread flips the text's length between all of them and none: 2 records or TEXTS + 3, both accepted. It also
+ * flips the byte that ends the name, so that the name has 1 or 1,023 bytes and the normal form as much filler to
+ * clear as remains. */
 #define _DEFAULT_SOURCE
 #include "cotterleaf.h"
 
@@ -13,60 +16,98 @@
 #include <sys/mman.h>
 #include <unistd.h>
 
-enum { TEXTS = 500, MESSAGE = 6, LENGTH = MESSAGE + TEXTS * MESSAGE + 2, TURNS = 2000000 };
+enum {
+    TEXTS = 500,
+    EMPTY = 6, /* an empty text */
+    NAME = EMPTY + TEXTS * EMPTY + 2, /* the name's first byte, after its id */
+    NAME_BYTES = 1024,
+    LENGTH = NAME + NAME_BYTES + 2,
+    TURNS = 2000000
+};
 
 static uint8_t stream[LENGTH];
 static volatile int done;
 
 static void *flip(void *unused)
 {
-    uint32_t all = TEXTS * MESSAGE;
-    for (uint32_t length = 0; !done; length = all - length) {
+    volatile uint8_t *bytes = stream;
+    for (unsigned turn = 0; !done; turn++) {
+        uint32_t length = turn & 1 ? LENGTH - EMPTY - 2 : 0;
         for (int i = 0; i < 4; i++)
-            ((volatile uint8_t *)stream)[2 + i] = (uint8_t)(length >> (8 * i));
+            bytes[2 + i] = (uint8_t)(length >> (8 * i));
+        bytes[NAME + 1] = turn & 2 ? 'f' : 0;
     }
     return unused;
 }
 
-/* So many bytes that end where a forbidden page begins. */
+static void set_up(void)
+{
+    for (size_t i = 0; i <= TEXTS; i++)
+        stream[i * EMPTY] = 5;
+    stream[NAME - 2] = 1;
+    memset(stream + NAME, 'f', NAME_BYTES - 1);
+    stream[LENGTH - 2] = 4;
+}
+
+/* So many bytes that end where a forbidden page begins; the page before their own is forbidden too. */
 static void *guarded(size_t bytes)
 {
     size_t page = (size_t)sysconf(_SC_PAGESIZE);
-    uint8_t *two = mmap(NULL, 2 * page, PROT_READ | PROT_WRITE, MAP_PRIVATE | MAP_ANONYMOUS, -1, 0);
-    if (two == MAP_FAILED || bytes > page || mprotect(two + page, page, PROT_NONE) != 0) {
+    uint8_t *pages = mmap(NULL, 3 * page, PROT_NONE, MAP_PRIVATE | MAP_ANONYMOUS, -1, 0);
+    if (pages == MAP_FAILED || bytes > page || mprotect(pages + page, page, PROT_READ | PROT_WRITE) != 0) {
         perror("changing: no guarded pages");
         exit(EXIT_FAILURE);
     }
-    return two + page - bytes;
+    return pages + 2 * page - bytes;
+}
+
+/* Whether all is zero that lies before these bytes in their page. */
+static int untouched(const void *output, size_t bytes)
+{
+    size_t before = (size_t)sysconf(_SC_PAGESIZE) - bytes;
+    const uint8_t *front = (const uint8_t *)output - before;
+    for (size_t i = 0; i < before; i++)
+        if (front[i] != 0)
+            return 0;
+    return 1;
 }
 
 int main(void)
 {
-    for (size_t i = 0; i < LENGTH; i += MESSAGE)
-        stream[i] = i + 2 == LENGTH ? 4 : 5;
-    uint64_t *starts = guarded(2 * sizeof *starts);
-    uint16_t *ids = guarded(2 * sizeof *ids);
-    uint32_t *counters = guarded(2 * sizeof *counters);
-    uint8_t *index = guarded(23 + 2 * 17);
+    enum { STARTS = 2 * sizeof(uint64_t), IDS = 2 * sizeof(uint16_t), COUNTERS = 2 * sizeof(uint32_t), INDEX = 23 + 2 * 17 };
+    set_up();
+    uint64_t *starts = guarded(STARTS);
+    uint16_t *ids = guarded(IDS);
+    uint32_t *counters = guarded(COUNTERS);
+    uint8_t *index = guarded(INDEX);
     uint8_t *copy = guarded(LENGTH);
     pthread_t other;
     if (pthread_create(&other, NULL, flip, NULL) != 0) {
         perror("changing: no second thread");
         return EXIT_FAILURE;
     }
-    unsigned long filled = 0, refused = 0;
+    unsigned long filled = 0, refused = 0, cleared = 0, kept = 0;
     for (long turn = 0; turn < TURNS; turn++) {
         mrd_written columns = mrd_fill_columns(stream, LENGTH, starts, 2, ids, 2, counters, 2);
         filled += columns.refusal == 0;
         refused += columns.refusal != 0;
-        mrd_write_index(stream, LENGTH, index, 23 + 2 * 17);
-        if (turn % 16 == 0)
-            mrd_normal_form(stream, LENGTH, copy, LENGTH);
+        mrd_write_index(stream, LENGTH, index, INDEX);
+        if (turn % 16 == 0 && mrd_normal_form(stream, LENGTH, copy, LENGTH).refusal == 0) {
+            cleared += copy[NAME + NAME_BYTES / 2] == 0;
+            kept += copy[NAME + NAME_BYTES / 2] == 'f';
+        }
     }
     done = 1;
     pthread_join(other, NULL);
-    if (filled == 0 || refused == 0) {
-        fprintf(stderr, "changing: the stream did not change during the calls: %lu filled, %lu refused\n", filled, refused);
+    if (filled == 0 || refused == 0 || cleared == 0 || kept == 0) {
+        fprintf(stderr,
+                "changing: the stream did not change during the calls: %lu filled, %lu refused, %lu cleared, %lu kept\n",
+                filled, refused, cleared, kept);
+        return EXIT_FAILURE;
+    }
+    if (!untouched(starts, STARTS) || !untouched(ids, IDS) || !untouched(counters, COUNTERS) ||
+        !untouched(index, INDEX) || !untouched(copy, LENGTH)) {
+        fprintf(stderr, "changing: bytes before an output were written\n");
         return EXIT_FAILURE;
     }
     puts("changing: ok");

@@ -1,4 +1,5 @@
 -- For every function of C: the `refusal` of its answer is 0 only where there is an answer, so C may go by that member alone.
+-- Of a step it is the member of `answer`, with `ended` for whether a record or the end of an accepted stream is there; `here` has 0 at every end.
 -- Assumes nothing.
 use Prim.Native.Nat.{ℕ, zero, suc, _+_, _<_}
 use native.Mathlib.Omega.{arith}

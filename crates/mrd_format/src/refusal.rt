@@ -1,4 +1,4 @@
-// Document 01's numbers of refusal. C has the same names, with `MRD_` before them.
+// Document 01's numbers of refusal. C has the same names, with `MRD_REFUSED_` before them.
 
 // One byte remains where an id is due.
 pub const ID_CUT: u8 = 1;

@@ -5,13 +5,13 @@ use crate::tally::{Family, Outcome, Tally};
 use cotterleaf::{Index, Part, Stream};
 use second_reader as second;
 use std::fmt::Debug;
-use streams::{LentColumns, LentFile};
+use streams::{GivenColumns, GivenFile};
 
 /// What index is given with the questions.
 pub enum GivenIndex {
     None,
-    File(LentFile),
-    Columns(LentColumns),
+    File(GivenFile),
+    Columns(GivenColumns),
 }
 
 impl GivenIndex {

@@ -101,10 +101,10 @@ fn most_messages(tally: &mut Tally, rng: &mut Rng) -> Outcome {
 
 /// All of them; a difference is shown with its line of the paper.
 pub fn limits(tally: &mut Tally, rng: &mut Rng) -> Result<(), (Vec<u8>, Difference)> {
-    let untold = |difference| (vec![], difference);
-    longest_text(tally).map_err(untold)?;
-    largest_image(tally, rng).map_err(untold)?;
-    most_messages(tally, rng).map_err(untold)?;
+    let without_bytes = |difference| (vec![], difference);
+    longest_text(tally).map_err(without_bytes)?;
+    largest_image(tally, rng).map_err(without_bytes)?;
+    most_messages(tally, rng).map_err(without_bytes)?;
     for bytes in huge_images(rng, 40_000) {
         stream::ask(tally, rng, &bytes).map_err(|difference| (bytes, difference))?;
     }

@@ -7,8 +7,8 @@ use crate::walk::{self, Read};
 use crate::{at_cursor, plain, written};
 use cotterleaf::Part;
 use second_reader::{Detail, Table, Type};
-use streams::{counters, field_offset, lent_columns, lent_files, record_number};
-use streams::{LentColumns, LentFile, Rng};
+use streams::{counters, field_offset, given_columns, given_files, record_number};
+use streams::{GivenColumns, GivenFile, Rng};
 
 /// Asks both readers about one stream.
 pub fn ask(tally: &mut Tally, rng: &mut Rng, bytes: &[u8]) -> Outcome {
@@ -71,23 +71,23 @@ pub fn each_family(tally: &mut Tally, rng: &mut Rng, bytes: &[u8], read: &Read) 
 }
 
 /// The index file of another stream: a refused one has none of its own.
-fn drawn_file(tally: &mut Tally, rng: &mut Rng, bytes: &[u8], accepted: bool) -> LentFile {
+fn drawn_file(tally: &mut Tally, rng: &mut Rng, bytes: &[u8], accepted: bool) -> GivenFile {
     if !accepted {
-        let mut files = lent_files(rng, &[4, 0]);
+        let mut files = given_files(rng, &[4, 0]);
         return files.swap_remove(0);
     }
-    let mut files = lent_files(rng, bytes);
+    let mut files = given_files(rng, bytes);
     let file = files.swap_remove(often_first(rng, files.len()));
     tally.note("file given", file.what);
     file
 }
 
-fn drawn_columns(tally: &mut Tally, rng: &mut Rng, bytes: &[u8], accepted: bool) -> LentColumns {
+fn drawn_columns(tally: &mut Tally, rng: &mut Rng, bytes: &[u8], accepted: bool) -> GivenColumns {
     if !accepted {
-        let mut columns = lent_columns(rng, &[4, 0]);
+        let mut columns = given_columns(rng, &[4, 0]);
         return columns.swap_remove(0);
     }
-    let mut columns = lent_columns(rng, bytes);
+    let mut columns = given_columns(rng, bytes);
     let columns = columns.swap_remove(often_first(rng, columns.len()));
     tally.note("columns given", columns.what);
     columns

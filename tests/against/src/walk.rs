@@ -114,9 +114,9 @@ pub fn walk(tally: &mut Tally, rng: &mut Rng, bytes: &[u8], read: &Read) -> Outc
         }
     }
     same_step(tally, &stream, cursor, Met::End(answer))?;
-    let handed_out = stream.records().filter(|step| step.is_ok()).count();
-    let question = || "records that the iterator hands out".to_string();
-    tally.same_value(question, handed_out, read.records.len())
+    let yielded = stream.records().filter(|step| step.is_ok()).count();
+    let question = || "records that the iterator yields".to_string();
+    tally.same_value(question, yielded, read.records.len())
 }
 
 /// A cursor that no walk needs to have met.

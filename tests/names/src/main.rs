@@ -8,6 +8,7 @@
 //! whoever changes a definition runs it once and sees in the difference what changes for users.
 
 mod c;
+mod citations;
 mod definitions;
 mod field;
 mod interface;
@@ -83,7 +84,7 @@ impl Format {
     }
 }
 
-fn read(root: &Path, path: &str) -> String {
+pub fn read(root: &Path, path: &str) -> String {
     std::fs::read_to_string(root.join(path)).unwrap_or_else(|error| panic!("{path}: {error}"))
 }
 
@@ -120,35 +121,9 @@ fn generated(sources: &Sources) -> Vec<(&'static str, String)> {
     ];
     for page in ["README.md", "docs/FORMAT.md"] {
         let text = tables::filled(&read(sources.root(), page), &format, sources);
-        files.push((page, tables::cited(&text, sources)));
+        files.push((page, citations::followed(&text, sources)));
     }
     files
-}
-
-/// The part of a page from a heading to the next of its rank; all of it where none is named.
-fn section<'a>(page: &'a str, heading: &str) -> &'a str {
-    let from = page.find(heading).expect("the heading");
-    let rest = &page[from..];
-    match rest[heading.len()..].find("\n## ") {
-        Some(end) if !heading.is_empty() => &rest[..heading.len() + end],
-        _ => rest,
-    }
-}
-
-/// The names that the pages of promises cite and the sources do not declare.
-fn strays(sources: &Sources) -> usize {
-    let mut count = 0;
-    for (page, heading) in [
-        ("README.md", "## What is promised"),
-        ("docs/DEMANDS.md", ""),
-    ] {
-        let text = read(sources.root(), page);
-        for name in tables::strays(section(&text, heading), sources) {
-            println!("{page} cites `{name}`, which nothing in crates/ declares");
-            count += 1;
-        }
-    }
-    count
 }
 
 /// The first line in which two texts differ, for whoever has to look.
@@ -180,8 +155,10 @@ fn main() -> ExitCode {
             std::fs::write(root.join(path), due).expect("a file that can be written");
         }
     }
-    if strays(&sources) > 0 {
-        println!("names: FAILED, the pages cite what is not there");
+    let faults = citations::faults(&sources);
+    if !faults.is_empty() {
+        println!("{}", faults.join("\n"));
+        println!("names: FAILED, the pages cite what is not so");
         return ExitCode::FAILURE;
     }
     match (differing, write) {

@@ -41,7 +41,7 @@ pub fn write(
     position: u64,
 ) -> Result<u64, u32> {
     let kind = Kind::of_id(id).ok_or(2_u32)?;
-    let detail = judge_lent(kind, header, parts)?;
+    let detail = judge_given(kind, header, parts)?;
     if detail.size() > LARGEST_MESSAGE {
         return Err(10);
     }
@@ -59,7 +59,7 @@ pub fn write(
 
 /// Checks 3 to 9, and the message's own numbers: an image's attribute length and a text's length
 /// are those of the given bytes.
-fn judge_lent(kind: Kind, header: &[u8], parts: &Parts) -> Result<Detail, u32> {
+fn judge_given(kind: Kind, header: &[u8], parts: &Parts) -> Result<Detail, u32> {
     if header.len() != kind.header_size() {
         return Err(3);
     }

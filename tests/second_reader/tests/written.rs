@@ -379,7 +379,7 @@ fn index_file_refuses_the_stream_then_the_output() {
 }
 
 #[test]
-fn a_lent_file_must_equal_byte_for_byte() {
+fn a_given_file_must_equal_byte_for_byte() {
     let stream = indexed();
     let file = index_bytes(&stream).unwrap();
     let agrees = |bytes: &[u8]| second_reader::agrees(&stream, GivenIndex::file(bytes)).unwrap();
@@ -395,7 +395,7 @@ fn a_lent_file_must_equal_byte_for_byte() {
 }
 
 #[test]
-fn lent_columns_may_be_longer_but_not_shorter_or_different() {
+fn given_columns_may_be_longer_but_not_shorter_or_different() {
     let stream = indexed();
     let (starts, ids, counters) = own_columns(&stream).unwrap();
     let agrees = |starts: &[u64], ids: &[u16], counters: &[u32]| {

@@ -186,14 +186,14 @@ fn make_too_large(message: &mut Message) {
 
 /// A given index file, and whether it is the stream's own.
 #[derive(Clone, Debug)]
-pub struct LentFile {
+pub struct GivenFile {
     pub what: &'static str,
     pub right: bool,
     pub bytes: Vec<u8>,
 }
 
 /// Index files to give with an accepted stream.
-pub fn lent_files(rng: &mut Rng, stream: &[u8]) -> Vec<LentFile> {
+pub fn given_files(rng: &mut Rng, stream: &[u8]) -> Vec<GivenFile> {
     let own = index_bytes(stream).expect("an accepted stream");
     let mut one_off = own.clone();
     let at = rng.below(own.len() as u64) as usize;
@@ -203,7 +203,7 @@ pub fn lent_files(rng: &mut Rng, stream: &[u8]) -> Vec<LentFile> {
     let trailing = [&own[..], &rng.bytes(more)].concat();
     let mut without_record = own.clone();
     without_record.drain(16..33);
-    let file = |what, right, bytes| LentFile { what, right, bytes };
+    let file = |what, right, bytes| GivenFile { what, right, bytes };
     vec![
         file("right", true, own),
         file("one byte off", false, one_off),
@@ -214,9 +214,9 @@ pub fn lent_files(rng: &mut Rng, stream: &[u8]) -> Vec<LentFile> {
     ]
 }
 
-/// GivenIndex columns, and whether they hold the stream's own numbers.
+/// Given columns, and whether they hold the stream's own numbers.
 #[derive(Clone, Debug)]
-pub struct LentColumns {
+pub struct GivenColumns {
     pub what: &'static str,
     pub right: bool,
     pub starts: Vec<u64>,
@@ -225,9 +225,9 @@ pub struct LentColumns {
 }
 
 /// Columns to give with an accepted stream.
-pub fn lent_columns(rng: &mut Rng, stream: &[u8]) -> Vec<LentColumns> {
+pub fn given_columns(rng: &mut Rng, stream: &[u8]) -> Vec<GivenColumns> {
     let (starts, ids, counters) = own_columns(stream).expect("an accepted stream");
-    let own = LentColumns {
+    let own = GivenColumns {
         what: "right",
         right: true,
         starts,

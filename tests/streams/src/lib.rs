@@ -11,8 +11,8 @@ pub mod well_formed;
 
 pub use damaged::{damaged, drawn, huge_images, refused_with, too_many, DAMAGES};
 pub use inputs::{
-    counter_pair, counters, field_offset, flag, lent_columns, lent_files, record_number,
-    writer_input, writer_input_refused, LentColumns, LentFile, WriterInput, WRITER_REFUSALS,
+    counter_pair, counters, field_offset, flag, given_columns, given_files, record_number,
+    writer_input, writer_input_refused, GivenColumns, GivenFile, WriterInput, WRITER_REFUSALS,
 };
 pub use messages::Message;
 pub use rng::Rng;

@@ -190,11 +190,11 @@ fn writer_inputs_get_the_number_they_are_made_for() {
 }
 
 #[test]
-fn lent_indexes_are_right_or_wrong_as_said() {
+fn given_indexes_are_right_or_wrong_as_said() {
     let mut rng = Rng::new(8);
     for _ in 0..100 {
         let stream = joined(&well_formed(&mut rng, 3_000));
-        for file in lent_files(&mut rng, &stream) {
+        for file in given_files(&mut rng, &stream) {
             assert_eq!(
                 agrees(&stream, GivenIndex::file(&file.bytes)),
                 Ok(file.right),
@@ -202,7 +202,7 @@ fn lent_indexes_are_right_or_wrong_as_said() {
                 file.what
             );
         }
-        for columns in lent_columns(&mut rng, &stream) {
+        for columns in given_columns(&mut rng, &stream) {
             let given = GivenIndex::columns(&columns.starts, &columns.ids, &columns.counters);
             assert_eq!(
                 agrees(&stream, given),

@@ -25,7 +25,7 @@ output-kept (answered n) r w o = absurd r
 output-kept (stream f n b) r w o = refl
 output-kept (number n) r w o = refl
 
-message-kept : (a : Answer ℕ) → Refusal a → (m : List ℕ) (at : ℕ) (o : List ℕ) → writer.outputBy a m at o ≡ o
+message-kept : (a : Answer ℕ) → Refusal a → (m : List ℕ) (at : ℕ) (o : List ℕ) → writer.storedBy a m at o ≡ o
 message-kept (answered n) r m at o = absurd r
 message-kept (stream f n b) r m at o = refl
 message-kept (number n) r m at o = refl

@@ -10,7 +10,7 @@ use mathlib.Core.Logic.{⊎-elim}
 use mathlib.Core.List.{List, [], _∷_, _++_, map, append-nil, append-assoc}
 use borrow.Author.Tests.{eqb-true}
 use lib.Dec.{ltb}
-use lib.ListN.{length, getD, replicate, length-append, length-replicate}
+use lib.ListN.{length, replicate, length-append, length-replicate}
 use lib.Seq.{take-at, drop-at}
 use Rattle.mrd_numbers.specs.Little.{toBytes}
 use Rattle.mrd_numbers.specs.ToBytesLaws.{length-toBytes}
@@ -42,28 +42,10 @@ Recorded p =
     (same p part.id ≡ false) × (same p part.count ≡ false) × (same p part.header ≡ false) × (same p part.filler ≡ false) × (isChannel p ≡ false)
 
 -- its bytes go by its tag
-abbrev tagged : Parts → List (List ℕ)
-tagged ps =
-    [] ∷ [] ∷ [] ∷ ps .name ∷ [] ∷ ps .text ∷ ps .attributes ∷ ps .trajectory ∷ ps .samples ∷ ps .pixels ∷ ps .waveform ∷ []
-
-part-tagged : (ps : Parts) (p : Part) → partIn ps p ≡ getD (tagged ps) (tag p) []
-part-tagged ps part.id = refl
-part-tagged ps part.count = refl
-part-tagged ps part.header = refl
-part-tagged ps part.name = refl
-part-tagged ps part.filler = refl
-part-tagged ps part.text = refl
-part-tagged ps part.attributes = refl
-part-tagged ps part.trajectory = refl
-part-tagged ps part.samples = refl
-part-tagged ps part.pixels = refl
-part-tagged ps part.waveform = refl
-part-tagged ps (part.channel c) = refl
-
 same-part : (ps : Parts) (p q : Part) → same p q ≡ true → partIn ps q ≡ partIn ps p
 same-part ps p q e =
     let tags : tag p ≡ tag q = eqb-true (tag p) (tag q) (both _ _ e .0) in
-    part-tagged ps q ∙ rw (← tags) (sym (part-tagged ps p))
+    rw tags refl
 
 segments-append : (z : Part → ℕ) (c : Contents) (ss ts : List Segment) → segmentsBytes z c (ss ++ ts) ≡ segmentsBytes z c ss ++ segmentsBytes z c ts
 segments-append z c [] ts = refl

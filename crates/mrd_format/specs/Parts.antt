@@ -4,7 +4,7 @@ use Prim.Native.Nat.{ℕ}
 use mathlib.Core.Bool.{Bool, _&&_}
 use mathlib.Core.List.{List, [], _∷_}
 use lib.Dec.{eqb}
-use lib.ListN.{length, take, drop}
+use lib.ListN.{length, getD, take, drop}
 
 -- an id, 'a u32 length L' or 'a u64 attribute length A', a fixed header, a name, the bytes after its first zero, a text, attributes, a
 -- trajectory, the samples of all channels, pixels, waveform data, and one channel's samples
@@ -81,20 +81,9 @@ pub record Parts : Type 0 where
   pub pixels : List ℕ
   pub waveform : List ℕ
 
--- one of seven, by a part's name; z for a part that no record has
+-- one of seven, by the tag of its part; z for a part that no record has
 abbrev pub byPart : {A : Type 0} → A → (name text trajectory samples attributes pixels waveform : A) → Part → A
-byPart z n t j s a p w id = z
-byPart z n t j s a p w count = z
-byPart z n t j s a p w header = z
-byPart z n t j s a p w name = n
-byPart z n t j s a p w filler = z
-byPart z n t j s a p w text = t
-byPart z n t j s a p w attributes = a
-byPart z n t j s a p w trajectory = j
-byPart z n t j s a p w samples = s
-byPart z n t j s a p w pixels = p
-byPart z n t j s a p w waveform = w
-byPart z n t j s a p w (channel c) = z
+byPart z n t j s a p w q = getD (z ∷ z ∷ z ∷ n ∷ z ∷ t ∷ a ∷ j ∷ s ∷ p ∷ w ∷ []) (tag q) z
 
 -- the part of this name
 abbrev pub partIn : Parts → Part → List ℕ

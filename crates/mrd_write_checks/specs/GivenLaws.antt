@@ -3,18 +3,18 @@
 use Prim.Native.Nat.{ℕ, _+_, _-_, _*_, _≤_, _<_}
 use native.Mathlib.Omega.{arith}
 use mathlib.Core.Path.{_≡_, refl, sym, ap, _∙_}
-use mathlib.Core.Bool.{Bool, true, false, not}
+use mathlib.Core.Bool.{true, false, not}
 use mathlib.Core.List.{List, [], _∷_, _++_}
 use lib.Dec.{ltb}
 use lib.ListN.{length}
 use borrow.Author.Tests.{lt-ltb, le-ltb, eq-eqb, ne-eqb}
 use Rattle.mrd_format.specs.declared.kind.Kind.{Kind}
-use Rattle.mrd_format.specs.declared.kind.Kind.the-variants.{ConfigurationName, ConfigurationText, HeaderText, Close, Text, Acquisition, Image, Waveform}
+use Rattle.mrd_format.specs.declared.kind.Kind.the-variants.{ConfigurationText, HeaderText, Close, Text, Acquisition, Image, Waveform}
 use Rattle.mrd_logic.specs.Answer.{answered, number}
 use Rattle.mrd_logic.specs.AnswerLaws.{answered-not-number}
 use Rattle.mrd_logic.specs.Checks.{Check, _when_, first, unless}
 use Rattle.mrd_logic.specs.CheckLaws.{numbered, numbered-append, first-next, unless-stops, unless-passed, unless-fault}
-use Rattle.mrd_format.specs.OwnCheckLaws as format
+use Rattle.mrd_format.specs.OwnCheckLaws.{own-numbered}
 use Rattle.mrd_format.specs.Acquisition as acquisition
 use Rattle.mrd_format.specs.Image as image
 use Rattle.mrd_format.specs.Waveform as waveform
@@ -23,9 +23,8 @@ use Rattle.mrd_format.specs.Parts as part
 use Rattle.mrd_format.specs.Sizes.{capped}
 use Rattle.mrd_format.specs.Message.{limit, ownChecks, bodySize, sizeOf}
 use Rattle.mrd_write_checks.specs.declared.lengths.Lengths.{Lengths}
-use Rattle.mrd_write_checks.specs.Sized.{sizedAnswer, nameSized, textSized, sizedBy}
-use Rattle.mrd_write_checks.specs.NameLaws.{name-passes}
-use Rattle.mrd_write_checks.specs.WriteChecks.{nameUnfit, counts, givenFixed, givenOwnChecks, givenSize, partLengths, dueLengths, sameLengths, sizedChecks, givenChecks, judged}
+use Rattle.mrd_write_checks.specs.Sized.{sizedAnswer, textSized, sizedBy}
+use Rattle.mrd_write_checks.specs.WriteChecks.{counts, givenFixed, givenOwnChecks, givenSize, partLengths, dueLengths, sameLengths, sizedChecks, givenChecks, judged}
 
 -- where a number is answered, no check refused
 pub unless-answered : (f z : ℕ) {y : ℕ} → unless f number (answered z) ≡ answered y → (f ≡ 0) × (z ≡ y)
@@ -41,17 +40,13 @@ unless-number cs ds y z e =
     unless-stops cs ds number (answered z) refl (p .1) ∙ p .0
 
 -- no check has the number 0
-own-numbered : (k : Kind) (h name : List ℕ) (n : Lengths) → numbered (givenOwnChecks k h name n) ≡ true
-unfolding givenOwnChecks
-own-numbered k h name n = format.own-numbered k (givenFixed k h name n)
-
 sized-numbered : (k : Kind) (h name : List ℕ) (n : Lengths) → numbered (sizedChecks k h name n) ≡ true
-unfolding sizedChecks
-sized-numbered k h name n = numbered-append (givenOwnChecks k h name n) _ (own-numbered k h name n) refl
+unfolding sizedChecks givenOwnChecks
+sized-numbered k h name n = numbered-append (ownChecks k (givenFixed k h name n)) _ (own-numbered k (givenFixed k h name n)) refl
 
-pub contents-numbered : (k : Kind) (h name : List ℕ) (n : Lengths) → numbered (givenChecks k h name n) ≡ true
+pub given-numbered : (k : Kind) (h name : List ℕ) (n : Lengths) → numbered (givenChecks k h name n) ≡ true
 unfolding givenChecks
-contents-numbered k h name n = numbered-append (sizedChecks k h name n) _ (sized-numbered k h name n) refl
+given-numbered k h name n = numbered-append (sizedChecks k h name n) _ (sized-numbered k h name n) refl
 
 -- a header that has not its kind's length
 pub judged-header : (k : Kind) (h name : List ℕ) (n : Lengths) → (length h ≡ headerSize k → ⊥) → judged k h name n ≡ number 3
@@ -100,7 +95,7 @@ module _ (k : Kind) (f : List ℕ) where
   module _ (own : first (ownChecks k f) ≡ 0) where
     limited : sizedBy k f ≡ unless (first ((10 when ltb limit (sizeOf k f)) ∷ [])) number (answered (sizeOf k f))
     unfolding sizedBy
-    limited = rw (first-next (ownChecks k f) _ (format.own-numbered k f) own)
+    limited = rw (first-next (ownChecks k f) _ (own-numbered k f) own)
 
     pub fixed-limit : (z : ℕ) → z ≡ capped (sizeOf k f) → limit < z → sizedBy k f ≡ number 10
     fixed-limit z e h = let over : limit < sizeOf k f = omega arith in limited ∙ rw (lt-ltb _ _ over)
@@ -108,18 +103,7 @@ module _ (k : Kind) (f : List ℕ) where
     pub fixed-whole : (z : ℕ) → z ≡ capped (sizeOf k f) → z ≤ limit → sizedBy k f ≡ answered z
     fixed-whole z e h = let same : sizeOf k f ≡ z = omega arith in limited ∙ rw (same, le-ltb _ _ h)
 
--- what the kinds share: a message that goes by its name, by its text, by nothing, and by its fixed part, which has no name
-pub sized-name : (h name : List ℕ) (n : Lengths) → sizedAnswer ConfigurationName h name n ≡ nameSized name
-unfolding sizedAnswer sizedChecks givenOwnChecks givenSize dueLengths nameSized
-sized-name h name n = ap (λ (f : ℕ). unless f number (answered 1026)) (by-test (nameUnfit name) refl)
-  where
-    own : List Check
-    own = ownChecks ConfigurationName (givenFixed ConfigurationName h name n)
-
-    by-test : (b : Bool) → nameUnfit name ≡ b → first ((5 when b) ∷ (own ++ ((10 when ltb limit 1026) ∷ []))) ≡ first ((5 when b) ∷ [])
-    by-test true e = refl
-    by-test false e = first-next own _ (format.own-numbered ConfigurationName _) (name-passes h name n e)
-
+-- what the kinds share: a message that goes by its text, by nothing, and by its fixed part, which has no name
 pub sized-text : (h name : List ℕ) (n : Lengths) →
     (sizedAnswer ConfigurationText h name n ≡ textSized (n .text)) ×
     ((sizedAnswer HeaderText h name n ≡ textSized (n .text)) × ((sizedAnswer Text h name n ≡ textSized (n .text)) × Unit {0}))

@@ -1,5 +1,5 @@
 pub mod WriteChecks
 pub mod Sized
-pub mod NameLaws
 pub mod GivenLaws
+pub mod NameLaws
 pub mod ImageLaws

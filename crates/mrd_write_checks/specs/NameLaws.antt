@@ -3,7 +3,7 @@
 use Prim.Native.Nat.{ℕ, zero, suc, _+_, _-_, _≤_, _<_}
 use native.Mathlib.Nat.{zero-add, add-zero, suc-add, not-suc-le-zero, le-of-suc-le-suc}
 use native.Mathlib.Omega.{arith}
-use mathlib.Core.Path.{_≡_, refl, sym, _∙_}
+use mathlib.Core.Path.{_≡_, refl, sym, ap, _∙_}
 use mathlib.Core.Bool.{Bool, true, false}
 use mathlib.Core.List.{List, [], _∷_, _++_}
 use lib.Dec.{eqb, ltb}
@@ -12,13 +12,15 @@ use borrow.Author.Tests.{lt-ltb, le-ltb, lt-leb, ltb-false}
 use Rattle.bytes.specs.Bytes.{indexOf, indexAfter}
 use Rattle.mrd_logic.specs.Answer.{answered, number}
 use Rattle.mrd_logic.specs.Choice.{neither}
-use Rattle.mrd_logic.specs.Checks.{first}
+use Rattle.mrd_logic.specs.Checks.{Check, _when_, first, unless}
+use Rattle.mrd_logic.specs.CheckLaws.{first-next}
 use Rattle.mrd_format.specs.declared.kind.Kind.the-variants.{ConfigurationName}
 use Rattle.mrd_format.specs.Segments.{nameLength}
-use Rattle.mrd_format.specs.Message.{ownChecks}
+use Rattle.mrd_format.specs.Message.{limit, ownChecks}
+use Rattle.mrd_format.specs.OwnCheckLaws.{own-numbered}
 use Rattle.mrd_write_checks.specs.declared.lengths.Lengths.{Lengths}
-use Rattle.mrd_write_checks.specs.WriteChecks.{nameUnfit, givenFixed}
-use Rattle.mrd_write_checks.specs.Sized.{nameSized}
+use Rattle.mrd_write_checks.specs.WriteChecks.{nameUnfit, dueLengths, givenFixed, givenOwnChecks, givenSize, sizedChecks}
+use Rattle.mrd_write_checks.specs.Sized.{sizedAnswer, nameSized}
 
 -- a name that is too long, one that holds a zero, and one that is sound
 pub name-long : (name : List ℕ) → 1024 ≤ length name → nameSized name ≡ number 5
@@ -58,9 +60,9 @@ zeros-first zero h = refl
 zeros-first (suc n) h = refl
 
 -- its zeros begin after it
-pub name-length : (h name : List ℕ) (n : Lengths) → nameUnfit name ≡ false → nameLength (givenFixed ConfigurationName h name n) ≡ length name
+pub name-ends : (h name : List ℕ) (n : Lengths) → nameUnfit name ≡ false → nameLength (givenFixed ConfigurationName h name n) ≡ length name
 unfolding nameLength givenFixed
-name-length h name n e =
+name-ends h name n e =
     let fits = name-bounds name e in
     let some : 0 < 1024 - length name = omega arith in
     index-after name (replicate (1024 - length name) 0) (fits .1) ∙ rw (zeros-first (1024 - length name) some, add-zero)
@@ -70,4 +72,16 @@ pub name-passes : (h name : List ℕ) (n : Lengths) → nameUnfit name ≡ false
 unfolding ownChecks
 name-passes h name n e =
     let short : length name < 1024 = omega (arith, name-bounds name e) in
-    rw (name-length h name n e, lt-leb 1024 (length name) short)
+    rw (name-ends h name n e, lt-leb 1024 (length name) short)
+
+-- and checks 4 to 10 go by the name alone
+pub sized-name : (h name : List ℕ) (n : Lengths) → sizedAnswer ConfigurationName h name n ≡ nameSized name
+unfolding sizedAnswer sizedChecks givenOwnChecks givenSize dueLengths nameSized
+sized-name h name n = ap (λ (f : ℕ). unless f number (answered 1026)) (by-test (nameUnfit name) refl)
+  where
+    own : List Check
+    own = ownChecks ConfigurationName (givenFixed ConfigurationName h name n)
+
+    by-test : (b : Bool) → nameUnfit name ≡ b → first ((5 when b) ∷ (own ++ ((10 when ltb limit 1026) ∷ []))) ≡ first ((5 when b) ∷ [])
+    by-test true e = refl
+    by-test false e = first-next own _ (own-numbered ConfigurationName _) (name-passes h name n e)

@@ -6,6 +6,8 @@ use lib.Dec.{ltb}
 use Rattle.mrd_logic.specs.Answer.{Answer, answered, number}
 use Rattle.mrd_logic.specs.Checks.{_when_, first, unless}
 use Rattle.mrd_format.specs.declared.kind.Kind.{Kind}
+use Rattle.mrd_format.specs.declared.kind.Kind.the-variants.{ConfigurationName, Text}
+use Rattle.mrd_format.specs.Kinds.{fixedSize}
 use Rattle.mrd_format.specs.Message.{limit, ownChecks, sizeOf}
 use Rattle.mrd_write_checks.specs.declared.lengths.Lengths.{Lengths}
 use Rattle.mrd_write_checks.specs.WriteChecks.{nameUnfit, givenSize, sizedChecks}
@@ -15,10 +17,10 @@ unfoldable pub sizedAnswer : Kind → (h name : List ℕ) → Lengths → Answer
 sizedAnswer k h name n = unless (first (sizedChecks k h name n)) number (answered (givenSize k h n))
 
 unfoldable pub nameSized : List ℕ → Answer ℕ
-nameSized name = unless (first ((5 when nameUnfit name) ∷ [])) number (answered 1026)
+nameSized name = unless (first ((5 when nameUnfit name) ∷ [])) number (answered (2 + fixedSize ConfigurationName))
 
 unfoldable pub textSized : ℕ → Answer ℕ
-textSized z = unless (first ((10 when ltb limit (6 + z)) ∷ [])) number (answered (6 + z))
+textSized z = unless (first ((10 when ltb limit (2 + fixedSize Text + z)) ∷ [])) number (answered (2 + fixedSize Text + z))
 
 unfoldable pub sizedBy : Kind → List ℕ → Answer ℕ
 sizedBy k f =

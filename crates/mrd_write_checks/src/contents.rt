@@ -101,11 +101,11 @@ fn checked_fixed(kind: Kind, h: &[u8]) -> ContentsJudged
 }
 
 // An image's fixed part: the header, and the attributes' length after it.
-fn image_fixed(header: &[u8], attributes: usize) -> [u8; 206]
-    requires { ⌜ length (now header) ≡ 198 ⌝ }
+fn image_fixed(header: &[u8], attributes: usize) -> [u8; Kind::IMAGE_FIXED]
+    requires { ⌜ length (now header) ≡ headerSize Kind.Image ⌝ }
     ensures { λ r. ⌜ r ≡ now (header .entry) ++ toBytes 8 attributes ⌝ }
 {
-    let mut fixed = [0u8; 206];
+    let mut fixed = [0u8; Kind::IMAGE_FIXED];
     bytes::copy(header, &mut fixed);
     put_u64(&mut fixed[Kind::IMAGE_HEADER..], attributes as u64);
     fixed

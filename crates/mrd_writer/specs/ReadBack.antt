@@ -29,7 +29,7 @@ use Rattle.mrd_cursor.specs.Cursors.{maxMessages, after}
 use Rattle.mrd_stream.specs.Walk.{message, walk, from}
 use Rattle.mrd_cut.specs.Walked.{walk-well}
 use Rattle.mrd_write_checks.specs.WriteChecks.{lengthsOf}
-use Rattle.mrd_write_checks.specs.GivenLaws.{unless-answered, contents-numbered}
+use Rattle.mrd_write_checks.specs.GivenLaws.{unless-answered, given-numbered}
 use Rattle.mrd_writer.specs.Write.{contentsSize, contentsChecks, writeChecks, answerAs, outputAs, writeAnswer, writeOutput}
 use Rattle.mrd_writer.specs.Sound.{Sound, passed-sound}
 use Rattle.mrd_writer.specs.Written.{sound-fitting, message-length, written-well}
@@ -61,7 +61,7 @@ answered-sound k c at o e =
     let own = contentsChecks k c in
     let room = (14 when ltb (length o) (at + contentsSize k c)) ∷ [] in
     let d = unless-answered (first (own ++ room)) (at + contentsSize k c) e in
-    let numbers = numbered-append own room (contents-numbered k (c .header) (c .parts .name) (lengthsOf c)) refl in
+    let numbers = numbered-append own room (given-numbered k (c .header) (c .parts .name) (lengthsOf c)) refl in
     let all = every-split Passed own room (first-passed (own ++ room) numbers (d .0)) in
     (passed-sound k c (passed-first own (all .0)), d .1, ltb-false _ _ (all .1 .0))
 

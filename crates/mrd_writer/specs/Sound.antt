@@ -3,7 +3,7 @@
 use Prim.Native.Nat.{ℕ, _^_, _≤_, _<_}
 use native.Mathlib.Omega.{arith}
 use mathlib.Core.Path.{_≡_, ap}
-use mathlib.Core.Bool.{true, false}
+use mathlib.Core.Bool.{true}
 use mathlib.Core.List.{List}
 use lib.ListN.{length, getD}
 use borrow.Author.Tests.{eqb-true, ltb-false, not-false}
@@ -13,13 +13,12 @@ use Rattle.mrd_logic.specs.Answer.{answered}
 use Rattle.mrd_logic.specs.Checks.{first, Passed}
 use Rattle.mrd_logic.specs.CheckLaws.{first-passed}
 use Rattle.mrd_format.specs.declared.kind.Kind.{Kind}
-use Rattle.mrd_format.specs.declared.kind.Kind.the-variants.{ConfigurationName}
 use Rattle.mrd_format.specs.Kinds.{headerSize}
 use Rattle.mrd_format.specs.Message.{limit}
 use Rattle.mrd_format.specs.Parts.{Contents}
 use Rattle.mrd_write_checks.specs.declared.lengths.Lengths.{Lengths}
-use Rattle.mrd_write_checks.specs.WriteChecks.{nameUnfit, givenOwnChecks, bodyLength, givenSize, partLengths, lengthList, lengthsOf, dueLengths, sameLengths, sizedChecks, givenChecks, judged}
-use Rattle.mrd_write_checks.specs.GivenLaws.{unless-answered, contents-numbered}
+use Rattle.mrd_write_checks.specs.WriteChecks.{givenOwnChecks, bodyLength, givenSize, partLengths, lengthList, lengthsOf, dueLengths, sameLengths, sizedChecks, givenChecks, judged}
+use Rattle.mrd_write_checks.specs.GivenLaws.{unless-answered, given-numbered}
 use Rattle.mrd_writer.specs.Write.{judgedContents, contentsSize, contentsChecks}
 
 -- what is given passes checks 3 to 10 and 18
@@ -42,7 +41,7 @@ unfolding givenChecks sizedChecks
 passed-sound k c e =
     let h = c .header in
     let n = lengthsOf c in
-    let all = first-passed (contentsChecks k c) (contents-numbered k h (c .parts .name) n) e in
+    let all = first-passed (contentsChecks k c) (given-numbered k h (c .parts .name) n) e in
     let parted = every-split Passed (sizedChecks k h (c .parts .name) n) _ (all .1) in
     let sized = every-split Passed (givenOwnChecks k h (c .parts .name) n) _ (parted .0) in
     record {
@@ -56,11 +55,6 @@ passed-sound k c e =
 pub judged-answered : (k : Kind) (c : Contents) {z : ℕ} → judgedContents k c ≡ answered z → (first (contentsChecks k c) ≡ 0) × (contentsSize k c ≡ z)
 unfolding judged
 judged-answered k c e = unless-answered (first (contentsChecks k c)) (contentsSize k c) e
-
--- a name is sound
-pub sound-name : (c : Contents) → Sound ConfigurationName c → nameUnfit (c .parts .name) ≡ false
-unfolding givenOwnChecks
-sound-name c s = s .own .0
 
 -- the parts together are within the limit
 parts-small : (k : Kind) (c : Contents) → Sound k c → bodyLength (lengthsOf c) ≤ limit

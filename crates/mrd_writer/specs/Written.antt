@@ -22,11 +22,11 @@ use Rattle.mrd_format.specs.Content.{segmentsOf, extentOf, fixedOf, contentOf, 
 use Rattle.mrd_format.specs.Made.{Holds, Fitting, made-length, fixed-length, made-fixed}
 use Rattle.mrd_write_checks.specs.declared.lengths.Lengths.{Lengths}
 use Rattle.mrd_write_checks.specs.WriteChecks.{givenFixed, givenOwnChecks, givenSize, partLengths, lengthList, lengthsBy, lengthsOf, dueLengths}
-use Rattle.mrd_write_checks.specs.NameLaws.{name-bounds, name-length}
+use Rattle.mrd_write_checks.specs.NameLaws.{name-bounds, name-ends}
 use Rattle.mrd_write_checks.specs.ImageLaws.{attribute-length, pixels-size, image-size}
 use Rattle.mrd_put.specs.Room.{Ready}
 use Rattle.mrd_writer.specs.Write.{contentsSize}
-use Rattle.mrd_writer.specs.Sound.{Sound, sound-name, text-small, attributes-small}
+use Rattle.mrd_writer.specs.Sound.{Sound, text-small, attributes-small}
 
 -- the id reads back
 pub written-known : (k : Kind) (c : Contents) → identified (idAt (messageOf k c)) ≡ Known k
@@ -53,9 +53,9 @@ checked-is-made Image c = refl
 checked-is-made Waveform c = refl
 
 -- a name's zeros begin after it
-made-name-length : (c : Contents) → Sound ConfigurationName c → nameLength (fixedOf ConfigurationName c) ≡ length (c .parts .name)
-made-name-length c s =
-    rw (checked-is-made ConfigurationName c) at (name-length (c .header) (c .parts .name) (lengthsOf c) (sound-name c s))
+name-length : (c : Contents) → Sound ConfigurationName c → nameLength (fixedOf ConfigurationName c) ≡ length (c .parts .name)
+unfolding givenOwnChecks
+name-length c s = rw (checked-is-made ConfigurationName c) at (name-ends (c .header) (c .parts .name) (lengthsOf c) (s .own .0))
 
 -- a text's length reads back
 text-length : (k : Kind) (c : Contents) → Sound k c → textLength (toBytes 4 (length (c .parts .text))) ≡ length (c .parts .text)
@@ -65,7 +65,7 @@ text-length k c s = rw append-nil at (read-after-write 4 (length (c .parts .text
 -- the lengths that the fixed part says are those that were given
 sound-sizes : (k : Kind) (c : Contents) → Sound k c → lengthsBy (λ (p : Part). reachSize (extentOf p k (fixedOf k c))) ≡ lengthsOf c
 unfolding extentOf fixedOf dueLengths
-sound-sizes ConfigurationName c s = ap (λ (n : ℕ). partLengths n 0 0 0 0 0 0) (made-name-length c s) ∙ sym (s .lengths)
+sound-sizes ConfigurationName c s = ap (λ (n : ℕ). partLengths n 0 0 0 0 0 0) (name-length c s) ∙ sym (s .lengths)
 sound-sizes ConfigurationText c s = ap (λ (n : ℕ). partLengths 0 n 0 0 0 0 0) (text-length ConfigurationText c s) ∙ sym (s .lengths)
 sound-sizes HeaderText c s = ap (λ (n : ℕ). partLengths 0 n 0 0 0 0 0) (text-length HeaderText c s) ∙ sym (s .lengths)
 sound-sizes Close c s = sym (s .lengths)
@@ -85,8 +85,8 @@ has k c s f = ap f (sound-sizes k c s)
 
 -- so each segment's bytes are as many as it says
 sound-holds : (k : Kind) (c : Contents) → Sound k c → Every (Holds (fixedOf k c) c) (segmentsOf k (fixedOf k c))
-unfolding extentOf
-sound-holds ConfigurationName c s = ((made-name-length c s, omega (arith, name-bounds (c .parts .name) (sound-name c s))), tt)
+unfolding extentOf givenOwnChecks
+sound-holds ConfigurationName c s = ((name-length c s, omega (arith, name-bounds (c .parts .name) (s .own .0))), tt)
 sound-holds ConfigurationText c s = (tt, (sym (has ConfigurationText c s (λ n. n .text)), tt))
 sound-holds HeaderText c s = (tt, (sym (has HeaderText c s (λ n. n .text)), tt))
 sound-holds Close c s = tt

@@ -56,8 +56,8 @@ normalPiece m p = pick (same (p .part) filler) (replicate (p .place .size) 0) (b
 unfoldable pub normalOf : Kind → List ℕ → List ℕ
 normalOf k m = joined (map (normalPiece m) (piecesOf k (fixedPart k m)))
 
--- the fixed part of a message of kind k that is made of c: 'a text's length and an image's 8-byte length' are worked out from the parts' lengths,
--- and a name is filled 'up with zeros'. No part's bytes are in it but a name's
+-- the fixed part of a message of kind k that is made of c, where z says how long its parts are: 'a text's length and an image's 8-byte length' are
+-- worked out, and a name is filled 'up with zeros'. It goes by z and no part's bytes but a name's, so that lengths are enough to check it
 abbrev pub fixedBy : Kind → (Part → ℕ) → Contents → List ℕ
 fixedBy k z c = segmentsBytes z c (formOf k .fixedSegments)
 

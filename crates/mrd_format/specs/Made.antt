@@ -43,9 +43,7 @@ Recorded p =
 
 -- its bytes go by its tag
 same-part : (ps : Parts) (p q : Part) → same p q ≡ true → partIn ps q ≡ partIn ps p
-same-part ps p q e =
-    let tags : tag p ≡ tag q = eqb-true (tag p) (tag q) (both _ _ e .0) in
-    rw tags refl
+same-part ps p q e = rw (eqb-true (tag p) (tag q) (both _ _ e .0))
 
 segments-append : (z : Part → ℕ) (c : Contents) (ss ts : List Segment) → segmentsBytes z c (ss ++ ts) ≡ segmentsBytes z c ss ++ segmentsBytes z c ts
 segments-append z c [] ts = refl

@@ -98,8 +98,8 @@ abbrev pub reachSize : Reach → ℕ
 reachSize (lies e) = e .size
 reachSize lacks = 0
 
--- the bytes of a segment, of what the message is made of and how long each of its parts is: a length is worked out from its part's, and a name
--- filled up with zeros
+-- the bytes of a segment, where the message is made of c and z says how long its parts are: a length is that of its part, and a name is filled up
+-- with zeros
 abbrev pub segmentBytes : (Part → ℕ) → Contents → Segment → List ℕ
 segmentBytes z c (fixed n) = c .header
 segmentBytes z c (counted w p) = toBytes w (z p)

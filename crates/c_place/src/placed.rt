@@ -1,5 +1,6 @@
 // A record's place and kind as a C struct: the numbers of its kind in the members for them.
 ghost use mathlib.Core.Path.{_≡_};
+ghost use Rattle.mrd_format.specs.Kinds.{idOf};
 ghost use Rattle.mrd_stream.specs.ReaderMeaning.{placedMeaning, recordMeaning};
 ghost use Rattle.c_place.specs.PlacedStruct.{refusedPlace, placeAs, cRecord, cPlaced};
 use mrd_format::AcquisitionShape;
@@ -79,7 +80,7 @@ impl Placed {
     }
 
     fn acquisition(place: Place, shape: AcquisitionShape) -> Placed
-        ensures { λ r. ⌜ r ≡ placeAs place 1008 0 0 (shape .«number_of_samples») (shape .«active_channels») (shape .«trajectory_dimensions») 0 0 0 0 ⌝ }
+        ensures { λ r. ⌜ r ≡ placeAs place (idOf Kind.Acquisition) 0 0 (shape .«number_of_samples») (shape .«active_channels») (shape .«trajectory_dimensions») 0 0 0 0 ⌝ }
     {
         let mut r = Placed::bare(place, Kind::ACQUISITION);
         r.number_of_samples = shape.number_of_samples;
@@ -89,7 +90,7 @@ impl Placed {
     }
 
     fn image(place: Place, shape: ImageShape) -> Placed
-        ensures { λ r. ⌜ r ≡ placeAs place 1022 0 (shape .«attribute_length») 0 (shape .channels) 0 (shape .«matrix_size_x») (shape .«matrix_size_y») (shape .«matrix_size_z») (shape .«data_type») ⌝ }
+        ensures { λ r. ⌜ r ≡ placeAs place (idOf Kind.Image) 0 (shape .«attribute_length») 0 (shape .channels) 0 (shape .«matrix_size_x») (shape .«matrix_size_y») (shape .«matrix_size_z») (shape .«data_type») ⌝ }
     {
         let mut r = Placed::bare(place, Kind::IMAGE);
         r.matrix_size_x = shape.matrix_size_x;
@@ -102,7 +103,7 @@ impl Placed {
     }
 
     fn waveform(place: Place, shape: WaveformShape) -> Placed
-        ensures { λ r. ⌜ r ≡ placeAs place 1026 0 0 (shape .«number_of_samples») (shape .channels) 0 0 0 0 0 ⌝ }
+        ensures { λ r. ⌜ r ≡ placeAs place (idOf Kind.Waveform) 0 0 (shape .«number_of_samples») (shape .channels) 0 0 0 0 0 ⌝ }
     {
         let mut r = Placed::bare(place, Kind::WAVEFORM);
         r.number_of_samples = shape.number_of_samples;

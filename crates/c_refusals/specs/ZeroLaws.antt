@@ -33,7 +33,7 @@ use Rattle.mrd_index_cursor.specs.IndexCursor.{cursorFor}
 use Rattle.mrd_ask.specs.declared.question.Question.{Question}
 use Rattle.mrd_ask.specs.Questions.{askOf}
 use Rattle.mrd_ask.specs.RefusalLaws.{NumberedRefusal, Refuses, unless-refuses, then-refuses, from-numbered, answer-numbered, over-numbered, place-refuses, at-refuses, view-refuses, field-refuses, find-refuses, ask-refuses}
-use Rattle.mrd_writer.specs.Write.{sizeGiven, writeChecks, answerAs, writeAnswer}
+use Rattle.mrd_writer.specs.Write.{contentsSize, writeChecks, answerAs, writeAnswer}
 use Rattle.c_place.specs.PlacedStruct.{cPlaced}
 use Rattle.c_walk.specs.WalkStructs.{cChecked, cCursorAnswer, cStep}
 use Rattle.c_record.specs.RecordStructs.{cView, cField, cFound}
@@ -194,4 +194,4 @@ zero-put id c at o = zero-answer (λ a. cPut a .refusal) (λ f r b. refl) (λ k.
 
     by : (i : Identified) → Refuses 1 (answerAs i c at o)
     by Unknown = omega arith
-    by (Known k) = judged (first (writeChecks k c at o)) (at + sizeGiven k c)
+    by (Known k) = judged (first (writeChecks k c at o)) (at + contentsSize k c)

@@ -9,9 +9,8 @@ use Rattle.mrd_format.specs.declared.kind.Identified.the-variants.{Known, Unkno
 use Rattle.mrd_format.specs.Kinds.{identified}
 use Rattle.mrd_format.specs.Parts.{Contents}
 use Rattle.mrd_format.specs.Content.{messageOf}
-use Rattle.mrd_stream.specs.Output as front
-use Rattle.mrd_writer.specs.Write as writer
-use Rattle.mrd_writer.specs.Write.{answerAs, outputAs, writeAnswer, writeOutput}
+use Rattle.mrd_stream.specs.Output.{outputBy}
+use Rattle.mrd_writer.specs.Write.{answerAs, storedBy, outputAs, writeAnswer, writeOutput}
 
 -- a refusal: the stream's, or a number alone
 abbrev pub Refusal : Answer ℕ → Type 0
@@ -20,12 +19,12 @@ Refusal (stream f r b) = Unit {0}
 Refusal (number n) = Unit {0}
 
 -- of a tool that writes w to the front of the output o
-pub output-kept : (a : Answer ℕ) → Refusal a → (w o : List ℕ) → front.outputBy a w o ≡ o
+pub output-kept : (a : Answer ℕ) → Refusal a → (w o : List ℕ) → outputBy a w o ≡ o
 output-kept (answered n) r w o = absurd r
 output-kept (stream f n b) r w o = refl
 output-kept (number n) r w o = refl
 
-message-kept : (a : Answer ℕ) → Refusal a → (m : List ℕ) (at : ℕ) (o : List ℕ) → writer.outputBy a m at o ≡ o
+message-kept : (a : Answer ℕ) → Refusal a → (m : List ℕ) (at : ℕ) (o : List ℕ) → storedBy a m at o ≡ o
 message-kept (answered n) r m at o = absurd r
 message-kept (stream f n b) r m at o = refl
 message-kept (number n) r m at o = refl

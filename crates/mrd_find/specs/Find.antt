@@ -5,6 +5,7 @@ use mathlib.Core.Bool.{Bool, _&&_}
 use mathlib.Core.List.{List}
 use lib.Dec.{leb, eqb}
 use Rattle.mrd_format.specs.declared.kind.Kind.{Kind}
+use Rattle.mrd_format.specs.declared.kind.Kind.the-variants.{Acquisition}
 use Rattle.mrd_format.specs.Kinds.{idOf}
 use Rattle.mrd_format.specs.Acquisition.{countersOf}
 use Rattle.mrd_format.specs.Message.{fixedPart}
@@ -16,7 +17,7 @@ use Rattle.mrd_logic.specs.Lists.{equal}
 
 -- an 'acquisition from record n on': record i, of kind k
 abbrev pub candidate : ℕ → ℕ → Kind → Bool
-candidate n i k = leb n i && eqb (idOf k) 1008
+candidate n i k = leb n i && eqb (idOf k) (idOf Acquisition)
 
 -- a candidate, the message m of kind k at c, 'whose seventeen counters equal the seventeen asked for'
 abbrev pub matches : ℕ → List ℕ → Cursor → Kind → List ℕ → Bool

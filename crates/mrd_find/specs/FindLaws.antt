@@ -72,7 +72,7 @@ module _ {n : ℕ} {cs : List ℕ} {c : Cursor} {s : List ℕ} {here : PlacedRec
     acquisition : t .passes .kind ≡ Kind.Acquisition
     acquisition =
         let k = kindOf (here .shape) in
-        let id = eqb-true (idOf k) 1008 (both (leb n (here .place .number)) (eqb (idOf k) 1008) e .1) in
+        let id = eqb-true (idOf k) (idOf Kind.Acquisition) (both (leb n (here .place .number)) (eqb (idOf k) (idOf Kind.Acquisition)) e .1) in
         kind-of-id (t .passes .kind) Kind.Acquisition (ap (λ (l : Located). idOf (l .kind)) (sym (t .passes .place)) ∙ id)
 
     starts : here .place .start ≡ c .start

@@ -9,15 +9,13 @@ use mrd_cursor::Cursor;
 use mrd_format::Kind;
 use mrd_format::refusal;
 use mrd_judge::fixed_part;
+use mrd_message::COUNTER_COUNT;
 use mrd_message::counter;
 use mrd_stream::Checked;
 use mrd_stream::PlacedRecord;
 use mrd_stream::Refusal;
 use mrd_stream::Step;
 use mrd_stream::check_from;
-
-// How many counters an acquisition has.
-const COUNTER_COUNT: usize = 17;
 
 // The answer of find.
 pub enum Found {
@@ -31,7 +29,7 @@ pub enum Found {
 
 // The number of the first acquisition from record n on with these counters; else the stream's refusal,
 // also where a match stands before the fault, or 16. One walk over the stream.
-pub fn find(s: &[u8], n: usize, counters: &[u16; 17]) -> Found
+pub fn find(s: &[u8], n: usize, counters: &[u16; COUNTER_COUNT]) -> Found
     ensures { λ r. ⌜ foundMeaning r ≡ findOf (now (s .entry)) n (now (counters .entry)) ⌝ }
 {
     // Passed on as a slice, which tells the proof the array's length.

@@ -9,7 +9,7 @@ use Rattle.mrd_logic.specs.Joined.{joined}
 use Rattle.mrd_numbers.specs.Little.{toBytes}
 use Rattle.mrd_format.specs.declared.kind.Kind.{Kind}
 use Rattle.mrd_format.specs.Elements.{values, widths, written}
-use Rattle.mrd_format.specs.Parts.{Part, id, header, filler, same, Reach, bytesAt, bytesIn, Parts, partsBy, Contents}
+use Rattle.mrd_format.specs.Parts.{Part, id, header, filler, same, Reach, bytesAt, bytesIn, Parts, partsBy, Contents, partLength}
 use Rattle.mrd_format.specs.Segments.{Segment, Piece, piece, piecesFrom, orElse, reachIf, reachFrom, segmentsBytes}
 use Rattle.mrd_format.specs.Kinds.{idOf, formOf}
 use Rattle.mrd_format.specs.Message.{fixedPart}
@@ -56,13 +56,17 @@ normalPiece m p = pick (same (p .part) filler) (replicate (p .place .size) 0) (b
 unfoldable pub normalOf : Kind → List ℕ → List ℕ
 normalOf k m = joined (map (normalPiece m) (piecesOf k (fixedPart k m)))
 
--- the message of kind k that is made of c: its fixed part, where 'a text's length and an image's 8-byte length' are worked out and a name is
--- filled 'up with zeros'; what follows it; and both after the id
+-- the fixed part of a message of kind k that is made of c, where z says how long its parts are: 'a text's length and an image's 8-byte length' are
+-- worked out, and a name is filled 'up with zeros'. It goes by z and no part's bytes but a name's, so that lengths are enough to check it
+abbrev pub fixedBy : Kind → (Part → ℕ) → Contents → List ℕ
+fixedBy k z c = segmentsBytes z c (formOf k .fixedSegments)
+
+-- the message of kind k that is made of c: its fixed part, what follows it, and both after the id
 unfoldable pub fixedOf : Kind → Contents → List ℕ
-fixedOf k c = segmentsBytes c (formOf k .fixedSegments)
+fixedOf k c = fixedBy k (partLength c) c
 
 unfoldable pub bodyOf : Kind → Contents → List ℕ
-bodyOf k c = segmentsBytes c (formOf k .bodySegments (fixedOf k c))
+bodyOf k c = segmentsBytes (partLength c) c (formOf k .bodySegments (fixedOf k c))
 
 unfoldable pub contentOf : Kind → Contents → List ℕ
 contentOf k c = fixedOf k c ++ bodyOf k c

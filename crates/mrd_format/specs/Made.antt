@@ -10,7 +10,7 @@ use mathlib.Core.Logic.{⊎-elim}
 use mathlib.Core.List.{List, [], _∷_, _++_, map, append-nil, append-assoc}
 use borrow.Author.Tests.{eqb-true}
 use lib.Dec.{ltb}
-use lib.ListN.{length, getD, replicate, length-append, length-replicate}
+use lib.ListN.{length, replicate, length-append, length-replicate}
 use lib.Seq.{take-at, drop-at}
 use Rattle.mrd_numbers.specs.Little.{toBytes}
 use Rattle.mrd_numbers.specs.ToBytesLaws.{length-toBytes}
@@ -22,7 +22,7 @@ use Rattle.mrd_format.specs.Image as image
 use Rattle.mrd_format.specs.Kinds.{idOf, formOf, fixedSize}
 use Rattle.mrd_format.specs.Message.{sizeOf, fixedPart}
 use Rattle.mrd_format.specs.Parts as part
-use Rattle.mrd_format.specs.Parts.{Part, tag, same, isChannel, channelOf, Extent, Reach, lies, lacks, bytesAt, bytesIn, Parts, partIn, partsBy, recordParts, Contents}
+use Rattle.mrd_format.specs.Parts.{Part, tag, same, isChannel, channelOf, Extent, Reach, lies, lacks, bytesAt, bytesIn, Parts, partIn, partsBy, recordParts, Contents, partLength}
 use Rattle.mrd_format.specs.Segments.{Segment, fixed, counted, padded, sized, channels, sizeIn, total, nameLength, reachIf, reachIn, reachFrom, reachSize, segmentBytes, segmentsBytes}
 use Rattle.mrd_format.specs.Content.{segmentsOf, extentOf, contentsOf, fieldsOf, recordOf, fixedOf, bodyOf, contentOf, messageOf, contentsRecord}
 use Rattle.mrd_format.specs.HeaderLaws.{image-packed, values-append}
@@ -42,49 +42,29 @@ Recorded p =
     (same p part.id ≡ false) × (same p part.count ≡ false) × (same p part.header ≡ false) × (same p part.filler ≡ false) × (isChannel p ≡ false)
 
 -- its bytes go by its tag
-abbrev tagged : Parts → List (List ℕ)
-tagged ps =
-    [] ∷ [] ∷ [] ∷ ps .name ∷ [] ∷ ps .text ∷ ps .attributes ∷ ps .trajectory ∷ ps .samples ∷ ps .pixels ∷ ps .waveform ∷ []
-
-part-tagged : (ps : Parts) (p : Part) → partIn ps p ≡ getD (tagged ps) (tag p) []
-part-tagged ps part.id = refl
-part-tagged ps part.count = refl
-part-tagged ps part.header = refl
-part-tagged ps part.name = refl
-part-tagged ps part.filler = refl
-part-tagged ps part.text = refl
-part-tagged ps part.attributes = refl
-part-tagged ps part.trajectory = refl
-part-tagged ps part.samples = refl
-part-tagged ps part.pixels = refl
-part-tagged ps part.waveform = refl
-part-tagged ps (part.channel c) = refl
-
 same-part : (ps : Parts) (p q : Part) → same p q ≡ true → partIn ps q ≡ partIn ps p
-same-part ps p q e =
-    let tags : tag p ≡ tag q = eqb-true (tag p) (tag q) (both _ _ e .0) in
-    part-tagged ps q ∙ rw (← tags) (sym (part-tagged ps p))
+same-part ps p q e = rw (eqb-true (tag p) (tag q) (both _ _ e .0))
 
-segments-append : (c : Contents) (ss ts : List Segment) → segmentsBytes c (ss ++ ts) ≡ segmentsBytes c ss ++ segmentsBytes c ts
-segments-append c [] ts = refl
-segments-append c (s ∷ []) [] = sym (append-nil (segmentBytes c s))
-segments-append c (s ∷ []) (t ∷ ts) = refl
-segments-append c (s ∷ (u ∷ ss)) ts =
-    rw (segments-append c (u ∷ ss) ts) (sym (append-assoc (segmentBytes c s) (segmentsBytes c (u ∷ ss)) (segmentsBytes c ts)))
+segments-append : (z : Part → ℕ) (c : Contents) (ss ts : List Segment) → segmentsBytes z c (ss ++ ts) ≡ segmentsBytes z c ss ++ segmentsBytes z c ts
+segments-append z c [] ts = refl
+segments-append z c (s ∷ []) [] = sym (append-nil (segmentBytes z c s))
+segments-append z c (s ∷ []) (t ∷ ts) = refl
+segments-append z c (s ∷ (u ∷ ss)) ts =
+    rw (segments-append z c (u ∷ ss) ts) (sym (append-assoc (segmentBytes z c s) (segmentsBytes z c (u ∷ ss)) (segmentsBytes z c ts)))
 
 -- a test that fails finds nothing
 absent : (at n : ℕ) {b : Bool} {e : Extent} → b ≡ false → reachIf b at n ≡ lies e → ⊥
 absent at n {b} fails q = true≢false (sym (reach-if at n b q .0) ∙ fails)
 
-module _ (h : List ℕ) (c : Contents) where
-  segment-length : (s : Segment) → Holds h c s → length (segmentBytes c s) ≡ sizeIn s
+module _ (z : Part → ℕ) (h : List ℕ) (c : Contents) where
+  segment-length : (s : Segment) → Holds h c s → length (segmentBytes z c s) ≡ sizeIn s
   segment-length (fixed n) f = f
-  segment-length (counted w p) f = length-toBytes w (length (partIn (c .parts) p))
+  segment-length (counted w p) f = length-toBytes w (z p)
   segment-length (padded n) f = simp (length-append, length-replicate) (omega arith)
   segment-length (sized p n) f = f
   segment-length (channels k n) f = f
 
-  pub segments-length : (ss : List Segment) → Every (Holds h c) ss → length (segmentsBytes c ss) ≡ total ss
+  pub segments-length : (ss : List Segment) → Every (Holds h c) ss → length (segmentsBytes z c ss) ≡ total ss
   segments-length [] f = refl
   segments-length (s ∷ []) f = segment-length s (f .0)
   segments-length (s ∷ (t ∷ ss)) f = rw (length-append, segment-length s (f .0), segments-length (t ∷ ss) (f .1))
@@ -98,7 +78,7 @@ module _ (h : List ℕ) (c : Contents) where
         rw (← t .1, drop-at pre (x ++ post) (length pre) refl, take-at x post n long) (sym given ∙ same-part (c .parts) p q (t .0))
 
     segment-part : (pre post : List ℕ) (s : Segment) {e : Extent} → Holds h c s → reachIn p h (length pre) s ≡ lies e →
-        bytesAt (pre ++ (segmentBytes c s ++ post)) e ≡ partIn (c .parts) p
+        bytesAt (pre ++ (segmentBytes z c s ++ post)) e ≡ partIn (c .parts) p
     segment-part pre post (fixed n) f q = absurd (absent (length pre) n (r .2) q)
     segment-part pre post (counted w x) f q = absurd (absent (length pre) w (r .1) q)
     segment-part pre post (padded n) f q =
@@ -111,14 +91,14 @@ module _ (h : List ℕ) (c : Contents) where
         ⊎-elim (λ a. found pre _ post part.samples (k * n) refl f a) (λ b. absurd (absent _ _ (ap (λ (t : Bool). t && ltb (channelOf p) k) (r .4)) b)) (or-else _ _ q)
 
     segments-part : (pre : List ℕ) (ss : List Segment) {e : Extent} → Every (Holds h c) ss → reachFrom p h (length pre) ss ≡ lies e →
-        bytesAt (pre ++ segmentsBytes c ss) e ≡ partIn (c .parts) p
+        bytesAt (pre ++ segmentsBytes z c ss) e ≡ partIn (c .parts) p
     segments-part pre [] f q = absurd (not-there q)
     segments-part pre (s ∷ []) f q = rw append-nil at (segment-part pre [] s (f .0) q)
     segments-part pre (s ∷ (t ∷ ss)) {e} f q =
-        ⊎-elim (λ a. segment-part pre (segmentsBytes c (t ∷ ss)) s (f .0) a)
+        ⊎-elim (λ a. segment-part pre (segmentsBytes z c (t ∷ ss)) s (f .0) a)
         (λ b.
-        let far : length (pre ++ segmentBytes c s) ≡ length pre + sizeIn s = rw (length-append, segment-length s (f .0)) in
-        rw (← append-assoc pre (segmentBytes c s) (segmentsBytes c (t ∷ ss))) (segments-part (pre ++ segmentBytes c s) (t ∷ ss) {e = e} (f .1) (rw far b)))
+        let far : length (pre ++ segmentBytes z c s) ≡ length pre + sizeIn s = rw (length-append, segment-length s (f .0)) in
+        rw (← append-assoc pre (segmentBytes z c s) (segmentsBytes z c (t ∷ ss))) (segments-part (pre ++ segmentBytes z c s) (t ∷ ss) {e = e} (f .1) (rw far b)))
         (or-else (reachIn p h (length pre) s) _ q)
 
 -- no bytes at all
@@ -129,7 +109,7 @@ none (b ∷ x) e = absurd (omega arith)
 -- contents whose segments are as long as they say, and whose other parts are empty
 pub record Fitting (k : Kind) (c : Contents) : Type 0 where
   pub holds : Every (Holds (fixedOf k c) c) (segmentsOf k (fixedOf k c))
-  pub sizes : map (λ (p : Part). reachSize (extentOf p k (fixedOf k c))) recordParts ≡ map (λ (p : Part). length (partIn (c .parts) p)) recordParts
+  pub sizes : map (λ (p : Part). reachSize (extentOf p k (fixedOf k c))) recordParts ≡ map (partLength c) recordParts
 
 -- the fields of the fixed part are those of the given header
 made-fields : (k : Kind) (c : Contents) → Fitting k c → fieldsOf k (fixedOf k c) ≡ fieldsOf k (c .header)
@@ -144,21 +124,21 @@ made-fields Image c f = values-append 0 198 image.table (c .header) _ image-pack
 made-fields Waveform c f = refl
 
 module _ (k : Kind) (c : Contents) (f : Fitting k c) where
-  made-segments : messageOf k c ≡ toBytes 2 (idOf k) ++ segmentsBytes c (segmentsOf k (fixedOf k c))
+  made-segments : messageOf k c ≡ toBytes 2 (idOf k) ++ segmentsBytes (partLength c) c (segmentsOf k (fixedOf k c))
   unfolding messageOf contentOf fixedOf bodyOf
   made-segments =
-      ap (λ (x : List ℕ). toBytes 2 (idOf k) ++ x) (sym (segments-append c (formOf k .fixedSegments) (formOf k .bodySegments (fixedOf k c))))
+      ap (λ (x : List ℕ). toBytes 2 (idOf k) ++ x) (sym (segments-append (partLength c) c (formOf k .fixedSegments) (formOf k .bodySegments (fixedOf k c))))
 
   pub made-length : length (messageOf k c) ≡ sizeOf k (fixedOf k c)
   made-length =
-      let long = segments-length (fixedOf k c) c (segmentsOf k (fixedOf k c)) (f .holds) in
+      let long = segments-length (partLength c) (fixedOf k c) c (segmentsOf k (fixedOf k c)) (f .holds) in
       rw (made-segments, size-segments k (fixedOf k c)) (omega (arith, long))
 
   -- the fixed part is the one that was made
   pub fixed-length : length (fixedOf k c) ≡ fixedSize k
   unfolding fixedOf
   fixed-length =
-      segments-length (fixedOf k c) c (formOf k .fixedSegments)
+      segments-length (partLength c) (fixedOf k c) c (formOf k .fixedSegments)
       (every-split (Holds (fixedOf k c) c) (formOf k .fixedSegments) (formOf k .bodySegments (fixedOf k c)) (f .holds) .0)
 
   pub made-fixed : fixedPart k (messageOf k c) ≡ fixedOf k c
@@ -166,17 +146,17 @@ module _ (k : Kind) (c : Contents) (f : Fitting k c) where
   made-fixed = take-at (fixedOf k c) (bodyOf k c) (fixedSize k) fixed-length
 
   -- each part lies where it is said to, with the bytes that were given
-  made-part : (p : Part) → Recorded p → reachSize (extentOf p k (fixedOf k c)) ≡ length (partIn (c .parts) p) →
+  made-part : (p : Part) → Recorded p → reachSize (extentOf p k (fixedOf k c)) ≡ partLength c p →
       bytesIn (messageOf k c) (extentOf p k (fixedOf k c)) ≡ partIn (c .parts) p
   unfolding extentOf
   made-part p r size = by (extentOf p k (fixedOf k c)) refl size
     where
-      by : (x : Reach) → extentOf p k (fixedOf k c) ≡ x → reachSize x ≡ length (partIn (c .parts) p) →
+      by : (x : Reach) → extentOf p k (fixedOf k c) ≡ x → reachSize x ≡ partLength c p →
           bytesIn (messageOf k c) x ≡ partIn (c .parts) p
       by lacks q l = none (partIn (c .parts) p) l
       by (lies e) q l =
           ⊎-elim (λ a. absurd (absent 0 2 (r .0) a))
-          (λ b. rw made-segments (segments-part (fixedOf k c) c p r (toBytes 2 (idOf k)) (segmentsOf k (fixedOf k c)) (f .holds) b))
+          (λ b. rw made-segments (segments-part (partLength c) (fixedOf k c) c p r (toBytes 2 (idOf k)) (segmentsOf k (fixedOf k c)) (f .holds) b))
           (or-else (reachIf (same p part.id) 0 2) _ q)
 
   made-parts : partsBy (λ (p : Part). bytesIn (messageOf k c) (extentOf p k (fixedOf k c))) ≡ c .parts

@@ -4,7 +4,7 @@ use Prim.Native.Nat.{ℕ}
 use mathlib.Core.Bool.{Bool, _&&_}
 use mathlib.Core.List.{List, [], _∷_}
 use lib.Dec.{eqb}
-use lib.ListN.{take, drop}
+use lib.ListN.{length, getD, take, drop}
 
 -- an id, 'a u32 length L' or 'a u64 attribute length A', a fixed header, a name, the bytes after its first zero, a text, attributes, a
 -- trajectory, the samples of all channels, pixels, waveform data, and one channel's samples
@@ -81,20 +81,13 @@ pub record Parts : Type 0 where
   pub pixels : List ℕ
   pub waveform : List ℕ
 
+-- one of seven, by the tag of its part; z for a part that no record has
+abbrev pub byPart : {A : Type 0} → A → (name text trajectory samples attributes pixels waveform : A) → Part → A
+byPart z n t j s a p w q = getD (z ∷ z ∷ z ∷ n ∷ z ∷ t ∷ a ∷ j ∷ s ∷ p ∷ w ∷ []) (tag q) z
+
 -- the part of this name
 abbrev pub partIn : Parts → Part → List ℕ
-partIn ps id = []
-partIn ps count = []
-partIn ps header = []
-partIn ps name = ps .name
-partIn ps filler = []
-partIn ps text = ps .text
-partIn ps attributes = ps .attributes
-partIn ps trajectory = ps .trajectory
-partIn ps samples = ps .samples
-partIn ps pixels = ps .pixels
-partIn ps waveform = ps .waveform
-partIn ps (channel c) = []
+partIn ps p = byPart [] (ps .name) (ps .text) (ps .trajectory) (ps .samples) (ps .attributes) (ps .pixels) (ps .waveform) p
 
 -- those parts, each by its name
 abbrev pub partsBy : (Part → List ℕ) → Parts
@@ -117,6 +110,10 @@ recordParts = name ∷ text ∷ trajectory ∷ samples ∷ attributes ∷ pixels
 pub record Contents : Type 0 where
   pub header : List ℕ
   pub parts : Parts
+
+-- how long each of its parts is
+abbrev pub partLength : Contents → Part → ℕ
+partLength c p = length (partIn (c .parts) p)
 
 abbrev pub contents : (header name text trajectory samples attributes pixels waveform : List ℕ) → Contents
 contents h n t j s a p w =

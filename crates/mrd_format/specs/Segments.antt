@@ -98,19 +98,20 @@ abbrev pub reachSize : Reach → ℕ
 reachSize (lies e) = e .size
 reachSize lacks = 0
 
--- the bytes of a segment, of what the message is made of: a length is worked out from its part, and a name filled up with zeros
-abbrev pub segmentBytes : Contents → Segment → List ℕ
-segmentBytes c (fixed n) = c .header
-segmentBytes c (counted w p) = toBytes w (length (partIn (c .parts) p))
-segmentBytes c (padded n) = c .parts .name ++ replicate (n - length (c .parts .name)) 0
-segmentBytes c (sized p n) = partIn (c .parts) p
-segmentBytes c (channels k n) = c .parts .samples
+-- the bytes of a segment, where the message is made of c and z says how long its parts are: a length is that of its part, and a name is filled up
+-- with zeros
+abbrev pub segmentBytes : (Part → ℕ) → Contents → Segment → List ℕ
+segmentBytes z c (fixed n) = c .header
+segmentBytes z c (counted w p) = toBytes w (z p)
+segmentBytes z c (padded n) = c .parts .name ++ replicate (n - length (c .parts .name)) 0
+segmentBytes z c (sized p n) = partIn (c .parts) p
+segmentBytes z c (channels k n) = c .parts .samples
 
 -- and of segments one after the other
-abbrev pub segmentsBytes : Contents → List Segment → List ℕ
-segmentsBytes c [] = []
-segmentsBytes c (s ∷ []) = segmentBytes c s
-segmentsBytes c (s ∷ (t ∷ ss)) = segmentBytes c s ++ segmentsBytes c (t ∷ ss)
+abbrev pub segmentsBytes : (Part → ℕ) → Contents → List Segment → List ℕ
+segmentsBytes z c [] = []
+segmentsBytes z c (s ∷ []) = segmentBytes z c s
+segmentsBytes z c (s ∷ (t ∷ ss)) = segmentBytes z c s ++ segmentsBytes z c (t ∷ ss)
 
 -- the form of a message: what a row of the paper's table says of what follows the id
 pub record Form : Type 0 where

@@ -6,7 +6,7 @@ ghost use lib.ListN.{length, getD};
 ghost use Rattle.mrd_format.specs.Kinds.{fixedSize};
 ghost use Rattle.mrd_format.specs.Content.{counterOf};
 ghost use Rattle.mrd_format.specs.Content.{uidOf};
-ghost use Rattle.mrd_format.specs.Acquisition.{countersOf};
+ghost use Rattle.mrd_format.specs.Acquisition.{layout, counters, countersOf};
 use mrd_format::Kind;
 use mrd_numbers::read_u16;
 use mrd_numbers::read_u32;
@@ -20,6 +20,9 @@ const MEASUREMENT_UID: usize = 10;
 const IMAGE_MEASUREMENT_UID: usize = 12;
 
 const COUNTERS: usize = 242;
+
+// How many counters an acquisition's header has.
+pub const COUNTER_COUNT: usize = 17;
 
 // The scan counter; 0 where the kind has none.
 pub fn scan_counter(kind: Kind, h: &[u8]) -> u32
@@ -46,7 +49,7 @@ pub fn measurement_uid(kind: Kind, h: &[u8]) -> u32
 
 // Counter i of the seventeen in an acquisition's header.
 pub fn counter(h: &[u8], i: usize) -> u16
-    requires { ⌜ (length (now h) ≡ 340) × (i < 17) ⌝ }
+    requires { ⌜ (length (now h) ≡ fixedSize Kind.Acquisition) × (i < layout counters .count) ⌝ }
     ensures { λ r. ⌜ r ≡ getD (countersOf (now (h .entry))) i 0 ⌝ }
 {
     read_u16(h, COUNTERS + i * 2)

@@ -7,6 +7,7 @@ mod identity;
 mod message;
 mod waveform;
 
+pub use identity::COUNTER_COUNT;
 pub use identity::counter;
 pub use identity::measurement_uid;
 pub use identity::scan_counter;

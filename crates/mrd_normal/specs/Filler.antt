@@ -11,6 +11,7 @@ use Rattle.mrd_format.specs.declared.kind.Kind.{Kind}
 use Rattle.mrd_format.specs.declared.kind.Kind
 use Rattle.mrd_format.specs.declared.shape.Shape.{Shape}
 use Rattle.mrd_format.specs.declared.shape.Shape.the-variants.{ConfigurationName, ConfigurationText, HeaderText, Close, Text, Acquisition, Image, Waveform}
+use Rattle.mrd_format.specs.Kinds.{fixedSize}
 use Rattle.mrd_format.specs.Shapes.{kindOf, shapeNumbers}
 use Rattle.mrd_logic.specs.Checks.{first}
 use Rattle.mrd_format.specs.Message.{fixedPart, nameLength, ownChecks, bodySize, sizeOf, numbersOf}
@@ -24,7 +25,7 @@ use Rattle.mrd_stream.specs.ReaderMeaning.{recordMeaning}
 
 -- how many bytes of filler a message of this shape ends in
 abbrev pub fillerOf : Shape → ℕ
-fillerOf (ConfigurationName s) = 1024 - s .length
+fillerOf (ConfigurationName s) = fixedSize Kind.ConfigurationName - s .length
 fillerOf (ConfigurationText s) = 0
 fillerOf (HeaderText s) = 0
 fillerOf Close = 0

@@ -3,6 +3,7 @@ ghost use mathlib.Core.Path.{_≡_};
 ghost use mathlib.Core.List.{_++_};
 ghost use Prim.Native.Nat.{_-_};
 ghost use lib.ListN.{length, drop};
+ghost use Rattle.mrd_format.specs.Kinds.{fixedSize};
 ghost use Rattle.mrd_stream.specs.Normal.{normal};
 ghost use Rattle.mrd_normal.specs.Filler.{fillerOf};
 ghost use Rattle.mrd_normal.specs.Clearing.{Copied};
@@ -60,7 +61,7 @@ fn filler(shape: Shape) -> usize
 
 // What a name of this length leaves of its 1,024 bytes.
 fn name_filler(length: usize) -> usize
-    ensures { λ r. ⌜ r ≡ 1024 - length ⌝ }
+    ensures { λ r. ⌜ r ≡ fixedSize Kind.ConfigurationName - length ⌝ }
 {
     if length < Kind::NAME_FIXED {
         Kind::NAME_FIXED - length

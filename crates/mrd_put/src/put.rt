@@ -6,6 +6,7 @@ ghost use mathlib.Core.List.{_++_};
 ghost use lib.ListN.{length, replicate};
 ghost use Rattle.mrd_numbers.specs.Little.{toBytes};
 ghost use Rattle.mrd_numbers.specs.Stored.{front};
+ghost use Rattle.mrd_format.specs.Kinds.{fixedSize, headerSize};
 ghost use Rattle.mrd_format.specs.Parts.{contents};
 ghost use Rattle.mrd_format.specs.Content.{contentOf};
 ghost use Rattle.mrd_put.specs.Room.{Roomy};
@@ -47,8 +48,8 @@ pub fn put_content(
 
 // A name, filled up with zeros to its 1,024 bytes.
 fn put_name(name: &[u8], out: &mut [u8])
-    requires { ⌜ (length (now name) ≤ 1024) × (1024 ≤ length (now out)) ⌝ }
-    ensures { λ _. ⌜ now (out .exit) ≡ front (now (name .entry) ++ replicate (1024 - length (now (name .entry))) 0) (now (out .entry)) ⌝ }
+    requires { ⌜ (length (now name) ≤ fixedSize Kind.ConfigurationName) × (fixedSize Kind.ConfigurationName ≤ length (now out)) ⌝ }
+    ensures { λ _. ⌜ now (out .exit) ≡ front (now (name .entry) ++ replicate (fixedSize Kind.ConfigurationName - length (now (name .entry))) 0) (now (out .entry)) ⌝ }
 {
     let end = name.len();
     bytes::copy(name, &mut out[0..]);
@@ -57,7 +58,7 @@ fn put_name(name: &[u8], out: &mut [u8])
 
 // A text after its length.
 fn put_text(text: &[u8], out: &mut [u8])
-    requires { ⌜ (length (now text) < 2 ^ 32) × (4 + length (now text) ≤ length (now out)) ⌝ }
+    requires { ⌜ (length (now text) < 2 ^ 32) × (fixedSize Kind.Text + length (now text) ≤ length (now out)) ⌝ }
     ensures { λ _. ⌜ now (out .exit) ≡ front (toBytes 4 (length (now (text .entry))) ++ now (text .entry)) (now (out .entry)) ⌝ }
 {
     put_u32(&mut out[0..], text.len() as u32);
@@ -76,7 +77,7 @@ fn put_acquisition(header: &[u8], trajectory: &[u8], samples: &[u8], out: &mut [
 
 // An image's header with the attributes' length after it, its attributes and its pixels.
 fn put_image(header: &[u8], attributes: &[u8], pixels: &[u8], out: &mut [u8])
-    requires { ⌜ (length (now header) ≡ 198) × (206 + (length (now attributes) + length (now pixels)) ≤ length (now out)) ⌝ }
+    requires { ⌜ (length (now header) ≡ headerSize Kind.Image) × (fixedSize Kind.Image + (length (now attributes) + length (now pixels)) ≤ length (now out)) ⌝ }
     ensures { λ _. ⌜ now (out .exit) ≡ front
         ((now (header .entry) ++ toBytes 8 (length (now (attributes .entry)))) ++ (now (attributes .entry) ++ now (pixels .entry)))
         (now (out .entry)) ⌝ }

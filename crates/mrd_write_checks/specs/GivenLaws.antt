@@ -3,29 +3,28 @@
 use Prim.Native.Nat.{ℕ, _+_, _-_, _*_, _≤_, _<_}
 use native.Mathlib.Omega.{arith}
 use mathlib.Core.Path.{_≡_, refl, sym, ap, _∙_}
-use mathlib.Core.Bool.{Bool, true, false, not}
+use mathlib.Core.Bool.{true, false, not}
 use mathlib.Core.List.{List, [], _∷_, _++_}
 use lib.Dec.{ltb}
 use lib.ListN.{length}
 use borrow.Author.Tests.{lt-ltb, le-ltb, eq-eqb, ne-eqb}
-use Rattle.bytes.specs.Bytes.{indexOf}
 use Rattle.mrd_format.specs.declared.kind.Kind.{Kind}
-use Rattle.mrd_format.specs.declared.kind.Kind.the-variants.{ConfigurationName, ConfigurationText, HeaderText, Close, Text, Acquisition, Image, Waveform}
+use Rattle.mrd_format.specs.declared.kind.Kind.the-variants.{ConfigurationText, HeaderText, Close, Text, Acquisition, Image, Waveform}
 use Rattle.mrd_logic.specs.Answer.{answered, number}
 use Rattle.mrd_logic.specs.AnswerLaws.{answered-not-number}
 use Rattle.mrd_logic.specs.Checks.{Check, _when_, first, unless}
 use Rattle.mrd_logic.specs.CheckLaws.{numbered, numbered-append, first-next, unless-stops, unless-passed, unless-fault}
-use Rattle.mrd_format.specs.OwnCheckLaws as format
+use Rattle.mrd_format.specs.OwnCheckLaws.{own-numbered}
 use Rattle.mrd_format.specs.Acquisition as acquisition
 use Rattle.mrd_format.specs.Image as image
 use Rattle.mrd_format.specs.Waveform as waveform
-use Rattle.mrd_format.specs.Kinds.{headerSize}
+use Rattle.mrd_format.specs.Kinds.{formOf, headerSize}
+use Rattle.mrd_format.specs.Parts as part
 use Rattle.mrd_format.specs.Sizes.{capped}
-use Rattle.mrd_format.specs.Message as message
-use Rattle.mrd_format.specs.Message.{limit}
+use Rattle.mrd_format.specs.Message.{limit, ownChecks, bodySize, sizeOf}
 use Rattle.mrd_write_checks.specs.declared.lengths.Lengths.{Lengths}
-use Rattle.mrd_write_checks.specs.Sized.{sized, nameSized, textSized, sizedBy}
-use Rattle.mrd_write_checks.specs.WriteChecks.{nameUnfit, ownChecks, sizeOf, partLengths, dueLengths, sameLengths, sizedChecks, contentsChecks, judged}
+use Rattle.mrd_write_checks.specs.Sized.{sizedAnswer, textSized, sizedBy}
+use Rattle.mrd_write_checks.specs.WriteChecks.{counts, givenFixed, givenOwnChecks, givenSize, partLengths, dueLengths, sameLengths, sizedChecks, givenChecks, judged}
 
 -- where a number is answered, no check refused
 pub unless-answered : (f z : ℕ) {y : ℕ} → unless f number (answered z) ≡ answered y → (f ≡ 0) × (z ≡ y)
@@ -41,66 +40,42 @@ unless-number cs ds y z e =
     unless-stops cs ds number (answered z) refl (p .1) ∙ p .0
 
 -- no check has the number 0
-own-numbered : (k : Kind) (h name : List ℕ) (n : Lengths) → numbered (ownChecks k h name n) ≡ true
-unfolding ownChecks acquisition.checks image.checks waveform.checks
-own-numbered ConfigurationName h name n = refl
-own-numbered ConfigurationText h name n = refl
-own-numbered HeaderText h name n = refl
-own-numbered Close h name n = refl
-own-numbered Text h name n = refl
-own-numbered Acquisition h name n = refl
-own-numbered Image h name n = refl
-own-numbered Waveform h name n = refl
-
 sized-numbered : (k : Kind) (h name : List ℕ) (n : Lengths) → numbered (sizedChecks k h name n) ≡ true
-unfolding sizedChecks
-sized-numbered k h name n = numbered-append (ownChecks k h name n) _ (own-numbered k h name n) refl
+unfolding sizedChecks givenOwnChecks
+sized-numbered k h name n = numbered-append (ownChecks k (givenFixed k h name n)) _ (own-numbered k (givenFixed k h name n)) refl
 
-pub contents-numbered : (k : Kind) (h name : List ℕ) (n : Lengths) → numbered (contentsChecks k h name n) ≡ true
-unfolding contentsChecks
-contents-numbered k h name n = numbered-append (sizedChecks k h name n) _ (sized-numbered k h name n) refl
+pub given-numbered : (k : Kind) (h name : List ℕ) (n : Lengths) → numbered (givenChecks k h name n) ≡ true
+unfolding givenChecks
+given-numbered k h name n = numbered-append (sizedChecks k h name n) _ (sized-numbered k h name n) refl
 
 -- a header that has not its kind's length
 pub judged-header : (k : Kind) (h name : List ℕ) (n : Lengths) → (length h ≡ headerSize k → ⊥) → judged k h name n ≡ number 3
-unfolding judged contentsChecks
+unfolding judged givenChecks
 judged-header k h name n d = rw (ne-eqb _ _ d)
 
 -- and one that has: checks 4 to 10 decide, and then 18
 module _ (k : Kind) (h name : List ℕ) (n : Lengths) (e : length h ≡ headerSize k) where
-  pub judged-refused : {x : ℕ} → sized k h name n ≡ number x → judged k h name n ≡ number x
-  unfolding judged contentsChecks sized
-  judged-refused p = rw (eq-eqb _ _ e) (unless-number (sizedChecks k h name n) _ (sizeOf k h n) (sizeOf k h n) p)
+  pub judged-refused : {x : ℕ} → sizedAnswer k h name n ≡ number x → judged k h name n ≡ number x
+  unfolding judged givenChecks sizedAnswer
+  judged-refused p = rw (eq-eqb _ _ e) (unless-number (sizedChecks k h name n) _ (givenSize k h n) (givenSize k h n) p)
 
-  pub judged-sized : {z : ℕ} → sized k h name n ≡ answered z →
+  pub judged-sized : {z : ℕ} → sizedAnswer k h name n ≡ answered z →
       judged k h name n ≡ unless (first ((18 when not (sameLengths n (dueLengths k h n))) ∷ [])) number (answered z)
-  unfolding judged contentsChecks sized
+  unfolding judged givenChecks sizedAnswer
   judged-sized p =
-      let d = unless-answered (first (sizedChecks k h name n)) (sizeOf k h n) p in
+      let d = unless-answered (first (sizedChecks k h name n)) (givenSize k h n) p in
       rw (eq-eqb _ _ e, first-next (sizedChecks k h name n) _ (sized-numbered k h name n) (d .0), d .1)
 
-  pub judged-same : {z : ℕ} → sized k h name n ≡ answered z → sameLengths n (dueLengths k h n) ≡ true → judged k h name n ≡ answered z
+  pub judged-same : {z : ℕ} → sizedAnswer k h name n ≡ answered z → sameLengths n (dueLengths k h n) ≡ true → judged k h name n ≡ answered z
   judged-same p s = judged-sized p ∙ rw s
 
-  pub judged-differ : {z : ℕ} → sized k h name n ≡ answered z → sameLengths n (dueLengths k h n) ≡ false → judged k h name n ≡ number 18
+  pub judged-differ : {z : ℕ} → sizedAnswer k h name n ≡ answered z → sameLengths n (dueLengths k h n) ≡ false → judged k h name n ≡ number 18
   judged-differ p s = judged-sized p ∙ rw s
 
 -- the size answered is the message's
-pub sized-size : (k : Kind) (h name : List ℕ) (n : Lengths) {z : ℕ} → sized k h name n ≡ answered z → z ≡ sizeOf k h n
-unfolding sized
-sized-size k h name n e = sym (unless-answered (first (sizedChecks k h name n)) (sizeOf k h n) e .1)
-
--- a name that is too long, one that holds a zero, and one that is sound
-pub name-long : (name : List ℕ) → 1024 ≤ length name → nameSized name ≡ number 5
-unfolding nameSized nameUnfit
-name-long name l = rw (lt-ltb 1023 (length name) l)
-
-pub name-zero : (name : List ℕ) → length name < 1024 → indexOf 0 name < length name → nameSized name ≡ number 5
-unfolding nameSized nameUnfit
-name-zero name l z = let short : length name ≤ 1023 = omega arith in rw (le-ltb 1023 (length name) short, lt-ltb _ _ z)
-
-pub name-sound : (name : List ℕ) → length name < 1024 → length name ≤ indexOf 0 name → nameSized name ≡ answered 1026
-unfolding nameSized nameUnfit
-name-sound name l z = let short : length name ≤ 1023 = omega arith in rw (le-ltb 1023 (length name) short, le-ltb _ _ z)
+pub sized-size : (k : Kind) (h name : List ℕ) (n : Lengths) {z : ℕ} → sizedAnswer k h name n ≡ answered z → z ≡ givenSize k h n
+unfolding sizedAnswer
+sized-size k h name n e = sym (unless-answered (first (sizedChecks k h name n)) (givenSize k h n) e .1)
 
 -- a text over the limit, and one within it
 pub text-long : (z : ℕ) → 268435450 < z → textSized z ≡ number 10
@@ -113,76 +88,68 @@ text-sound z l = let within : 6 + z ≤ limit = omega arith in rw (le-ltb limit 
 
 -- a fixed part: one of checks 4 to 9 refuses, or check 10 decides
 module _ (k : Kind) (f : List ℕ) where
-  pub fixed-own : (x : ℕ) → first (message.ownChecks k f) ≡ x → (x ≡ 0 → ⊥) → sizedBy k f ≡ number x
+  pub fixed-own : (x : ℕ) → first (ownChecks k f) ≡ x → (x ≡ 0 → ⊥) → sizedBy k f ≡ number x
   unfolding sizedBy
-  fixed-own x e n = unless-stops (message.ownChecks k f) _ number (answered (message.sizeOf k f)) e n
+  fixed-own x e n = unless-stops (ownChecks k f) _ number (answered (sizeOf k f)) e n
 
-  module _ (own : first (message.ownChecks k f) ≡ 0) where
-    limited : sizedBy k f ≡ unless (first ((10 when ltb limit (message.sizeOf k f)) ∷ [])) number (answered (message.sizeOf k f))
+  module _ (own : first (ownChecks k f) ≡ 0) where
+    limited : sizedBy k f ≡ unless (first ((10 when ltb limit (sizeOf k f)) ∷ [])) number (answered (sizeOf k f))
     unfolding sizedBy
-    limited = rw (first-next (message.ownChecks k f) _ (format.own-numbered k f) own)
+    limited = rw (first-next (ownChecks k f) _ (own-numbered k f) own)
 
-    pub fixed-limit : (z : ℕ) → z ≡ capped (message.sizeOf k f) → limit < z → sizedBy k f ≡ number 10
-    fixed-limit z e h = let over : limit < message.sizeOf k f = omega arith in limited ∙ rw (lt-ltb _ _ over)
+    pub fixed-limit : (z : ℕ) → z ≡ capped (sizeOf k f) → limit < z → sizedBy k f ≡ number 10
+    fixed-limit z e h = let over : limit < sizeOf k f = omega arith in limited ∙ rw (lt-ltb _ _ over)
 
-    pub fixed-whole : (z : ℕ) → z ≡ capped (message.sizeOf k f) → z ≤ limit → sizedBy k f ≡ answered z
-    fixed-whole z e h = let same : message.sizeOf k f ≡ z = omega arith in limited ∙ rw (same, le-ltb _ _ h)
+    pub fixed-whole : (z : ℕ) → z ≡ capped (sizeOf k f) → z ≤ limit → sizedBy k f ≡ answered z
+    fixed-whole z e h = let same : sizeOf k f ≡ z = omega arith in limited ∙ rw (same, le-ltb _ _ h)
 
--- what the kinds share: a message that goes by its name, by its text, by nothing, and by a fixed part with the same checks and size
-pub sized-name : (h name : List ℕ) (n : Lengths) → sized ConfigurationName h name n ≡ nameSized name
-unfolding sized sizedChecks ownChecks sizeOf dueLengths nameSized
-sized-name h name n = ap (λ (f : ℕ). unless f number (answered 1026)) (by-test (nameUnfit name))
-  where
-    by-test : (b : Bool) → first ((5 when b) ∷ (10 when ltb limit 1026) ∷ []) ≡ first ((5 when b) ∷ [])
-    by-test true = refl
-    by-test false = refl
-
+-- what the kinds share: a message that goes by its text, by nothing, and by its fixed part, which has no name
 pub sized-text : (h name : List ℕ) (n : Lengths) →
-    (sized ConfigurationText h name n ≡ textSized (n .text)) ×
-    ((sized HeaderText h name n ≡ textSized (n .text)) × ((sized Text h name n ≡ textSized (n .text)) × Unit {0}))
-unfolding sized sizedChecks ownChecks textSized sizeOf dueLengths
+    (sizedAnswer ConfigurationText h name n ≡ textSized (n .text)) ×
+    ((sizedAnswer HeaderText h name n ≡ textSized (n .text)) × ((sizedAnswer Text h name n ≡ textSized (n .text)) × Unit {0}))
+unfolding sizedAnswer sizedChecks givenOwnChecks ownChecks textSized givenSize dueLengths
 sized-text h name n =
     let size : 6 + (n .text + 0) ≡ 6 + n .text = omega arith in
     let same = ap (λ (z : ℕ). unless (first ((10 when ltb limit z) ∷ [])) number (answered z)) size in
     (same, (same, (same, tt)))
 
-pub sized-close : (h name : List ℕ) (n : Lengths) → sized Close h name n ≡ answered 2
-unfolding sized sizedChecks ownChecks sizeOf dueLengths
+pub sized-close : (h name : List ℕ) (n : Lengths) → sizedAnswer Close h name n ≡ answered 2
+unfolding sizedAnswer sizedChecks givenOwnChecks ownChecks givenSize dueLengths
 sized-close h name n = refl
 
-pub sized-headed : (k : Kind) (h name : List ℕ) (n : Lengths) (f : List ℕ) → ownChecks k h name n ≡ message.ownChecks k f →
-    sizeOf k h n ≡ message.sizeOf k f → sized k h name n ≡ sizedBy k f
-unfolding sized sizedChecks sizedBy
-sized-headed k h name n f own size = rw (own, size)
+pub sized-fixed : (k : Kind) (h name : List ℕ) (n : Lengths) → counts part.name (formOf k .fixedSegments) ≡ false →
+    givenSize k h n ≡ sizeOf k (givenFixed k h name n) → sizedAnswer k h name n ≡ sizedBy k (givenFixed k h name n)
+unfolding sizedAnswer sizedChecks givenOwnChecks sizedBy
+sized-fixed k h name n nameless size = rw (nameless, size)
 
 pub sized-header : (h name : List ℕ) (n : Lengths) →
-    (sized Acquisition h name n ≡ sizedBy Acquisition h) × ((sized Waveform h name n ≡ sizedBy Waveform h) × Unit {0})
-unfolding ownChecks message.ownChecks sizeOf dueLengths message.sizeOf message.bodySize
+    (sizedAnswer Acquisition h name n ≡ sizedBy Acquisition h) × ((sizedAnswer Waveform h name n ≡ sizedBy Waveform h) × Unit {0})
+unfolding givenFixed givenSize dueLengths sizeOf bodySize
 sized-header h name n =
-    (sized-headed Acquisition h name n h refl (omega arith), (sized-headed Waveform h name n h refl (omega arith), tt))
+    (sized-fixed Acquisition h name n refl (omega arith), (sized-fixed Waveform h name n refl (omega arith), tt))
 
 -- the lengths that are due, by the size z of the message
-module _ (k : Kind) (h : List ℕ) (n : Lengths) {z : ℕ} (whole : z ≡ sizeOf k h n) where
+module _ (k : Kind) (h : List ℕ) (n : Lengths) {z : ℕ} (whole : z ≡ givenSize k h n) where
   pub due-acquisition : k ≡ Acquisition → (342 + acquisition.trajectorySize h ≤ z) ×
       (partLengths 0 0 (acquisition.trajectorySize h) (z - 342 - acquisition.trajectorySize h) 0 0 0 ≡ dueLengths k h n)
-  unfolding sizeOf dueLengths
+  unfolding givenSize dueLengths
   due-acquisition e =
       let t = acquisition.trajectorySize h in
       let c = acquisition.get acquisition.active-channels h * acquisition.channelSize h in
-      let size : z ≡ sizeOf Acquisition h n = rw e at whole in
+      let size : z ≡ givenSize Acquisition h n = rw e at whole in
       let rest : z - 342 - t ≡ c = omega arith in
       (omega arith, rw e (ap (λ (s : ℕ). partLengths 0 0 t s 0 0 0) rest))
 
   pub due-image : k ≡ Image → (208 + n .attributes ≤ z) × (partLengths 0 0 0 0 (n .attributes) (z - 208 - n .attributes) 0 ≡ dueLengths k h n)
-  unfolding sizeOf dueLengths
+  unfolding givenSize dueLengths
   due-image e =
-      let size : z ≡ sizeOf Image h n = rw e at whole in
+      let size : z ≡ givenSize Image h n = rw e at whole in
       let rest : z - 208 - n .attributes ≡ image.pixelsSize h = omega arith in
       (omega arith, rw e (ap (λ (s : ℕ). partLengths 0 0 0 0 (n .attributes) s 0) rest))
 
   pub due-waveform : k ≡ Waveform → (34 ≤ z) × (partLengths 0 0 0 0 0 0 (z - 34) ≡ dueLengths k h n)
-  unfolding sizeOf dueLengths
+  unfolding givenSize dueLengths
   due-waveform e =
-      let size : z ≡ sizeOf Waveform h n = rw e at whole in
+      let size : z ≡ givenSize Waveform h n = rw e at whole in
       let rest : z - 34 ≡ waveform.bodySize h = omega arith in
       (omega arith, rw e (ap (λ (s : ℕ). partLengths 0 0 0 0 0 0 s) rest))

@@ -12,12 +12,12 @@ use Rattle.mrd_numbers.specs.Laws.{num-append}
 use Rattle.mrd_numbers.specs.HalfLaws.{read-after-write}
 use Rattle.mrd_format.specs.declared.kind.Kind.the-variants.{Image}
 use Rattle.mrd_format.specs.Elements.{width}
-use Rattle.mrd_format.specs.Message as message
+use Rattle.mrd_format.specs.Message.{bodySize, sizeOf}
 use Rattle.mrd_format.specs.Image as image
 use Rattle.mrd_write_checks.specs.declared.lengths.Lengths.{Lengths}
-use Rattle.mrd_write_checks.specs.WriteChecks.{ownChecks, sizeOf, dueLengths}
-use Rattle.mrd_write_checks.specs.Sized.{sized, sizedBy}
-use Rattle.mrd_write_checks.specs.GivenLaws.{sized-headed}
+use Rattle.mrd_write_checks.specs.WriteChecks.{givenFixed, givenSize, dueLengths}
+use Rattle.mrd_write_checks.specs.Sized.{sizedAnswer, sizedBy}
+use Rattle.mrd_write_checks.specs.GivenLaws.{sized-fixed}
 
 module _ (h : List ℕ) (a : ℕ) (e : length h ≡ 198) (fits : a < 256 ^ 8) where
   -- a field of the header, and the length after it
@@ -39,16 +39,15 @@ module _ (h : List ℕ) (a : ℕ) (e : length h ≡ 198) (fits : a < 256 ^ 8) wh
     field image.data-type 0 (omega arith),
   )
 
-  pub image-size : (n : Lengths) → n .attributes ≡ a → sizeOf Image h n ≡ message.sizeOf Image (h ++ toBytes 8 a)
-  unfolding sizeOf dueLengths message.sizeOf message.bodySize
+  pub image-size : (n : Lengths) → n .attributes ≡ a → givenSize Image h n ≡ sizeOf Image (h ++ toBytes 8 a)
+  unfolding givenSize dueLengths sizeOf bodySize
   image-size n q = rw (attribute-length, pixels-size, q) (omega arith)
 
 -- so checks 4 to 10 of an image are those of its fixed part
 pub image-sized : (h name : List ℕ) (n : Lengths) → length h ≡ 198 → n .attributes < 256 ^ 8 →
-    sized Image h name n ≡ sizedBy Image (h ++ toBytes 8 (n .attributes))
-unfolding ownChecks message.ownChecks
-image-sized h name n e fits =
-    sized-headed Image h name n _ refl (image-size h (n .attributes) e fits n refl)
+    sizedAnswer Image h name n ≡ sizedBy Image (h ++ toBytes 8 (n .attributes))
+unfolding givenFixed
+image-sized h name n e fits = sized-fixed Image h name n refl (image-size h (n .attributes) e fits n refl)
 
 -- the fixed part made of a header and eight bytes: x is the part after the copy, y the last eight bytes as they came back
 pub fixed-made : (h zeros x y : List ℕ) (a : ℕ) → length h ≡ 198 → length x ≡ 206 → x ≡ take (length h) h ++ drop (length h) zeros →

@@ -2,26 +2,22 @@
 -- kind, the given header, the given name and the given parts' lengths.
 -- Assumes nothing.
 use Prim.Native.Nat.{ℕ, _+_}
-use mathlib.Core.Bool.{Bool, false, not, _||_}
+use mathlib.Core.Bool.{Bool, false, not, _||_, _&&_}
 use mathlib.Core.List.{List, [], _∷_, _++_}
 use lib.Dec.{eqb, ltb}
 use lib.ListN.{length}
 use Rattle.bytes.specs.Bytes.{indexOf}
-use Rattle.mrd_numbers.specs.Little.{toBytes}
 use Rattle.mrd_format.specs.declared.kind.Kind.{Kind}
-use Rattle.mrd_format.specs.declared.kind.Kind.the-variants.{ConfigurationName, ConfigurationText, HeaderText, Close, Text, Acquisition, Image, Waveform}
 use Rattle.mrd_format.specs.Kinds.{formOf, fixedSize, headerSize}
 use Rattle.mrd_format.specs.Parts as part
-use Rattle.mrd_format.specs.Parts.{Part, same, partIn, Contents}
+use Rattle.mrd_format.specs.Parts.{Part, same, byPart, Contents, partLength, contents}
 use Rattle.mrd_format.specs.Segments.{Segment, fixed, counted, padded, sized, channels, reachSize, reachFrom}
 use Rattle.mrd_logic.specs.Choice.{pick}
 use Rattle.mrd_logic.specs.Lists.{equal}
 use Rattle.mrd_logic.specs.Checks.{Check, _when_, first, unless}
 use Rattle.mrd_logic.specs.Answer.{Answer, answered, number}
-use Rattle.mrd_format.specs.Message.{limit}
-use Rattle.mrd_format.specs.Acquisition as acquisition
-use Rattle.mrd_format.specs.Image as image
-use Rattle.mrd_format.specs.Waveform as waveform
+use Rattle.mrd_format.specs.Message.{limit, ownChecks}
+use Rattle.mrd_format.specs.Content.{fixedBy}
 use Rattle.mrd_write_checks.specs.declared.lengths.Lengths.{Lengths}
 use Rattle.mrd_write_checks.specs.declared.contents.ContentsJudged.{ContentsJudged}
 use Rattle.mrd_write_checks.specs.declared.contents.ContentsJudged
@@ -29,18 +25,6 @@ use Rattle.mrd_write_checks.specs.declared.contents.ContentsJudged
 -- 'writer: name over 1,023 bytes or holding a zero'
 unfoldable pub nameUnfit : List ℕ → Bool
 nameUnfit name = ltb 1023 (length name) || ltb (indexOf 0 name) (length name)
-
--- checks 4 to 9 'in number order where they apply', of the given header h, name and lengths n: those of the fixed part that is made of them, and
--- of a name its own
-unfoldable pub ownChecks : Kind → (h name : List ℕ) → Lengths → List Check
-ownChecks ConfigurationName h name n = (5 when nameUnfit name) ∷ []
-ownChecks ConfigurationText h name n = []
-ownChecks HeaderText h name n = []
-ownChecks Close h name n = []
-ownChecks Text h name n = []
-ownChecks Acquisition h name n = acquisition.checks h
-ownChecks Image h name n = image.checks (h ++ toBytes 8 (n .attributes))
-ownChecks Waveform h name n = waveform.checks h
 
 abbrev pub partLengths : (name text trajectory samples attributes pixels waveform : ℕ) → Lengths
 partLengths n t j s a p w =
@@ -57,7 +41,11 @@ lengthList n = n .name ∷ n .text ∷ n .trajectory ∷ n .samples ∷ n .attri
 
 -- the lengths of the seven given parts
 abbrev pub lengthsOf : Contents → Lengths
-lengthsOf c = lengthsBy (λ (p : Part). length (partIn (c .parts) p))
+lengthsOf c = lengthsBy (partLength c)
+
+-- one of the lengths, by its part's name
+abbrev pub lengthIn : Lengths → Part → ℕ
+lengthIn n p = byPart 0 (n .name) (n .text) (n .trajectory) (n .samples) (n .attributes) (n .pixels) (n .waveform) p
 
 -- whether the writer takes a part's length from the given bytes: 'it works out a text's length and an image's 8-byte length', and a name's
 abbrev pub counts : Part → List Segment → Bool
@@ -74,18 +62,24 @@ dueLength k h p n = pick (counts p (formOf k .fixedSegments)) n (reachSize (reac
 
 -- the lengths that all parts must have
 unfoldable pub dueLengths : Kind → List ℕ → Lengths → Lengths
-dueLengths k h n =
-    partLengths (dueLength k h part.name (n .name)) (dueLength k h part.text (n .text)) (dueLength k h part.trajectory (n .trajectory))
-    (dueLength k h part.samples (n .samples)) (dueLength k h part.attributes (n .attributes)) (dueLength k h part.pixels (n .pixels))
-    (dueLength k h part.waveform (n .waveform))
+dueLengths k h n = lengthsBy (λ (p : Part). dueLength k h p (lengthIn n p))
+
+-- the fixed part that is made of the given header h and name, and of parts with the given lengths n, whose bytes are not asked for
+unfoldable pub givenFixed : Kind → (h name : List ℕ) → Lengths → List ℕ
+givenFixed k h name n = fixedBy k (lengthIn n) (contents h name [] [] [] [] [] [])
+
+-- checks 4 to 9 'in number order where they apply': those of that fixed part, and beside them the writer's own of a name
+unfoldable pub givenOwnChecks : Kind → (h name : List ℕ) → Lengths → List Check
+givenOwnChecks k h name n =
+    (5 when (counts part.name (formOf k .fixedSegments) && nameUnfit name)) ∷ ownChecks k (givenFixed k h name n)
 
 -- the parts after a fixed part, together
 abbrev pub bodyLength : Lengths → ℕ
 bodyLength n = n .text + (n .trajectory + (n .samples + (n .attributes + (n .pixels + n .waveform))))
 
 -- the 'whole message, id included', 'by the header's numbers and the lent text's or attributes' length'
-unfoldable pub sizeOf : Kind → List ℕ → Lengths → ℕ
-sizeOf k h n = 2 + fixedSize k + bodyLength (dueLengths k h n)
+unfoldable pub givenSize : Kind → List ℕ → Lengths → ℕ
+givenSize k h n = 2 + fixedSize k + bodyLength (dueLengths k h n)
 
 -- whether each part has the length that it must have
 unfoldable pub sameLengths : Lengths → Lengths → Bool
@@ -93,11 +87,11 @@ sameLengths m n = equal (lengthList m) (lengthList n)
 
 -- checks 4 to 10 of what is given with a header of its kind's length
 unfoldable pub sizedChecks : Kind → (h name : List ℕ) → Lengths → List Check
-sizedChecks k h name n = ownChecks k h name n ++ ((10 when ltb limit (sizeOf k h n)) ∷ [])
+sizedChecks k h name n = givenOwnChecks k h name n ++ ((10 when ltb limit (givenSize k h n)) ∷ [])
 
 -- every check of what is given for a message of kind k: 3, 'header bytes not as long as the kind's fixed header', 4 to 10, then 18
-unfoldable pub contentsChecks : Kind → (h name : List ℕ) → Lengths → List Check
-contentsChecks k h name n =
+unfoldable pub givenChecks : Kind → (h name : List ℕ) → Lengths → List Check
+givenChecks k h name n =
     (3 when not (eqb (length h) (headerSize k))) ∷
     sizedChecks k h name n ++ ((18 when not (sameLengths n (dueLengths k h n))) ∷ [])
 
@@ -108,4 +102,4 @@ judgedMeaning (ContentsJudged.Refused n) = number n
 
 -- what is given, judged: the size of its message, or the first refusal
 unfoldable pub judged : Kind → (h name : List ℕ) → Lengths → Answer ℕ
-judged k h name n = unless (first (contentsChecks k h name n)) number (answered (sizeOf k h n))
+judged k h name n = unless (first (givenChecks k h name n)) number (answered (givenSize k h n))

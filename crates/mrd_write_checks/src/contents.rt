@@ -5,8 +5,8 @@ ghost use mathlib.Core.List.{_++_};
 ghost use lib.ListN.{length};
 ghost use Rattle.mrd_numbers.specs.Little.{toBytes};
 ghost use Rattle.mrd_format.specs.Kinds.{fixedSize, headerSize};
-ghost use Rattle.mrd_write_checks.specs.WriteChecks.{judgedMeaning, sizeOf, dueLengths, sameLengths, judged};
-ghost use Rattle.mrd_write_checks.specs.Sized.{sized, sizedBy, nameSized, textSized};
+ghost use Rattle.mrd_write_checks.specs.WriteChecks.{judgedMeaning, givenSize, dueLengths, sameLengths, judged};
+ghost use Rattle.mrd_write_checks.specs.Sized.{sizedAnswer, sizedBy, nameSized, textSized};
 use crate::lengths::Lengths;
 use mrd_acquisition::trajectory_size;
 use mrd_format::Kind;
@@ -46,7 +46,7 @@ pub fn judge(kind: Kind, header: &[u8], name: &[u8], given: Lengths) -> Contents
 // the compiler goes on from it to the kind's arm of as_due.
 fn checked_size(kind: Kind, header: &[u8], name: &[u8], given: Lengths) -> ContentsJudged
     requires { ⌜ length (now header) ≡ headerSize kind ⌝ }
-    ensures { λ r. ⌜ judgedMeaning r ≡ sized kind (now (header .entry)) (now (name .entry)) given ⌝ }
+    ensures { λ r. ⌜ judgedMeaning r ≡ sizedAnswer kind (now (header .entry)) (now (name .entry)) given ⌝ }
 {
     match kind {
         Kind::ConfigurationName => checked_name(name),
@@ -101,11 +101,11 @@ fn checked_fixed(kind: Kind, h: &[u8]) -> ContentsJudged
 }
 
 // An image's fixed part: the header, and the attributes' length after it.
-fn image_fixed(header: &[u8], attributes: usize) -> [u8; 206]
-    requires { ⌜ length (now header) ≡ 198 ⌝ }
+fn image_fixed(header: &[u8], attributes: usize) -> [u8; Kind::IMAGE_FIXED]
+    requires { ⌜ length (now header) ≡ headerSize Kind.Image ⌝ }
     ensures { λ r. ⌜ r ≡ now (header .entry) ++ toBytes 8 attributes ⌝ }
 {
-    let mut fixed = [0u8; 206];
+    let mut fixed = [0u8; Kind::IMAGE_FIXED];
     bytes::copy(header, &mut fixed);
     put_u64(&mut fixed[Kind::IMAGE_HEADER..], attributes as u64);
     fixed
@@ -115,7 +115,7 @@ fn image_fixed(header: &[u8], attributes: usize) -> [u8; 206]
 // and none for a part that the kind lacks. Each kind compares for itself: seven lengths kept for one
 // comparison after all arms would fill the registers.
 fn as_due(kind: Kind, header: &[u8], size: usize, given: Lengths) -> bool
-    requires { ⌜ (length (now header) ≡ headerSize kind) × (size ≡ sizeOf kind (now header) given) ⌝ }
+    requires { ⌜ (length (now header) ≡ headerSize kind) × (size ≡ givenSize kind (now header) given) ⌝ }
     ensures { λ r. ⌜ r ≡ sameLengths given (dueLengths kind (now (header .entry)) given) ⌝ }
 {
     let mut due = Lengths::none();

@@ -7,6 +7,15 @@ use mrd_format::Kind;
 use mrd_stream::Checked;
 use mrd_writer::WriteAnswer;
 
+// Where elements of an acquisition's header start.
+const VERSION: usize = 0;
+
+const NUMBER_OF_SAMPLES: usize = 34;
+
+const AVAILABLE_CHANNELS: usize = 36;
+
+const ACTIVE_CHANNELS: usize = 38;
+
 fn main() {
     let mut out = [0u8; 2048];
     let named = put_name(&mut out, 0);
@@ -74,11 +83,11 @@ fn put_header(out: &mut [u8], position: usize) -> usize {
 // An acquisition of four samples in one of two channels, with no trajectory. Its samples, 8 bytes each, are words
 // here, so that they can be read where they are shown.
 fn put_readout(out: &mut [u8], position: usize) -> usize {
-    let mut header = [0u8; 340];
-    header[0] = 1;
-    header[34] = 4;
-    header[36] = 2;
-    header[38] = 1;
+    let mut header = [0u8; Kind::ACQUISITION_FIXED];
+    header[VERSION] = 1;
+    header[NUMBER_OF_SAMPLES] = 4;
+    header[AVAILABLE_CHANNELS] = 2;
+    header[ACTIVE_CHANNELS] = 1;
     let samples = b"sample 0sample 1sample 2sample 3";
     let id = Kind::ACQUISITION;
     let written = mrd_writer::write(

@@ -13,22 +13,23 @@ use lib.Seq.{take-take, take-all}
 use Rattle.bytes.specs.Bytes.{indexOf, indexAfter}
 use Rattle.mrd_numbers.specs.Little.{toBytes, Bytes}
 use Rattle.mrd_numbers.specs.ByteLaws.{bytes-take, bytes-drop, write-num}
-use Rattle.mrd_logic.specs.Checks.{first}
+use Rattle.mrd_logic.specs.Every.{Every}
+use Rattle.mrd_logic.specs.Checks.{first, Passed}
 use Rattle.mrd_logic.specs.CheckLaws.{first-passed}
 use Rattle.mrd_format.specs.OwnCheckLaws.{own-numbered}
 use Rattle.mrd_format.specs.declared.kind.Kind.{Kind}
 use Rattle.mrd_format.specs.declared.kind.Kind.the-variants.{ConfigurationName, ConfigurationText, HeaderText, Close, Text, Acquisition, Image, Waveform}
 use Rattle.mrd_format.specs.Segments.{nameLength}
 use Rattle.mrd_format.specs.Texts.{textLength}
-use Rattle.mrd_format.specs.Message as message
-use Rattle.mrd_format.specs.Message.{limit, fixedPart, WellFormed}
+use Rattle.mrd_format.specs.Message.{limit, fixedPart, ownChecks, bodySize, sizeOf, WellFormed}
 use Rattle.mrd_format.specs.Content.{extentOf, contentsOf, normalOf, messageOf}
 use Rattle.mrd_format.specs.NormalLaws.{nameBytes, name-short}
 use Rattle.mrd_format.specs.Rewritten.{part-length, rewritten-normal}
 use Rattle.mrd_format.specs.Acquisition as acquisition
 use Rattle.mrd_format.specs.Image as image
 use Rattle.mrd_format.specs.Waveform as waveform
-use Rattle.mrd_write_checks.specs.WriteChecks.{nameUnfit, ownChecks, sizeOf, partLengths, dueLengths}
+use Rattle.mrd_write_checks.specs.WriteChecks.{nameUnfit, givenFixed, givenOwnChecks, givenSize, partLengths, lengthsOf, dueLengths}
+use Rattle.mrd_write_checks.specs.NameLaws.{name-passes}
 use Rattle.mrd_write_checks.specs.ImageLaws.{pixels-size}
 use Rattle.mrd_writer.specs.Sound.{Sound}
 
@@ -88,19 +89,25 @@ module _ (m : List ℕ) (bytes : Bytes m) (a p : ℕ) (whole : 208 + (a + p) ≡
       part-length m (208 + a) p (omega arith) ∙ pixels ∙ ap image.pixelsSize (sym image-fixed) ∙
       pixels-size header (length attributes) header-long attributes-fit
 
+-- a fixed part with no fault passes each of its checks
+passes : (k : Kind) (f : List ℕ) → first (ownChecks k f) ≡ 0 → Every Passed (ownChecks k f)
+passes k f = first-passed (ownChecks k f) (own-numbered k f)
+
 -- what every well-formed message is made of passes every check
-own-sound : (k : Kind) (m : List ℕ) → Bytes m → first (message.ownChecks k (fixedPart k m)) ≡ 0 → message.sizeOf k (fixedPart k m) ≤ limit →
-    message.sizeOf k (fixedPart k m) ≡ length m → Sound k (contentsOf k m)
-unfolding contentsOf extentOf fixedPart ownChecks sizeOf dueLengths message.sizeOf message.bodySize message.ownChecks
+own-sound : (k : Kind) (m : List ℕ) → Bytes m → first (ownChecks k (fixedPart k m)) ≡ 0 → sizeOf k (fixedPart k m) ≤ limit →
+    sizeOf k (fixedPart k m) ≡ length m → Sound k (contentsOf k m)
+unfolding contentsOf extentOf fixedPart givenFixed givenOwnChecks givenSize dueLengths ownChecks sizeOf bodySize
 own-sound ConfigurationName m bytes sound small whole =
-    record { header = refl; own = (name-fit m (sym whole) (name-short m sound), tt); small = omega arith; lengths = refl }
+    let fit = name-fit m (sym whole) (name-short m sound) in
+    let fixed = name-passes [] _ (lengthsOf (contentsOf ConfigurationName m)) fit in
+    record { header = refl; own = (fit, passes ConfigurationName _ fixed); small = omega arith; lengths = refl }
 own-sound ConfigurationText m bytes sound small whole =
-    record { header = refl; own = tt; small = omega (arith, part-length m 6 (textLength (take 4 (drop 2 m))) (le-of-eq whole)); lengths = refl }
+    record { header = refl; own = (refl, tt); small = omega (arith, part-length m 6 (textLength (take 4 (drop 2 m))) (le-of-eq whole)); lengths = refl }
 own-sound HeaderText m bytes sound small whole =
-    record { header = refl; own = tt; small = omega (arith, part-length m 6 (textLength (take 4 (drop 2 m))) (le-of-eq whole)); lengths = refl }
-own-sound Close m bytes sound small whole = record { header = refl; own = tt; small = small; lengths = refl }
+    record { header = refl; own = (refl, tt); small = omega (arith, part-length m 6 (textLength (take 4 (drop 2 m))) (le-of-eq whole)); lengths = refl }
+own-sound Close m bytes sound small whole = record { header = refl; own = (refl, tt); small = small; lengths = refl }
 own-sound Text m bytes sound small whole =
-    record { header = refl; own = tt; small = omega (arith, part-length m 6 (textLength (take 4 (drop 2 m))) (le-of-eq whole)); lengths = refl }
+    record { header = refl; own = (refl, tt); small = omega (arith, part-length m 6 (textLength (take 4 (drop 2 m))) (le-of-eq whole)); lengths = refl }
 own-sound Acquisition m bytes sound small whole =
     let f = take 340 (drop 2 m) in
     let t = acquisition.trajectorySize f in
@@ -109,7 +116,7 @@ own-sound Acquisition m bytes sound small whole =
     let samples = part-length m (342 + t) z (omega (arith, whole)) in
     record {
       header = part-length m 2 340 (omega (arith, whole));
-      own = first-passed (acquisition.checks f) (own-numbered Acquisition f) sound;
+      own = (refl, passes Acquisition f sound);
       small = omega (arith, small);
       lengths = ap₂ (λ (j s : ℕ). partLengths 0 0 j s 0 0 0) trajectory samples;
     }
@@ -121,7 +128,7 @@ own-sound Image m bytes sound small whole =
     let fixed = image-fixed m bytes a p whole refl refl within in
     record {
       header = header-long m bytes a p whole refl refl within;
-      own = rw fixed (first-passed (image.checks f) (own-numbered Image f) sound);
+      own = (refl, rw fixed (passes Image f sound));
       small = omega (arith, whole, small, attributes-long m bytes a p whole refl refl within, pixels-due m bytes a p whole refl refl within, part-length m (208 + a) p (omega (arith, whole)));
       lengths = ap (λ (n : ℕ). partLengths 0 0 0 0 (length (take a (drop 208 m))) n 0) (pixels-due m bytes a p whole refl refl within);
     }
@@ -129,7 +136,7 @@ own-sound Waveform m bytes sound small whole =
     let f = take 32 (drop 2 m) in
     record {
       header = part-length m 2 32 (omega (arith, whole));
-      own = first-passed (waveform.checks f) (own-numbered Waveform f) sound;
+      own = (refl, passes Waveform f sound);
       small = omega (arith, small);
       lengths = ap (λ (n : ℕ). partLengths 0 0 0 0 0 0 n) (part-length m 34 (waveform.bodySize f) (le-of-eq whole));
     }

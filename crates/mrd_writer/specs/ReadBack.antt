@@ -29,8 +29,8 @@ use Rattle.mrd_cursor.specs.Cursors.{maxMessages, after}
 use Rattle.mrd_stream.specs.Walk.{message, walk, from}
 use Rattle.mrd_cut.specs.Walked.{walk-well}
 use Rattle.mrd_write_checks.specs.WriteChecks.{lengthsOf}
-use Rattle.mrd_write_checks.specs.GivenLaws.{unless-answered, contents-numbered}
-use Rattle.mrd_writer.specs.Write.{sizeGiven, givenChecks, writeChecks, answerAs, outputAs, writeAnswer, writeOutput}
+use Rattle.mrd_write_checks.specs.GivenLaws.{unless-answered, given-numbered}
+use Rattle.mrd_writer.specs.Write.{contentsSize, contentsChecks, writeChecks, answerAs, outputAs, writeAnswer, writeOutput}
 use Rattle.mrd_writer.specs.Sound.{Sound, passed-sound}
 use Rattle.mrd_writer.specs.Written.{sound-fitting, message-length, written-well}
 
@@ -55,13 +55,13 @@ pub record ReadsBack (id : ℕ) (c : Contents) (at : ℕ) (o : List ℕ) (p : �
 
 -- an answer that is no refusal: every check passed
 answered-sound : (k : Kind) (c : Contents) (at : ℕ) (o : List ℕ) {p : ℕ} → answerAs (Known k) c at o ≡ answered p →
-    Sound k c × (at + sizeGiven k c ≡ p) × (at + sizeGiven k c ≤ length o)
+    Sound k c × (at + contentsSize k c ≡ p) × (at + contentsSize k c ≤ length o)
 unfolding answerAs writeChecks
 answered-sound k c at o e =
-    let own = givenChecks k c in
-    let room = (14 when ltb (length o) (at + sizeGiven k c)) ∷ [] in
-    let d = unless-answered (first (own ++ room)) (at + sizeGiven k c) e in
-    let numbers = numbered-append own room (contents-numbered k (c .header) (c .parts .name) (lengthsOf c)) refl in
+    let own = contentsChecks k c in
+    let room = (14 when ltb (length o) (at + contentsSize k c)) ∷ [] in
+    let d = unless-answered (first (own ++ room)) (at + contentsSize k c) e in
+    let numbers = numbered-append own room (given-numbered k (c .header) (c .parts .name) (lengthsOf c)) refl in
     let all = every-split Passed own room (first-passed (own ++ room) numbers (d .0)) in
     (passed-sound k c (passed-first own (all .0)), d .1, ltb-false _ _ (all .1 .0))
 
@@ -81,7 +81,7 @@ written-reads-back id c at o p e = by-id (identified id) refl e
     by-id Unknown n e = absurd (answered-not-number (sym e))
     by-id (Known k) n e =
         let s = answered-sound k c at o e in
-        let long : length (messageOf k c) ≡ sizeGiven k c = message-length k c (s .0) in
+        let long : length (messageOf k c) ≡ contentsSize k c = message-length k c (s .0) in
         let left : writeOutput id c at o ≡ stored at (messageOf k c) o = rw (n, e) in
         let well : WellFormed (messageOf k c) = written-well k c (s .0) in
         record {

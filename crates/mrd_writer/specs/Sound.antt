@@ -6,30 +6,26 @@ use mathlib.Core.Path.{_≡_, ap}
 use mathlib.Core.Bool.{true}
 use mathlib.Core.List.{List}
 use lib.ListN.{length, getD}
-use lib.Dec.{ltb}
 use borrow.Author.Tests.{eqb-true, ltb-false, not-false}
-use Rattle.bytes.specs.Bytes.{indexOf}
 use Rattle.mrd_logic.specs.Every.{Every, every-split}
-use Rattle.mrd_logic.specs.Choice.{neither}
 use Rattle.mrd_logic.specs.ListLaws.{equal-same}
 use Rattle.mrd_logic.specs.Answer.{answered}
 use Rattle.mrd_logic.specs.Checks.{first, Passed}
 use Rattle.mrd_logic.specs.CheckLaws.{first-passed}
 use Rattle.mrd_format.specs.declared.kind.Kind.{Kind}
-use Rattle.mrd_format.specs.declared.kind.Kind.the-variants.{ConfigurationName}
 use Rattle.mrd_format.specs.Kinds.{headerSize}
 use Rattle.mrd_format.specs.Message.{limit}
 use Rattle.mrd_format.specs.Parts.{Contents}
 use Rattle.mrd_write_checks.specs.declared.lengths.Lengths.{Lengths}
-use Rattle.mrd_write_checks.specs.WriteChecks.{nameUnfit, ownChecks, bodyLength, sizeOf, partLengths, lengthList, lengthsOf, dueLengths, sameLengths, sizedChecks, contentsChecks, judged}
-use Rattle.mrd_write_checks.specs.GivenLaws.{unless-answered, contents-numbered}
-use Rattle.mrd_writer.specs.Write.{judgedContents, sizeGiven, givenChecks}
+use Rattle.mrd_write_checks.specs.WriteChecks.{givenOwnChecks, bodyLength, givenSize, partLengths, lengthList, lengthsOf, dueLengths, sameLengths, sizedChecks, givenChecks, judged}
+use Rattle.mrd_write_checks.specs.GivenLaws.{unless-answered, given-numbered}
+use Rattle.mrd_writer.specs.Write.{judgedContents, contentsSize, contentsChecks}
 
 -- what is given passes checks 3 to 10 and 18
 pub record Sound (k : Kind) (c : Contents) : Type 0 where
   pub header : length (c .header) ≡ headerSize k
-  pub own : Every Passed (ownChecks k (c .header) (c .parts .name) (lengthsOf c))
-  pub small : sizeGiven k c ≤ limit
+  pub own : Every Passed (givenOwnChecks k (c .header) (c .parts .name) (lengthsOf c))
+  pub small : contentsSize k c ≤ limit
   pub lengths : lengthsOf c ≡ dueLengths k (c .header) (lengthsOf c)
 
 -- lengths that are the same one by one
@@ -40,38 +36,29 @@ same-lengths m n e =
     (equal-same (lengthList m) (lengthList n) e)
 
 -- what every check passed says
-pub passed-sound : (k : Kind) (c : Contents) → first (givenChecks k c) ≡ 0 → Sound k c
-unfolding contentsChecks sizedChecks
+pub passed-sound : (k : Kind) (c : Contents) → first (contentsChecks k c) ≡ 0 → Sound k c
+unfolding givenChecks sizedChecks
 passed-sound k c e =
     let h = c .header in
     let n = lengthsOf c in
-    let all = first-passed (givenChecks k c) (contents-numbered k h (c .parts .name) n) e in
+    let all = first-passed (contentsChecks k c) (given-numbered k h (c .parts .name) n) e in
     let parted = every-split Passed (sizedChecks k h (c .parts .name) n) _ (all .1) in
-    let sized = every-split Passed (ownChecks k h (c .parts .name) n) _ (parted .0) in
+    let sized = every-split Passed (givenOwnChecks k h (c .parts .name) n) _ (parted .0) in
     record {
       header = eqb-true (length h) (headerSize k) (not-false _ (all .0));
       own = sized .0;
-      small = ltb-false limit (sizeOf k h n) (sized .1 .0);
+      small = ltb-false limit (givenSize k h n) (sized .1 .0);
       lengths = same-lengths n (dueLengths k h n) (not-false _ (parted .1 .0));
     }
 
 -- what is given is judged to make a message of size z where no check refuses
-pub judged-answered : (k : Kind) (c : Contents) {z : ℕ} → judgedContents k c ≡ answered z → (first (givenChecks k c) ≡ 0) × (sizeGiven k c ≡ z)
+pub judged-answered : (k : Kind) (c : Contents) {z : ℕ} → judgedContents k c ≡ answered z → (first (contentsChecks k c) ≡ 0) × (contentsSize k c ≡ z)
 unfolding judged
-judged-answered k c e = unless-answered (first (givenChecks k c)) (sizeGiven k c) e
-
--- a sound name is short enough for its zero, and holds none itself
-pub sound-name : (c : Contents) → Sound ConfigurationName c →
-    (length (c .parts .name) ≤ 1023) × (length (c .parts .name) ≤ indexOf 0 (c .parts .name))
-unfolding ownChecks nameUnfit
-sound-name c s =
-    let name = c .parts .name in
-    let tests = neither (ltb 1023 (length name)) (ltb (indexOf 0 name) (length name)) (s .own .0) in
-    (ltb-false 1023 (length name) (tests .0), ltb-false (indexOf 0 name) (length name) (tests .1))
+judged-answered k c e = unless-answered (first (contentsChecks k c)) (contentsSize k c) e
 
 -- the parts together are within the limit
 parts-small : (k : Kind) (c : Contents) → Sound k c → bodyLength (lengthsOf c) ≤ limit
-unfolding sizeOf
+unfolding givenSize
 parts-small k c s = omega (arith, s .small, ap bodyLength (s .lengths))
 
 pub text-small : (k : Kind) (c : Contents) → Sound k c → length (c .parts .text) ≤ limit

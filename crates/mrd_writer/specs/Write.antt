@@ -14,7 +14,7 @@ use Rattle.mrd_format.specs.declared.kind.Identified.the-variants.{Known, Unkno
 use Rattle.mrd_format.specs.Kinds.{identified}
 use Rattle.mrd_format.specs.Parts.{Contents}
 use Rattle.mrd_format.specs.Content.{messageOf}
-use Rattle.mrd_write_checks.specs.WriteChecks.{lengthsOf, sizeOf, contentsChecks, judged}
+use Rattle.mrd_write_checks.specs.WriteChecks.{lengthsOf, givenSize, givenChecks, judged}
 use Rattle.mrd_writer.specs.declared.answer.WriteAnswer.{WriteAnswer}
 use Rattle.mrd_writer.specs.declared.answer.WriteAnswer
 
@@ -28,34 +28,34 @@ abbrev pub judgedContents : Kind → Contents → Answer ℕ
 judgedContents k c = judged k (c .header) (c .parts .name) (lengthsOf c)
 
 -- the size of its message
-abbrev pub sizeGiven : Kind → Contents → ℕ
-sizeGiven k c = sizeOf k (c .header) (lengthsOf c)
+abbrev pub contentsSize : Kind → Contents → ℕ
+contentsSize k c = givenSize k (c .header) (lengthsOf c)
 
 -- its checks, 3 to 10 and 18
-abbrev pub givenChecks : Kind → Contents → List Check
-givenChecks k c = contentsChecks k (c .header) (c .parts .name) (lengthsOf c)
+abbrev pub contentsChecks : Kind → Contents → List Check
+contentsChecks k c = givenChecks k (c .header) (c .parts .name) (lengthsOf c)
 
 -- and the last check, 14, 'output too short, or start position past its end'. As no message is empty, the one test says both
 unfoldable pub writeChecks : Kind → Contents → ℕ → List ℕ → List Check
-writeChecks k c at o = givenChecks k c ++ ((14 when ltb (length o) (at + sizeGiven k c)) ∷ [])
+writeChecks k c at o = contentsChecks k c ++ ((14 when ltb (length o) (at + contentsSize k c)) ∷ [])
 
 unfoldable pub answerAs : Identified → Contents → ℕ → List ℕ → Answer ℕ
 answerAs Unknown c at o = number 2
-answerAs (Known k) c at o = unless (first (writeChecks k c at o)) number (answered (at + sizeGiven k c))
+answerAs (Known k) c at o = unless (first (writeChecks k c at o)) number (answered (at + contentsSize k c))
 
 -- the answer
 unfoldable pub writeAnswer : ℕ → Contents → ℕ → List ℕ → Answer ℕ
 writeAnswer id c at o = answerAs (identified id) c at o
 
 -- 'the bytes before and after the message keep their content', and 'no refusal writes any byte'
-abbrev pub outputBy : Answer ℕ → List ℕ → ℕ → List ℕ → List ℕ
-outputBy (answered p) m at o = stored at m o
-outputBy (stream f r b) m at o = o
-outputBy (number n) m at o = o
+abbrev pub storedBy : Answer ℕ → List ℕ → ℕ → List ℕ → List ℕ
+storedBy (answered p) m at o = stored at m o
+storedBy (stream f r b) m at o = o
+storedBy (number n) m at o = o
 
 unfoldable pub outputAs : Identified → Contents → ℕ → List ℕ → List ℕ
 outputAs Unknown c at o = o
-outputAs (Known k) c at o = outputBy (answerAs (Known k) c at o) (messageOf k c) at o
+outputAs (Known k) c at o = storedBy (answerAs (Known k) c at o) (messageOf k c) at o
 
 -- the output as it is left
 unfoldable pub writeOutput : ℕ → Contents → ℕ → List ℕ → List ℕ

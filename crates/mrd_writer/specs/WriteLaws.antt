@@ -18,9 +18,9 @@ use Rattle.mrd_format.specs.Kinds.{idOf, identified}
 use Rattle.mrd_format.specs.Parts.{Contents}
 use Rattle.mrd_format.specs.Content.{contentOf, messageOf}
 use Rattle.mrd_write_checks.specs.WriteChecks.{lengthsOf, judged}
-use Rattle.mrd_write_checks.specs.GivenLaws.{unless-number, contents-numbered}
+use Rattle.mrd_write_checks.specs.GivenLaws.{unless-number, given-numbered}
 use Rattle.mrd_put.specs.Room.{Ready}
-use Rattle.mrd_writer.specs.Write.{judgedContents, sizeGiven, givenChecks, writeChecks, answerAs, outputAs, writeAnswer, writeOutput}
+use Rattle.mrd_writer.specs.Write.{judgedContents, contentsSize, contentsChecks, writeChecks, answerAs, outputAs, writeAnswer, writeOutput}
 use Rattle.mrd_writer.specs.Sound.{passed-sound, judged-answered}
 use Rattle.mrd_writer.specs.Written.{sound-ready, content-length}
 
@@ -43,7 +43,7 @@ module _ (k : Kind) (c : Contents) (at : ℕ) (o : List ℕ) where
   unfolding judged answerAs writeChecks
   refused-contents e =
       ends-refused
-      (unless-number (givenChecks k c) (roomCheck (sizeGiven k c)) (sizeGiven k c) (at + sizeGiven k c) e)
+      (unless-number (contentsChecks k c) (roomCheck (contentsSize k c)) (contentsSize k c) (at + contentsSize k c) e)
 
   -- it passes, and makes a message of size z: check 14 decides
   module _ {z : ℕ} (e : judgedContents k c ≡ answered z) where
@@ -51,7 +51,7 @@ module _ (k : Kind) (c : Contents) (at : ℕ) (o : List ℕ) where
     unfolding answerAs writeChecks
     last =
         let d = judged-answered k c e in
-        rw (first-next (givenChecks k c) (roomCheck (sizeGiven k c)) (contents-numbered k (c .header) (c .parts .name) (lengthsOf c)) (d .0), d .1)
+        rw (first-next (contentsChecks k c) (roomCheck (contentsSize k c)) (given-numbered k (c .header) (c .parts .name) (lengthsOf c)) (d .0), d .1)
 
     pub no-room : length o < at + z → Ends k c at o (number 14) o
     no-room h = ends-refused (last ∙ rw (lt-ltb _ _ h))

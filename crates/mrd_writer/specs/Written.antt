@@ -1,15 +1,10 @@
 -- The message that the writer makes of what it is given, read again: its lengths are those that were given, and it is well formed.
 -- Assumes nothing.
-use Prim.Native.Nat.{ℕ, zero, suc, _+_, _-_, _≤_, _<_}
-use native.Mathlib.Nat.{zero-add, add-zero, suc-add, not-suc-le-zero, le-of-suc-le-suc}
+use Prim.Native.Nat.{ℕ, _+_}
 use native.Mathlib.Omega.{arith}
 use mathlib.Core.Path.{_≡_, refl, sym, ap, ap₂, _∙_}
-use mathlib.Core.Bool.{Bool, true, false}
-use mathlib.Core.List.{List, [], _∷_, _++_, append-nil}
-use lib.Dec.{eqb}
-use lib.ListN.{length, replicate}
-use borrow.Author.Tests.{lt-leb}
-use Rattle.bytes.specs.Bytes.{indexOf, indexAfter}
+use mathlib.Core.List.{[], append-nil}
+use lib.ListN.{length}
 use Rattle.mrd_numbers.specs.Little.{toBytes, num}
 use Rattle.mrd_numbers.specs.HalfLaws.{read-after-write}
 use Rattle.mrd_logic.specs.Every.{Every}
@@ -21,20 +16,17 @@ use Rattle.mrd_format.specs.declared.kind.Identified.the-variants.{Known}
 use Rattle.mrd_format.specs.Kinds.{identified}
 use Rattle.mrd_format.specs.Segments.{nameLength, reachSize}
 use Rattle.mrd_format.specs.Texts.{textLength}
-use Rattle.mrd_format.specs.Message as message
-use Rattle.mrd_format.specs.Message.{idAt, fixedPart, WellFormed}
-use Rattle.mrd_format.specs.Acquisition as acquisition
-use Rattle.mrd_format.specs.Image as image
-use Rattle.mrd_format.specs.Waveform as waveform
+use Rattle.mrd_format.specs.Message.{idAt, fixedPart, ownChecks, bodySize, sizeOf, WellFormed}
 use Rattle.mrd_format.specs.Parts.{Part, Contents}
 use Rattle.mrd_format.specs.Content.{segmentsOf, extentOf, fixedOf, contentOf, messageOf}
 use Rattle.mrd_format.specs.Made.{Holds, Fitting, made-length, fixed-length, made-fixed}
 use Rattle.mrd_write_checks.specs.declared.lengths.Lengths.{Lengths}
-use Rattle.mrd_write_checks.specs.WriteChecks.{ownChecks, sizeOf, partLengths, lengthList, lengthsBy, lengthsOf, dueLengths}
+use Rattle.mrd_write_checks.specs.WriteChecks.{givenFixed, givenOwnChecks, givenSize, partLengths, lengthList, lengthsBy, lengthsOf, dueLengths}
+use Rattle.mrd_write_checks.specs.NameLaws.{name-bounds, name-ends}
 use Rattle.mrd_write_checks.specs.ImageLaws.{attribute-length, pixels-size, image-size}
 use Rattle.mrd_put.specs.Room.{Ready}
-use Rattle.mrd_writer.specs.Write.{sizeGiven}
-use Rattle.mrd_writer.specs.Sound.{Sound, sound-name, text-small, attributes-small}
+use Rattle.mrd_writer.specs.Write.{contentsSize}
+use Rattle.mrd_writer.specs.Sound.{Sound, text-small, attributes-small}
 
 -- the id reads back
 pub written-known : (k : Kind) (c : Contents) → identified (idAt (messageOf k c)) ≡ Known k
@@ -48,31 +40,22 @@ written-known Acquisition c = refl
 written-known Image c = refl
 written-known Waveform c = refl
 
--- bytes without a zero, and what follows them
-index-after : (a b : List ℕ) → length a ≤ indexOf 0 a → indexOf 0 (a ++ b) ≡ length a + indexOf 0 b
-unfolding indexOf indexAfter
-index-after [] b h = sym (zero-add (indexOf 0 b))
-index-after (x ∷ a) b h = by-test (eqb x 0) (index-after a b) h
-  where
-    by-test : (t : Bool) → (length a ≤ indexOf 0 a → indexOf 0 (a ++ b) ≡ length a + indexOf 0 b) →
-        suc (length a) ≤ indexAfter t (indexOf 0 a) → indexAfter t (indexOf 0 (a ++ b)) ≡ suc (length a) + indexOf 0 b
-    by-test true ih h = absurd (not-suc-le-zero h)
-    by-test false ih h = let e = ih (le-of-suc-le-suc h) in rw (e, suc-add)
-
--- the first of some zeros
-zeros-first : (n : ℕ) → 0 < n → indexOf 0 (replicate n 0) ≡ 0
-unfolding indexOf indexAfter
-zeros-first zero h = refl
-zeros-first (suc n) h = refl
+-- the checked fixed part is the one that is made
+checked-is-made : (k : Kind) (c : Contents) → givenFixed k (c .header) (c .parts .name) (lengthsOf c) ≡ fixedOf k c
+unfolding givenFixed fixedOf
+checked-is-made ConfigurationName c = refl
+checked-is-made ConfigurationText c = refl
+checked-is-made HeaderText c = refl
+checked-is-made Close c = refl
+checked-is-made Text c = refl
+checked-is-made Acquisition c = refl
+checked-is-made Image c = refl
+checked-is-made Waveform c = refl
 
 -- a name's zeros begin after it
 name-length : (c : Contents) → Sound ConfigurationName c → nameLength (fixedOf ConfigurationName c) ≡ length (c .parts .name)
-unfolding nameLength fixedOf
-name-length c s =
-    let name = c .parts .name in
-    let n = sound-name c s in
-    let some : 0 < 1024 - length name = omega arith in
-    index-after name (replicate (1024 - length name) 0) (n .1) ∙ rw (zeros-first (1024 - length name) some, add-zero)
+unfolding givenOwnChecks
+name-length c s = rw (checked-is-made ConfigurationName c) at (name-ends (c .header) (c .parts .name) (lengthsOf c) (s .own .0))
 
 -- a text's length reads back
 text-length : (k : Kind) (c : Contents) → Sound k c → textLength (toBytes 4 (length (c .parts .text))) ≡ length (c .parts .text)
@@ -102,8 +85,8 @@ has k c s f = ap f (sound-sizes k c s)
 
 -- so each segment's bytes are as many as it says
 sound-holds : (k : Kind) (c : Contents) → Sound k c → Every (Holds (fixedOf k c) c) (segmentsOf k (fixedOf k c))
-unfolding extentOf
-sound-holds ConfigurationName c s = ((name-length c s, omega (arith, sound-name c s)), tt)
+unfolding extentOf givenOwnChecks
+sound-holds ConfigurationName c s = ((name-length c s, omega (arith, name-bounds (c .parts .name) (s .own .0))), tt)
 sound-holds ConfigurationText c s = (tt, (sym (has ConfigurationText c s (λ n. n .text)), tt))
 sound-holds HeaderText c s = (tt, (sym (has HeaderText c s (λ n. n .text)), tt))
 sound-holds Close c s = tt
@@ -120,26 +103,14 @@ pub sound-ready : (k : Kind) (c : Contents) → Sound k c → Ready k c
 sound-ready k c s = record { fixed = fixed-length k c (sound-fitting k c s); text = omega (arith, text-small k c s) }
 
 -- the checks of the fixed part are those that passed
-name-own : (c : Contents) → Sound ConfigurationName c → first (message.ownChecks ConfigurationName (fixedOf ConfigurationName c)) ≡ 0
-unfolding message.ownChecks
-name-own c s =
-    let short : length (c .parts .name) < 1024 = omega (arith, sound-name c s) in
-    rw (name-length c s, lt-leb 1024 (length (c .parts .name)) short)
-
-pub written-own : (k : Kind) (c : Contents) → Sound k c → first (message.ownChecks k (fixedOf k c)) ≡ 0
-unfolding message.ownChecks ownChecks fixedOf
-written-own ConfigurationName c s = name-own c s
-written-own ConfigurationText c s = refl
-written-own HeaderText c s = refl
-written-own Close c s = refl
-written-own Text c s = refl
-written-own Acquisition c s = passed-first (acquisition.checks (c .header)) (s .own)
-written-own Image c s = passed-first (image.checks (c .header ++ toBytes 8 (length (c .parts .attributes)))) (s .own)
-written-own Waveform c s = passed-first (waveform.checks (c .header)) (s .own)
+pub written-own : (k : Kind) (c : Contents) → Sound k c → first (ownChecks k (fixedOf k c)) ≡ 0
+unfolding givenOwnChecks
+written-own k c s =
+    rw (← checked-is-made k c) (passed-first (ownChecks k (givenFixed k (c .header) (c .parts .name) (lengthsOf c))) (s .own .1))
 
 -- the size by the fixed part is that by what was given
-pub written-size : (k : Kind) (c : Contents) → Sound k c → message.sizeOf k (fixedOf k c) ≡ sizeGiven k c
-unfolding message.sizeOf message.bodySize sizeOf dueLengths fixedOf
+pub written-size : (k : Kind) (c : Contents) → Sound k c → sizeOf k (fixedOf k c) ≡ contentsSize k c
+unfolding sizeOf bodySize givenSize dueLengths fixedOf
 written-size ConfigurationName c s = refl
 written-size ConfigurationText c s = omega (arith, text-length ConfigurationText c s)
 written-size HeaderText c s = omega (arith, text-length HeaderText c s)
@@ -150,10 +121,10 @@ written-size Image c s = sym (image-size (c .header) (length (c .parts .attribut
 written-size Waveform c s = omega arith
 
 -- the whole, id included; and what follows the id
-pub message-length : (k : Kind) (c : Contents) → Sound k c → length (messageOf k c) ≡ sizeGiven k c
+pub message-length : (k : Kind) (c : Contents) → Sound k c → length (messageOf k c) ≡ contentsSize k c
 message-length k c s = made-length k c (sound-fitting k c s) ∙ written-size k c s
 
-pub content-length : (k : Kind) (c : Contents) → Sound k c → 2 + length (contentOf k c) ≡ sizeGiven k c
+pub content-length : (k : Kind) (c : Contents) → Sound k c → 2 + length (contentOf k c) ≡ contentsSize k c
 unfolding messageOf
 content-length k c s = omega (arith, message-length k c s)
 
@@ -161,7 +132,7 @@ content-length k c s = omega (arith, message-length k c s)
 abbrev pub written-well : (k : Kind) (c : Contents) → Sound k c → WellFormed (messageOf k c)
 written-well k c s =
     let fixed : fixedPart k (messageOf k c) ≡ fixedOf k c = made-fixed k c (sound-fitting k c s) in
-    let size : message.sizeOf k (fixedPart k (messageOf k c)) ≡ sizeGiven k c = rw fixed (written-size k c s) in
+    let size : sizeOf k (fixedPart k (messageOf k c)) ≡ contentsSize k c = rw fixed (written-size k c s) in
     record {
       kind = k;
       known = written-known k c;

@@ -6,7 +6,7 @@ use lib.Seq.{take-length}
 use denote.Ref.{now}
 use borrow.Author.Needs.{needs}
 use Rattle.bytes.specs.Bytes.{indexOf, slice}
-use Rattle.mrd_write_checks.specs.GivenLaws.{name-long, name-zero, name-sound}
+use Rattle.mrd_write_checks.specs.NameLaws.{name-long, name-zero, name-sound}
 use Rattle.mrd_write_checks.proofs.contents.checked_name.Statement.{statement}
 use Rattle.mrd_write_checks.proofs.contents.checked_name.Tie as tie
 

@@ -6,7 +6,8 @@ use denote.Ref.{now}
 use borrow.Author.Needs.{needs}
 use Rattle.mrd_format.specs.declared.kind.Kind.the-variants.{Image}
 use Rattle.mrd_write_checks.specs.Sized.{sizedBy}
-use Rattle.mrd_write_checks.specs.GivenLaws.{sized-name, sized-text, sized-close, sized-header}
+use Rattle.mrd_write_checks.specs.GivenLaws.{sized-text, sized-close, sized-header}
+use Rattle.mrd_write_checks.specs.NameLaws.{sized-name}
 use Rattle.mrd_write_checks.specs.ImageLaws.{image-sized}
 use Rattle.mrd_write_checks.proofs.contents.checked_size.Statement.{statement}
 use Rattle.mrd_write_checks.proofs.contents.checked_size.Tie as tie

@@ -5,6 +5,8 @@ ghost use Prim.Native.Nat.{_<_, _^_};
 ghost use lib.ListN.{length};
 ghost use Rattle.mrd_logic.specs.Checks.{first};
 ghost use Rattle.mrd_format.specs.Elements.{elements};
+ghost use Rattle.mrd_format.specs.Kinds.{fixedSize};
+ghost use Rattle.mrd_format.specs.declared.kind.Kind.«the-variants».{Acquisition};
 ghost use Rattle.mrd_format.specs.Acquisition.{layout, get, checks, channelsDiffer, discardsExceed, maskDiffers, onesOf, trajectorySize, channelSize, bodySize, numbers};
 ghost use Rattle.mrd_format.specs.Acquisition.{«channel-mask», «active-channels»};
 ghost use Rattle.mrd_format.specs.Shapes.{acquisitionNumbers};
@@ -34,7 +36,7 @@ const TRAJECTORY_DIMENSIONS: usize = 176;
 
 // The number of the first of checks 4, 6 and 7 that refuses the header, or 0.
 pub fn fault(h: &[u8]) -> u8
-    requires { ⌜ length (now h) ≡ 340 ⌝ }
+    requires { ⌜ length (now h) ≡ fixedSize Acquisition ⌝ }
     ensures { λ r. ⌜ r ≡ first (checks (now (h .entry))) ⌝ }
 {
     if read_u16(h, VERSION) != 1 {
@@ -51,7 +53,7 @@ pub fn fault(h: &[u8]) -> u8
 
 // Whether more channels are active than available, or the mask does not agree.
 fn channels_differ(h: &[u8]) -> bool
-    requires { ⌜ length (now h) ≡ 340 ⌝ }
+    requires { ⌜ length (now h) ≡ fixedSize Acquisition ⌝ }
     ensures { λ r. ⌜ r ≡ channelsDiffer (now (h .entry)) ⌝ }
 {
     if read_u16(h, AVAILABLE_CHANNELS) < read_u16(h, ACTIVE_CHANNELS) {
@@ -62,7 +64,7 @@ fn channels_differ(h: &[u8]) -> bool
 
 // Whether more samples are discarded than there are.
 fn discards_exceed(h: &[u8]) -> bool
-    requires { ⌜ length (now h) ≡ 340 ⌝ }
+    requires { ⌜ length (now h) ≡ fixedSize Acquisition ⌝ }
     ensures { λ r. ⌜ r ≡ discardsExceed (now (h .entry)) ⌝ }
 {
     let discarded = (read_u16(h, DISCARD_PRE) as u32) + (read_u16(h, DISCARD_POST) as u32);
@@ -71,7 +73,7 @@ fn discards_exceed(h: &[u8]) -> bool
 
 // Whether the channel mask isn't all zero and its count of ones differs from the active channels.
 fn mask_differs(h: &[u8]) -> bool
-    requires { ⌜ length (now h) ≡ 340 ⌝ }
+    requires { ⌜ length (now h) ≡ fixedSize Acquisition ⌝ }
     ensures { λ r. ⌜ r ≡ maskDiffers (now (h .entry)) ⌝ }
 {
     let ones = mask_ones(h);
@@ -83,7 +85,7 @@ fn mask_differs(h: &[u8]) -> bool
 
 // The ones in the sixteen words of the channel mask.
 fn mask_ones(h: &[u8]) -> u32
-    requires { ⌜ length (now h) ≡ 340 ⌝ }
+    requires { ⌜ length (now h) ≡ fixedSize Acquisition ⌝ }
     ensures { λ r. ⌜ r ≡ onesOf (elements (layout «channel-mask») (now (h .entry))) ⌝ }
 {
     let mut ones: u32 = 0;
@@ -97,7 +99,7 @@ fn mask_ones(h: &[u8]) -> u32
 
 // The bytes of the trajectory.
 pub fn trajectory_size(h: &[u8]) -> usize
-    requires { ⌜ length (now h) ≡ 340 ⌝ }
+    requires { ⌜ length (now h) ≡ fixedSize Acquisition ⌝ }
     ensures { λ r. ⌜ (r ≡ trajectorySize (now (h .entry))) × (r < 2 ^ 34) ⌝ }
 {
     let samples = read_u16(h, NUMBER_OF_SAMPLES);
@@ -106,7 +108,7 @@ pub fn trajectory_size(h: &[u8]) -> usize
 
 // The bytes of one channel's samples.
 pub fn channel_size(h: &[u8]) -> usize
-    requires { ⌜ length (now h) ≡ 340 ⌝ }
+    requires { ⌜ length (now h) ≡ fixedSize Acquisition ⌝ }
     ensures { λ r. ⌜ (r ≡ channelSize (now (h .entry))) × (r < 2 ^ 19) ⌝ }
 {
     (read_u16(h, NUMBER_OF_SAMPLES) as usize) * 8
@@ -114,7 +116,7 @@ pub fn channel_size(h: &[u8]) -> usize
 
 // How many channels have samples.
 pub fn active_channels(h: &[u8]) -> usize
-    requires { ⌜ length (now h) ≡ 340 ⌝ }
+    requires { ⌜ length (now h) ≡ fixedSize Acquisition ⌝ }
     ensures { λ r. ⌜ (r ≡ get «active-channels» (now (h .entry))) × (r < 2 ^ 16) ⌝ }
 {
     read_u16(h, ACTIVE_CHANNELS) as usize
@@ -122,7 +124,7 @@ pub fn active_channels(h: &[u8]) -> usize
 
 // The bytes after the header: the trajectory and every channel's samples.
 pub fn body_size(h: &[u8]) -> usize
-    requires { ⌜ length (now h) ≡ 340 ⌝ }
+    requires { ⌜ length (now h) ≡ fixedSize Acquisition ⌝ }
     ensures { λ r. ⌜ (r ≡ bodySize (now (h .entry))) × (r < 2 ^ 40) ⌝ }
 {
     let samples = read_u16(h, NUMBER_OF_SAMPLES);
@@ -132,7 +134,7 @@ pub fn body_size(h: &[u8]) -> usize
 
 // The header's own numbers.
 pub fn shape(h: &[u8]) -> AcquisitionShape
-    requires { ⌜ length (now h) ≡ 340 ⌝ }
+    requires { ⌜ length (now h) ≡ fixedSize Acquisition ⌝ }
     ensures { λ r. ⌜ acquisitionNumbers r ≡ numbers (now (h .entry)) ⌝ }
 {
     AcquisitionShape {

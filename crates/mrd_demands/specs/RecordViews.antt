@@ -16,8 +16,8 @@ use Rattle.mrd_numbers.specs.Laws.{part-take}
 use Rattle.mrd_format.specs.Message.{fixedPart, sizeOf}
 use Rattle.mrd_format.specs.Parts as part
 use Rattle.mrd_format.specs.Parts.{Part, Reach, lies, lacks, bytesIn}
-use Rattle.mrd_format.specs.Content.{piecesOf, extentOf, contentsOf, Record, recordOf}
-use Rattle.mrd_format.specs.Segments.{Piece}
+use Rattle.mrd_format.specs.Content.{placedParts, extentOf, contentsOf, Record, recordOf}
+use Rattle.mrd_format.specs.Segments.{PlacedPart}
 use Rattle.mrd_format.specs.ReachLaws.{part-within, channel-is-share}
 use Rattle.mrd_format.specs.ExtentLaws.{FoundAt, parts-found, NoneIs, others-lacking}
 use Rattle.mrd_parts.specs.declared.parts.Part as parts
@@ -113,11 +113,11 @@ views-are-parts s n {l} e =
     )
 
 -- the parts of the message at a place
-abbrev pub partsAt : List ℕ → Located → List Piece
-partsAt s l = piecesOf (l .kind) (fixedPart (l .kind) (partAt s l))
+abbrev pub partsAt : List ℕ → Located → List PlacedPart
+partsAt s l = placedParts (l .kind) (fixedPart (l .kind) (partAt s l))
 
 -- the view that is asked for by the name of a part is at that part's place
-abbrev pub ViewOfPart : List ℕ → ℕ → Located → Piece → Type 0
+abbrev pub ViewOfPart : List ℕ → ℕ → Located → PlacedPart → Type 0
 ViewOfPart s n l q = (p : parts.Part) → partMeaning p ≡ q .part → viewOf s n p ≡ answered (span (l .start + q .place .offset) (q .place .size))
 
 -- the views of record n, which lies at l: each part of its message at its place, one channel after the other, and 17 for what is no part of it

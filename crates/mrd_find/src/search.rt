@@ -10,7 +10,7 @@ use mrd_format::Kind;
 use mrd_format::refusal;
 use mrd_judge::fixed_part;
 use mrd_message::COUNTER_COUNT;
-use mrd_message::counter;
+use mrd_message::encoding_counter;
 use mrd_stream::Checked;
 use mrd_stream::PlacedRecord;
 use mrd_stream::Refusal;
@@ -48,7 +48,7 @@ pub fn find(s: &[u8], n: usize, counters: &[u16; COUNTER_COUNT]) -> Found
                 let h = fixed_part(Kind::Acquisition, &s[start..]);
                 let mut i: usize = 0;
                 while i < COUNTER_COUNT {
-                    if counter(h, i) != asked[i] {
+                    if encoding_counter(h, i) != asked[i] {
                         c = next;
                         continue 'records;
                     }

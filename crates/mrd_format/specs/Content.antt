@@ -10,7 +10,7 @@ use Rattle.mrd_numbers.specs.Little.{toBytes}
 use Rattle.mrd_format.specs.declared.kind.Kind.{Kind}
 use Rattle.mrd_format.specs.Elements.{values, widths, written}
 use Rattle.mrd_format.specs.Parts.{Part, id, header, filler, same, Reach, bytesAt, bytesIn, Parts, partsBy, Contents, partLength}
-use Rattle.mrd_format.specs.Segments.{Segment, Piece, piece, piecesFrom, orElse, reachIf, reachFrom, segmentsBytes}
+use Rattle.mrd_format.specs.Segments.{Segment, PlacedPart, placedPart, segmentsParts, orElse, reachIf, reachFrom, segmentsBytes}
 use Rattle.mrd_format.specs.Kinds.{idOf, formOf}
 use Rattle.mrd_format.specs.Message.{fixedPart}
 
@@ -19,8 +19,8 @@ abbrev pub segmentsOf : Kind → List ℕ → List Segment
 segmentsOf k h = formOf k .fixedSegments ++ formOf k .bodySegments h
 
 -- all its parts, in order
-abbrev pub piecesOf : Kind → List ℕ → List Piece
-piecesOf k h = piece id 0 2 ∷ piecesFrom h 2 (segmentsOf k h)
+abbrev pub placedParts : Kind → List ℕ → List PlacedPart
+placedParts k h = placedPart id 0 2 ∷ segmentsParts h 2 (segmentsOf k h)
 
 -- where a part of it lies
 unfoldable pub extentOf : Part → Kind → List ℕ → Reach
@@ -49,12 +49,12 @@ unfoldable pub recordOf : Kind → List ℕ → Record
 recordOf k m = record { kind = k; fields = fieldsOf k (fixedPart k m); parts = contentsOf k m .parts }
 
 -- the bytes of a part in normal form: 'in each configuration name's 1,024 bytes, those after the first zero made zero'
-abbrev pub normalPiece : List ℕ → Piece → List ℕ
-normalPiece m p = pick (same (p .part) filler) (replicate (p .place .size) 0) (bytesAt m (p .place))
+abbrev pub normalPart : List ℕ → PlacedPart → List ℕ
+normalPart m p = pick (same (p .part) filler) (replicate (p .place .size) 0) (bytesAt m (p .place))
 
 -- a message in normal form
 unfoldable pub normalOf : Kind → List ℕ → List ℕ
-normalOf k m = joined (map (normalPiece m) (piecesOf k (fixedPart k m)))
+normalOf k m = joined (map (normalPart m) (placedParts k (fixedPart k m)))
 
 -- the fixed part of a message of kind k that is made of c, where z says how long its parts are: 'a text's length and an image's 8-byte length' are
 -- worked out, and a name is filled 'up with zeros'. It goes by z and no part's bytes but a name's, so that lengths are enough to check it
@@ -68,11 +68,11 @@ fixedOf k c = fixedBy k (partLength c) c
 unfoldable pub bodyOf : Kind → Contents → List ℕ
 bodyOf k c = segmentsBytes (partLength c) c (formOf k .bodySegments (fixedOf k c))
 
-unfoldable pub contentOf : Kind → Contents → List ℕ
-contentOf k c = fixedOf k c ++ bodyOf k c
+unfoldable pub bytesAfterId : Kind → Contents → List ℕ
+bytesAfterId k c = fixedOf k c ++ bodyOf k c
 
 unfoldable pub messageOf : Kind → Contents → List ℕ
-messageOf k c = toBytes 2 (idOf k) ++ contentOf k c
+messageOf k c = toBytes 2 (idOf k) ++ bytesAfterId k c
 
 -- the record of what a message is made of
 unfoldable pub contentsRecord : Kind → Contents → Record

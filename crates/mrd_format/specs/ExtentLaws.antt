@@ -15,12 +15,12 @@ use Rattle.mrd_format.specs.declared.kind.Kind.the-variants.{Configurati
 use Rattle.mrd_format.specs.Acquisition as acquisition
 use Rattle.mrd_format.specs.Parts as part
 use Rattle.mrd_format.specs.Parts.{Part, same, isChannel, channelOf, extent, Reach, lies, lacks}
-use Rattle.mrd_format.specs.Segments.{Segment, fixed, counted, padded, sized, channels, sizeIn, Piece, channelsFrom, piecesIn, piecesFrom, reachIf, reachIn, reachFrom}
-use Rattle.mrd_format.specs.Content.{segmentsOf, piecesOf, extentOf}
-use Rattle.mrd_format.specs.PieceLaws.{Adjoins, placesOf, channels-adjoin}
+use Rattle.mrd_format.specs.Segments.{Segment, fixed, counted, padded, sized, channels, sizeIn, PlacedPart, channelsFrom, segmentParts, segmentsParts, reachIf, reachIn, reachFrom}
+use Rattle.mrd_format.specs.Content.{segmentsOf, placedParts, extentOf}
+use Rattle.mrd_format.specs.AdjoinLaws.{Adjoins, placesOf, channels-adjoin}
 
 -- a part is found at its place
-abbrev pub FoundAt : Kind → List ℕ → Piece → Type 0
+abbrev pub FoundAt : Kind → List ℕ → PlacedPart → Type 0
 FoundAt k h q = extentOf (q .part) k h ≡ lies (q .place)
 
 -- of an acquisition with the fixed part h: where its channels begin, how many they are, and how long each is
@@ -48,7 +48,7 @@ module _ (h : List ℕ) where
   samples-are-channels = (refl, channels-adjoin count 0 first each)
 
 -- every part of a message is found where it lies
-pub parts-found : (k : Kind) (h : List ℕ) → Every (FoundAt k h) (piecesOf k h)
+pub parts-found : (k : Kind) (h : List ℕ) → Every (FoundAt k h) (placedParts k h)
 unfolding extentOf
 parts-found ConfigurationName h = (refl, (refl, (refl, tt)))
 parts-found ConfigurationText h = (refl, (refl, (refl, tt)))
@@ -60,8 +60,8 @@ parts-found Image h = (refl, (refl, (refl, (refl, (refl, tt)))))
 parts-found Waveform h = (refl, (refl, (refl, tt)))
 
 -- a name that no part of a list has
-abbrev pub NoneIs : Part → List Piece → Type 0
-NoneIs p qs = Every (λ (q : Piece). same p (q .part) ≡ false) qs
+abbrev pub NoneIs : Part → List PlacedPart → Type 0
+NoneIs p qs = Every (λ (q : PlacedPart). same p (q .part) ≡ false) qs
 
 module _ (p : Part) (h : List ℕ) (apart : same p part.samples ≡ false) where
   no-channel : (n c at z : ℕ) → NoneIs p (channelsFrom n c at z) → isChannel p ≡ true → channelOf p < c + n → channelOf p < c
@@ -78,21 +78,21 @@ module _ (p : Part) (h : List ℕ) (apart : same p part.samples ≡ false) where
   channel-lacks n at z o true true e l =
       absurd (omega (arith, no-channel n 0 at z o e (omega (arith, ltb-true (channelOf p) n l))))
 
-  segment-lacks : (at : ℕ) (s : Segment) → NoneIs p (piecesIn h at s) → reachIn p h at s ≡ lacks
+  segment-lacks : (at : ℕ) (s : Segment) → NoneIs p (segmentParts h at s) → reachIn p h at s ≡ lacks
   segment-lacks at (fixed n) o = rw (o .0)
   segment-lacks at (counted w q) o = rw (o .0)
   segment-lacks at (padded n) o = rw (o .0, o .1 .0)
   segment-lacks at (sized q n) o = rw (o .0)
   segment-lacks at (channels c n) o = rw apart (channel-lacks c at n o (isChannel p) (ltb (channelOf p) c) refl refl)
 
-  segments-lack : (at : ℕ) (ss : List Segment) → NoneIs p (piecesFrom h at ss) → reachFrom p h at ss ≡ lacks
+  segments-lack : (at : ℕ) (ss : List Segment) → NoneIs p (segmentsParts h at ss) → reachFrom p h at ss ≡ lacks
   segments-lack at [] o = refl
   segments-lack at (s ∷ []) o = segment-lacks at s o
   segments-lack at (s ∷ (t ∷ ss)) o =
-      let both = every-split (λ (q : Piece). same p (q .part) ≡ false) (piecesIn h at s) (piecesFrom h (at + sizeIn s) (t ∷ ss)) o in
+      let both = every-split (λ (q : PlacedPart). same p (q .part) ≡ false) (segmentParts h at s) (segmentsParts h (at + sizeIn s) (t ∷ ss)) o in
       rw (segment-lacks at s (both .0)) (segments-lack (at + sizeIn s) (t ∷ ss) (both .1))
 
   -- and a part that is none of the message's, nor the samples of all channels, is not found
-  pub others-lacking : (k : Kind) → NoneIs p (piecesOf k h) → extentOf p k h ≡ lacks
+  pub others-lacking : (k : Kind) → NoneIs p (placedParts k h) → extentOf p k h ≡ lacks
   unfolding extentOf
   others-lacking k o = rw (o .0) (segments-lack 2 (segmentsOf k h) (o .1))

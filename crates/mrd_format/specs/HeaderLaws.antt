@@ -14,7 +14,7 @@ use Rattle.mrd_numbers.specs.Little.{Bytes}
 use Rattle.mrd_numbers.specs.Laws.{num-append}
 use Rattle.mrd_numbers.specs.ByteLaws.{write-num}
 use Rattle.mrd_format.specs.Elements.{Run, width, elementsFrom, values, widths, written}
-use Rattle.mrd_format.specs.PieceLaws.{take-parts}
+use Rattle.mrd_format.specs.AdjoinLaws.{take-parts}
 use Rattle.mrd_format.specs.Acquisition as acquisition
 use Rattle.mrd_format.specs.Image as image
 use Rattle.mrd_format.specs.Waveform as waveform

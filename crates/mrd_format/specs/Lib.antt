@@ -15,7 +15,7 @@ pub mod Sizes
 pub mod SizeLaws
 pub mod Shapes
 pub mod Content
-pub mod PieceLaws
+pub mod AdjoinLaws
 pub mod ReachLaws
 pub mod ExtentLaws
 pub mod NormalLaws

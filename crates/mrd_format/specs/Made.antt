@@ -24,7 +24,7 @@ use Rattle.mrd_format.specs.Message.{sizeOf, fixedPart}
 use Rattle.mrd_format.specs.Parts as part
 use Rattle.mrd_format.specs.Parts.{Part, tag, same, isChannel, channelOf, Extent, Reach, lies, lacks, bytesAt, bytesIn, Parts, partIn, partsBy, recordParts, Contents, partLength}
 use Rattle.mrd_format.specs.Segments.{Segment, fixed, counted, padded, sized, channels, sizeIn, total, nameLength, reachIf, reachIn, reachFrom, reachSize, segmentBytes, segmentsBytes}
-use Rattle.mrd_format.specs.Content.{segmentsOf, extentOf, contentsOf, fieldsOf, recordOf, fixedOf, bodyOf, contentOf, messageOf, contentsRecord}
+use Rattle.mrd_format.specs.Content.{segmentsOf, extentOf, contentsOf, fieldsOf, recordOf, fixedOf, bodyOf, bytesAfterId, messageOf, contentsRecord}
 use Rattle.mrd_format.specs.HeaderLaws.{image-packed, values-append}
 use Rattle.mrd_format.specs.ReachLaws.{size-segments, reach-if, or-else, not-there}
 
@@ -125,7 +125,7 @@ made-fields Waveform c f = refl
 
 module _ (k : Kind) (c : Contents) (f : Fitting k c) where
   made-segments : messageOf k c ≡ toBytes 2 (idOf k) ++ segmentsBytes (partLength c) c (segmentsOf k (fixedOf k c))
-  unfolding messageOf contentOf fixedOf bodyOf
+  unfolding messageOf bytesAfterId fixedOf bodyOf
   made-segments =
       ap (λ (x : List ℕ). toBytes 2 (idOf k) ++ x) (sym (segments-append (partLength c) c (formOf k .fixedSegments) (formOf k .bodySegments (fixedOf k c))))
 
@@ -142,7 +142,7 @@ module _ (k : Kind) (c : Contents) (f : Fitting k c) where
       (every-split (Holds (fixedOf k c) c) (formOf k .fixedSegments) (formOf k .bodySegments (fixedOf k c)) (f .holds) .0)
 
   pub made-fixed : fixedPart k (messageOf k c) ≡ fixedOf k c
-  unfolding fixedPart messageOf contentOf
+  unfolding fixedPart messageOf bytesAfterId
   made-fixed = take-at (fixedOf k c) (bodyOf k c) (fixedSize k) fixed-length
 
   -- each part lies where it is said to, with the bytes that were given

@@ -20,7 +20,7 @@ use Rattle.mrd_format.specs.MessageLaws.{id-append}
 use Rattle.mrd_format.specs.Segments.{total}
 use Rattle.mrd_format.specs.Kinds.{formOf}
 use Rattle.mrd_format.specs.Content.{segmentsOf, extentOf, contentsOf, fieldsOf, recordOf, normalOf}
-use Rattle.mrd_format.specs.PieceLaws.{allPlain, segments-joined, total-append}
+use Rattle.mrd_format.specs.AdjoinLaws.{allPlain, segments-joined, total-append}
 
 -- a byte is found where it is put after what stood before it
 index-put : (b : ℕ) (h rest : List ℕ) → indexOf b (take (indexOf b h) h ++ (b ∷ rest)) ≡ indexOf b h

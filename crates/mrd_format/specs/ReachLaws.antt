@@ -24,8 +24,8 @@ use Rattle.mrd_format.specs.Acquisition as acquisition
 use Rattle.mrd_format.specs.Parts as part
 use Rattle.mrd_format.specs.Parts.{Part, same, isChannel, channelOf, Extent, extent, Reach, lies, lacks, bytesAt, bytesIn, partIn, recordParts}
 use Rattle.mrd_format.specs.Segments.{Segment, fixed, counted, padded, sized, channels, sizeIn, total, nameLength, orElse, reachIf, reachIn, reachFrom}
-use Rattle.mrd_format.specs.Content.{segmentsOf, piecesOf, extentOf, contentsOf, recordOf}
-use Rattle.mrd_format.specs.PieceLaws.{total-append, Adjoins, Fits, placesOf, segments-adjoin}
+use Rattle.mrd_format.specs.Content.{segmentsOf, placedParts, extentOf, contentsOf, recordOf}
+use Rattle.mrd_format.specs.AdjoinLaws.{total-append, Adjoins, Fits, placesOf, segments-adjoin}
 
 -- a name is no longer than its bytes
 index-within : (b : ℕ) (xs : List ℕ) → indexOf b xs ≤ length xs
@@ -56,7 +56,7 @@ size-segments k h = omega (arith, total-append (formOf k .fixedSegments) (formOf
 -- the parts of a message of kind k with the fixed part h
 module _ (k : Kind) (h : List ℕ) (long : length h ≡ fixedSize k) where
   -- adjoin from its first byte to its last
-  pub parts-adjoin : Adjoins 0 (sizeOf k h) (placesOf (piecesOf k h))
+  pub parts-adjoin : Adjoins 0 (sizeOf k h) (placesOf (placedParts k h))
   parts-adjoin = (refl, rw (size-segments k h) (segments-adjoin h 2 (segmentsOf k h) (fitting k h long)))
 
 -- a part that lies somewhere was found by its test

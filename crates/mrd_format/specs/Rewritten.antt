@@ -20,12 +20,12 @@ use Rattle.mrd_format.specs.Segments.{nameLength}
 use Rattle.mrd_format.specs.Texts.{textLength}
 use Rattle.mrd_format.specs.Message.{idAt, fixedPart, ownChecks, bodySize, sizeOf, WellFormed}
 use Rattle.mrd_format.specs.MessageLaws.{well-least}
-use Rattle.mrd_format.specs.Content.{extentOf, contentsOf, fieldsOf, recordOf, normalOf, fixedOf, bodyOf, contentOf, messageOf, bytesOf}
+use Rattle.mrd_format.specs.Content.{extentOf, contentsOf, fieldsOf, recordOf, normalOf, fixedOf, bodyOf, bytesAfterId, messageOf, bytesOf}
 use Rattle.mrd_format.specs.Acquisition as acquisition
 use Rattle.mrd_format.specs.Image as image
 use Rattle.mrd_format.specs.Waveform as waveform
 use Rattle.mrd_format.specs.Elements.{Run, values, widths, written}
-use Rattle.mrd_format.specs.PieceLaws.{joined-channels}
+use Rattle.mrd_format.specs.AdjoinLaws.{joined-channels}
 use Rattle.mrd_format.specs.HeaderLaws.{packed, header-written, acquisition-packed, image-packed, waveform-packed}
 use Rattle.mrd_format.specs.NormalLaws.{nameBytes, name-short}
 
@@ -77,8 +77,8 @@ image-content m b a p e whole =
 
 -- and of every kind
 content : (k : Kind) (m : List ℕ) → Bytes m → first (ownChecks k (fixedPart k m)) ≡ 0 → sizeOf k (fixedPart k m) ≡ length m →
-    take 2 m ++ contentOf k (contentsOf k m) ≡ normalOf k m
-unfolding normalOf contentsOf contentOf fixedOf bodyOf extentOf sizeOf bodySize fixedPart
+    take 2 m ++ bytesAfterId k (contentsOf k m) ≡ normalOf k m
+unfolding normalOf contentsOf bytesAfterId fixedOf bodyOf extentOf sizeOf bodySize fixedPart
 content ConfigurationName m b sound whole =
     then {a = take 2 m} refl (name-content m (nameLength (nameBytes m)) (sym whole) (name-short m sound))
 content ConfigurationText m b sound whole = then {a = take 2 m} refl (text-content m b (textLength (take 4 (drop 2 m))) refl whole)

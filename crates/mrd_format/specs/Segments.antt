@@ -41,31 +41,31 @@ unfoldable pub nameLength : List ℕ → ℕ
 nameLength h = indexOf 0 h
 
 -- a part and where it lies
-pub record Piece : Type 0 where
+pub record PlacedPart : Type 0 where
   pub part : Part
   pub place : Extent
 
-abbrev pub piece : Part → ℕ → ℕ → Piece
-piece p at n = record { part = p; place = extent at n }
+abbrev pub placedPart : Part → ℕ → ℕ → PlacedPart
+placedPart p at n = record { part = p; place = extent at n }
 
 -- n channels' samples from channel c on: 'channel c starts c x samples x 8 bytes into the data'
-abbrev pub channelsFrom : ℕ → ℕ → ℕ → ℕ → List Piece
+abbrev pub channelsFrom : ℕ → ℕ → ℕ → ℕ → List PlacedPart
 channelsFrom zero c at z = []
-channelsFrom (suc n) c at z = piece (channel c) at z ∷ channelsFrom n (suc c) (at + z) z
+channelsFrom (suc n) c at z = placedPart (channel c) at z ∷ channelsFrom n (suc c) (at + z) z
 
 -- the parts of a segment that begins at `at`, in a message with the fixed part h
-abbrev pub piecesIn : List ℕ → ℕ → Segment → List Piece
-piecesIn h at (fixed n) = piece header at n ∷ []
-piecesIn h at (counted w p) = piece count at w ∷ []
-piecesIn h at (padded n) = piece name at (nameLength h) ∷ piece filler (at + nameLength h) (n - nameLength h) ∷ []
-piecesIn h at (sized p n) = piece p at n ∷ []
-piecesIn h at (channels c n) = channelsFrom c 0 at n
+abbrev pub segmentParts : List ℕ → ℕ → Segment → List PlacedPart
+segmentParts h at (fixed n) = placedPart header at n ∷ []
+segmentParts h at (counted w p) = placedPart count at w ∷ []
+segmentParts h at (padded n) = placedPart name at (nameLength h) ∷ placedPart filler (at + nameLength h) (n - nameLength h) ∷ []
+segmentParts h at (sized p n) = placedPart p at n ∷ []
+segmentParts h at (channels c n) = channelsFrom c 0 at n
 
 -- and of segments one after the other
-abbrev pub piecesFrom : List ℕ → ℕ → List Segment → List Piece
-piecesFrom h at [] = []
-piecesFrom h at (s ∷ []) = piecesIn h at s
-piecesFrom h at (s ∷ (t ∷ ss)) = piecesIn h at s ++ piecesFrom h (at + sizeIn s) (t ∷ ss)
+abbrev pub segmentsParts : List ℕ → ℕ → List Segment → List PlacedPart
+segmentsParts h at [] = []
+segmentsParts h at (s ∷ []) = segmentParts h at s
+segmentsParts h at (s ∷ (t ∷ ss)) = segmentParts h at s ++ segmentsParts h (at + sizeIn s) (t ∷ ss)
 
 -- the first of two places where a part may lie
 abbrev pub orElse : Reach → Reach → Reach

@@ -5,6 +5,8 @@ ghost use Prim.Native.Nat.{_<_, _≤_, _^_};
 ghost use lib.ListN.{length};
 ghost use Rattle.mrd_logic.specs.Checks.{first};
 ghost use Rattle.mrd_format.specs.Image.{checks, typeUnknown, lengthsDiffer, attributeLength, elementSize, pixelCount, bodySize, numbers};
+ghost use Rattle.mrd_format.specs.Kinds.{fixedSize};
+ghost use Rattle.mrd_format.specs.declared.kind.Kind.«the-variants».{Image};
 ghost use Rattle.mrd_format.specs.Sizes.{capped};
 ghost use Rattle.mrd_format.specs.Shapes.{imageNumbers};
 use mrd_format::ImageShape;
@@ -36,7 +38,7 @@ const ELEMENT_SIZES: [u64; 9] = [0, 2, 2, 4, 4, 4, 8, 8, 16];
 
 // The number of the first of checks 4, 8 and 9 that refuses the fixed part, or 0.
 pub fn fault(h: &[u8]) -> u8
-    requires { ⌜ length (now h) ≡ 206 ⌝ }
+    requires { ⌜ length (now h) ≡ fixedSize Image ⌝ }
     ensures { λ r. ⌜ r ≡ first (checks (now (h .entry))) ⌝ }
 {
     if read_u16(h, VERSION) != 1 {
@@ -53,7 +55,7 @@ pub fn fault(h: &[u8]) -> u8
 
 // Whether the data type is not one of 1 to 8.
 fn type_unknown(h: &[u8]) -> bool
-    requires { ⌜ length (now h) ≡ 206 ⌝ }
+    requires { ⌜ length (now h) ≡ fixedSize Image ⌝ }
     ensures { λ r. ⌜ r ≡ typeUnknown (now (h .entry)) ⌝ }
 {
     let data_type = read_u16(h, DATA_TYPE);
@@ -65,7 +67,7 @@ fn type_unknown(h: &[u8]) -> bool
 
 // Whether the header's attribute length differs from the 8-byte one.
 fn lengths_differ(h: &[u8]) -> bool
-    requires { ⌜ length (now h) ≡ 206 ⌝ }
+    requires { ⌜ length (now h) ≡ fixedSize Image ⌝ }
     ensures { λ r. ⌜ r ≡ lengthsDiffer (now (h .entry)) ⌝ }
 {
     (read_u32(h, ATTRIBUTE_STRING_LEN) as u64) != attribute_length(h)
@@ -73,7 +75,7 @@ fn lengths_differ(h: &[u8]) -> bool
 
 // The bytes of the attributes: the 8-byte length.
 pub fn attribute_length(h: &[u8]) -> u64
-    requires { ⌜ length (now h) ≡ 206 ⌝ }
+    requires { ⌜ length (now h) ≡ fixedSize Image ⌝ }
     ensures { λ r. ⌜ r ≡ attributeLength (now (h .entry)) ⌝ }
 {
     read_u64(h, ATTRIBUTE_LENGTH)
@@ -89,7 +91,7 @@ fn element_size(data_type: u16) -> u64
 
 // The number of pixels: four sizes of 16 bits each never pass 64 bits.
 fn pixel_count(h: &[u8]) -> u64
-    requires { ⌜ length (now h) ≡ 206 ⌝ }
+    requires { ⌜ length (now h) ≡ fixedSize Image ⌝ }
     ensures { λ r. ⌜ r ≡ pixelCount (now (h .entry)) ⌝ }
 {
     let plane = product(read_u16(h, MATRIX_SIZE_X), read_u16(h, MATRIX_SIZE_Y));
@@ -100,7 +102,7 @@ fn pixel_count(h: &[u8]) -> u64
 // The bytes after the fixed part, attributes and pixels, where they are within the message limit,
 // and some number above it where they are not: the true one may pass 64 bits.
 pub fn body_size(h: &[u8]) -> usize
-    requires { ⌜ length (now h) ≡ 206 ⌝ }
+    requires { ⌜ length (now h) ≡ fixedSize Image ⌝ }
     ensures { λ r. ⌜ (capped r ≡ capped (bodySize (now (h .entry)))) × (r < 2 ^ 40) ⌝ }
 {
     let attributes = cap(attribute_length(h));
@@ -110,7 +112,7 @@ pub fn body_size(h: &[u8]) -> usize
 
 // The fixed part's own numbers.
 pub fn shape(h: &[u8]) -> ImageShape
-    requires { ⌜ length (now h) ≡ 206 ⌝ }
+    requires { ⌜ length (now h) ≡ fixedSize Image ⌝ }
     ensures { λ r. ⌜ imageNumbers r ≡ numbers (now (h .entry)) ⌝ }
 {
     ImageShape {

@@ -48,7 +48,7 @@ pub fn measurement_uid(kind: Kind, h: &[u8]) -> u32
 }
 
 // Counter i of the seventeen in an acquisition's header.
-pub fn counter(h: &[u8], i: usize) -> u16
+pub fn encoding_counter(h: &[u8], i: usize) -> u16
     requires { ⌜ (length (now h) ≡ fixedSize Kind.Acquisition) × (i < layout counters .count) ⌝ }
     ensures { λ r. ⌜ r ≡ getD (countersOf (now (h .entry))) i 0 ⌝ }
 {

@@ -8,7 +8,7 @@ mod message;
 mod waveform;
 
 pub use identity::COUNTER_COUNT;
-pub use identity::counter;
+pub use identity::encoding_counter;
 pub use identity::measurement_uid;
 pub use identity::scan_counter;
 pub use message::fault;

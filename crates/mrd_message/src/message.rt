@@ -32,7 +32,7 @@ pub fn fault(kind: Kind, h: &[u8]) -> u8
 
 // 5 where the name's bytes hold no zero, or 0.
 fn name_fault(h: &[u8]) -> u8
-    requires { ⌜ length (now h) ≡ 1024 ⌝ }
+    requires { ⌜ length (now h) ≡ fixedSize Kind.ConfigurationName ⌝ }
     ensures { λ r. ⌜ r ≡ first (ownChecks Kind.ConfigurationName (now (h .entry))) ⌝ }
 {
     if Kind::NAME_FIXED <= name_length(h) {
@@ -43,7 +43,7 @@ fn name_fault(h: &[u8]) -> u8
 
 // How many bytes of a name's fixed part stand before the first zero.
 pub fn name_length(h: &[u8]) -> usize
-    requires { ⌜ length (now h) ≡ 1024 ⌝ }
+    requires { ⌜ length (now h) ≡ fixedSize Kind.ConfigurationName ⌝ }
     ensures { λ r. ⌜ (r ≡ nameLength (now (h .entry))) × (r ≤ 1024) ⌝ }
 {
     bytes::scan::find(h, 0, Kind::NAME_FIXED, 0)
@@ -51,7 +51,7 @@ pub fn name_length(h: &[u8]) -> usize
 
 // A text's length, by its fixed part.
 pub fn text_length(h: &[u8]) -> usize
-    requires { ⌜ length (now h) ≡ 4 ⌝ }
+    requires { ⌜ length (now h) ≡ fixedSize Kind.Text ⌝ }
     ensures { λ r. ⌜ (r ≡ textLength (now (h .entry))) × (r < 2 ^ 32) ⌝ }
 {
     read_u32(h, 0) as usize

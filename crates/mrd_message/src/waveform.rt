@@ -5,6 +5,8 @@ ghost use Prim.Native.Nat.{_<_, _^_};
 ghost use lib.ListN.{length};
 ghost use Rattle.mrd_logic.specs.Checks.{first};
 ghost use Rattle.mrd_format.specs.Waveform.{checks, bodySize, numbers};
+ghost use Rattle.mrd_format.specs.Kinds.{fixedSize};
+ghost use Rattle.mrd_format.specs.declared.kind.Kind.«the-variants».{Waveform};
 ghost use Rattle.mrd_format.specs.Shapes.{waveformNumbers};
 use mrd_format::WaveformShape;
 use mrd_format::refusal;
@@ -19,7 +21,7 @@ const CHANNELS: usize = 24;
 
 // 4 where check 4 refuses the header, or 0.
 pub(crate) fn fault(h: &[u8]) -> u8
-    requires { ⌜ length (now h) ≡ 32 ⌝ }
+    requires { ⌜ length (now h) ≡ fixedSize Waveform ⌝ }
     ensures { λ r. ⌜ r ≡ first (checks (now (h .entry))) ⌝ }
 {
     if read_u16(h, VERSION) != 1 {
@@ -30,7 +32,7 @@ pub(crate) fn fault(h: &[u8]) -> u8
 
 // The bytes after the header: every channel's samples.
 pub(crate) fn body_size(h: &[u8]) -> usize
-    requires { ⌜ length (now h) ≡ 32 ⌝ }
+    requires { ⌜ length (now h) ≡ fixedSize Waveform ⌝ }
     ensures { λ r. ⌜ (r ≡ bodySize (now (h .entry))) × (r < 2 ^ 40) ⌝ }
 {
     (product(read_u16(h, CHANNELS), read_u16(h, NUMBER_OF_SAMPLES)) * 4) as usize
@@ -38,7 +40,7 @@ pub(crate) fn body_size(h: &[u8]) -> usize
 
 // The header's own numbers.
 pub(crate) fn shape(h: &[u8]) -> WaveformShape
-    requires { ⌜ length (now h) ≡ 32 ⌝ }
+    requires { ⌜ length (now h) ≡ fixedSize Waveform ⌝ }
     ensures { λ r. ⌜ waveformNumbers r ≡ numbers (now (h .entry)) ⌝ }
 {
     WaveformShape {

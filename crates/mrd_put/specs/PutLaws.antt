@@ -12,7 +12,7 @@ use Rattle.mrd_numbers.specs.Stored.{front, partFrom, returned, front-next, fro
 use Rattle.mrd_format.specs.declared.kind.Kind.{Kind}
 use Rattle.mrd_format.specs.declared.kind.Kind.the-variants.{ConfigurationName, Acquisition, Image, Waveform}
 use Rattle.mrd_format.specs.Parts.{Contents}
-use Rattle.mrd_format.specs.Content.{fixedOf, bodyOf, contentOf}
+use Rattle.mrd_format.specs.Content.{fixedOf, bodyOf, bytesAfterId}
 use Rattle.mrd_put.specs.Room.{Ready}
 
 -- what a copy of all of a leaves in r
@@ -65,14 +65,14 @@ pub image-put : (h : List ℕ) (n : ℕ) (b o x y z : List ℕ) → length h ≡
 image-put h n b o x y z e room p q r = image-put-by h (toBytes 8 n) b o x y z e (length-toBytes 8 n) room p q r
 
 -- a name's message ends with its fixed part
-pub content-name : (c : Contents) → contentOf ConfigurationName c ≡ c .parts .name ++ replicate (1024 - length (c .parts .name)) 0
-unfolding contentOf fixedOf bodyOf
+pub content-name : (c : Contents) → bytesAfterId ConfigurationName c ≡ c .parts .name ++ replicate (1024 - length (c .parts .name)) 0
+unfolding bytesAfterId fixedOf bodyOf
 content-name c = append-nil _
 
 -- what follows the id fits in the part o: so do the parts that it is made of
-module _ (k : Kind) (c : Contents) (o : List ℕ) (ready : Ready k c) (room : length (contentOf k c) ≤ length o) where
+module _ (k : Kind) (c : Contents) (o : List ℕ) (ready : Ready k c) (room : length (bytesAfterId k c) ≤ length o) where
   -- by its kind
-  content-room : {j : Kind} → k ≡ j → length (contentOf j c) ≤ length o
+  content-room : {j : Kind} → k ≡ j → length (bytesAfterId j c) ≤ length o
   content-room e = rw e at room
 
   pub name-room : k ≡ ConfigurationName → (length (c .parts .name) ≤ 1024) × (1024 ≤ length o)
@@ -83,16 +83,16 @@ module _ (k : Kind) (c : Contents) (o : List ℕ) (ready : Ready k c) (room : le
       let fits = simp (length-append, length-replicate) at (rw content-name at (content-room e)) in
       (omega arith, omega (arith, fits))
 
-  pub text-room : contentOf k c ≡ toBytes 4 (length (c .parts .text)) ++ c .parts .text →
+  pub text-room : bytesAfterId k c ≡ toBytes 4 (length (c .parts .text)) ++ c .parts .text →
       (length (c .parts .text) < 2 ^ 32) × (4 + length (c .parts .text) ≤ length o)
   text-room made = (ready .text, rw (made, length-append, length-toBytes) at room)
 
   pub acquisition-room : k ≡ Acquisition → length (c .header) + (length (c .parts .trajectory) + length (c .parts .samples)) ≤ length o
-  unfolding contentOf fixedOf bodyOf
+  unfolding bytesAfterId fixedOf bodyOf
   acquisition-room e = simp length-append at (content-room e)
 
   pub image-room : k ≡ Image → (length (c .header) ≡ 198) × (206 + (length (c .parts .attributes) + length (c .parts .pixels)) ≤ length o)
-  unfolding contentOf fixedOf bodyOf
+  unfolding bytesAfterId fixedOf bodyOf
   image-room e =
       let fixed : length (c .header ++ toBytes 8 (length (c .parts .attributes))) ≡ 206 = rw e at (ready .fixed) in
       let header : length (c .header) + 8 ≡ 206 = rw (length-append, length-toBytes) at fixed in
@@ -101,5 +101,5 @@ module _ (k : Kind) (c : Contents) (o : List ℕ) (ready : Ready k c) (room : le
       (omega arith, rw (fixed, length-append) at fits)
 
   pub waveform-room : k ≡ Waveform → length (c .header) + length (c .parts .waveform) ≤ length o
-  unfolding contentOf fixedOf bodyOf
+  unfolding bytesAfterId fixedOf bodyOf
   waveform-room e = simp length-append at (content-room e)

@@ -7,7 +7,7 @@ use lib.ListN.{length}
 use Rattle.mrd_format.specs.declared.kind.Kind.{Kind}
 use Rattle.mrd_format.specs.Kinds.{fixedSize}
 use Rattle.mrd_format.specs.Parts.{Contents}
-use Rattle.mrd_format.specs.Content.{fixedOf, contentOf}
+use Rattle.mrd_format.specs.Content.{fixedOf, bytesAfterId}
 
 -- what is given makes a whole fixed part, and a text's length fits its four bytes
 pub record Ready (k : Kind) (c : Contents) : Type 0 where
@@ -16,4 +16,4 @@ pub record Ready (k : Kind) (c : Contents) : Type 0 where
 
 -- what is given is ready, and the part o of the output has room for what follows the id
 abbrev pub Roomy : Kind → Contents → List ℕ → Type 0
-Roomy k c o = Ready k c × (length (contentOf k c) ≤ length o)
+Roomy k c o = Ready k c × (length (bytesAfterId k c) ≤ length o)

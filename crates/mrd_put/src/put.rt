@@ -8,7 +8,7 @@ ghost use Rattle.mrd_numbers.specs.Little.{toBytes};
 ghost use Rattle.mrd_numbers.specs.Stored.{front};
 ghost use Rattle.mrd_format.specs.Kinds.{fixedSize, headerSize};
 ghost use Rattle.mrd_format.specs.Parts.{contents};
-ghost use Rattle.mrd_format.specs.Content.{contentOf};
+ghost use Rattle.mrd_format.specs.Content.{bytesAfterId};
 ghost use Rattle.mrd_put.specs.Room.{Roomy};
 use mrd_format::Kind;
 use mrd_numbers::put_u32;
@@ -31,7 +31,7 @@ pub fn put_content(
     requires { ⌜ Roomy kind
         (contents (now header) (now name) (now text) (now trajectory) (now samples) (now attributes) (now pixels) (now waveform))
         (now out) ⌝ }
-    ensures { λ _. ⌜ now (out .exit) ≡ front (contentOf kind
+    ensures { λ _. ⌜ now (out .exit) ≡ front (bytesAfterId kind
         (contents (now (header .entry)) (now (name .entry)) (now (text .entry)) (now (trajectory .entry)) (now (samples .entry))
         (now (attributes .entry)) (now (pixels .entry)) (now (waveform .entry))))
         (now (out .entry)) ⌝ }

@@ -16,7 +16,7 @@ use Rattle.mrd_format.specs.declared.kind.Kind.{Kind}
 use Rattle.mrd_format.specs.declared.kind.Identified.the-variants.{Known, Unknown}
 use Rattle.mrd_format.specs.Kinds.{idOf, identified}
 use Rattle.mrd_format.specs.Parts.{Contents}
-use Rattle.mrd_format.specs.Content.{contentOf, messageOf}
+use Rattle.mrd_format.specs.Content.{bytesAfterId, messageOf}
 use Rattle.mrd_write_checks.specs.WriteChecks.{lengthsOf, judged}
 use Rattle.mrd_write_checks.specs.GivenLaws.{unless-number, given-numbered}
 use Rattle.mrd_put.specs.Room.{Ready}
@@ -57,7 +57,7 @@ module _ (k : Kind) (c : Contents) (at : ℕ) (o : List ℕ) where
     no-room h = ends-refused (last ∙ rw (lt-ltb _ _ h))
 
     -- the position, the id and what follows it lie in the output
-    pub within : at + z ≤ length o → Ready k c × (at + (2 + length (contentOf k c)) ≤ length o)
+    pub within : at + z ≤ length o → Ready k c × (at + (2 + length (bytesAfterId k c)) ≤ length o)
     within h =
         let d = judged-answered k c e in
         let s = passed-sound k c (d .0) in
@@ -65,16 +65,16 @@ module _ (k : Kind) (c : Contents) (at : ℕ) (o : List ℕ) where
 
     -- the id put into the part from the position on, and the content into the part after it
     pub room : at + z ≤ length o → (id : ℕ) (x y : List ℕ) → id ≡ idOf k → x ≡ toBytes 2 id ++ drop 2 (partFrom at o) →
-        y ≡ front (contentOf k c) (partFrom (at + 2) (returned at o x)) → Ends k c at o (answered (at + z)) (returned (at + 2) (returned at o x) y)
+        y ≡ front (bytesAfterId k c) (partFrom (at + 2) (returned at o x)) → Ends k c at o (answered (at + z)) (returned (at + 2) (returned at o x) y)
     unfolding outputAs messageOf
     room h id x y i p q =
         let a : answerAs (Known k) c at o ≡ answered (at + z) = last ∙ rw (le-ltb _ _ h) in
         let first : returned at o x ≡ stored at (toBytes 2 id) o = stored-part at o (toBytes 2 id) x p in
-        let second : returned (at + 2) (returned at o x) y ≡ stored (at + 2) (contentOf k c) (returned at o x) =
-        stored-part (at + 2) (returned at o x) (contentOf k c) y q in
-        let whole : stored (at + 2) (contentOf k c) (stored at (toBytes 2 id) o) ≡ stored at (toBytes 2 id ++ contentOf k c) o =
-        stored-next at (toBytes 2 id) (contentOf k c) o (omega (arith, within h .1)) in
-        (sym a, rw (a, ← i) (second ∙ ap (stored (at + 2) (contentOf k c)) first ∙ whole))
+        let second : returned (at + 2) (returned at o x) y ≡ stored (at + 2) (bytesAfterId k c) (returned at o x) =
+        stored-part (at + 2) (returned at o x) (bytesAfterId k c) y q in
+        let whole : stored (at + 2) (bytesAfterId k c) (stored at (toBytes 2 id) o) ≡ stored at (toBytes 2 id ++ bytesAfterId k c) o =
+        stored-next at (toBytes 2 id) (bytesAfterId k c) o (omega (arith, within h .1)) in
+        (sym a, rw (a, ← i) (second ∙ ap (stored (at + 2) (bytesAfterId k c)) first ∙ whole))
 
 -- a kind that is known, and an id that is not in the table
 pub write-known : (id : ℕ) (k : Kind) (c : Contents) (at : ℕ) (o o′ : List ℕ) (a : Answer ℕ) → identified id ≡ Known k → Ends k c at o a o′ →

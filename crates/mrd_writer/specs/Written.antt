@@ -18,7 +18,7 @@ use Rattle.mrd_format.specs.Segments.{nameLength, reachSize}
 use Rattle.mrd_format.specs.Texts.{textLength}
 use Rattle.mrd_format.specs.Message.{idAt, fixedPart, ownChecks, bodySize, sizeOf, WellFormed}
 use Rattle.mrd_format.specs.Parts.{Part, Contents}
-use Rattle.mrd_format.specs.Content.{segmentsOf, extentOf, fixedOf, contentOf, messageOf}
+use Rattle.mrd_format.specs.Content.{segmentsOf, extentOf, fixedOf, bytesAfterId, messageOf}
 use Rattle.mrd_format.specs.Made.{Holds, Fitting, made-length, fixed-length, made-fixed}
 use Rattle.mrd_write_checks.specs.declared.lengths.Lengths.{Lengths}
 use Rattle.mrd_write_checks.specs.WriteChecks.{givenFixed, givenOwnChecks, givenSize, partLengths, lengthList, lengthsBy, lengthsOf, dueLengths}
@@ -124,7 +124,7 @@ written-size Waveform c s = omega arith
 pub message-length : (k : Kind) (c : Contents) → Sound k c → length (messageOf k c) ≡ contentsSize k c
 message-length k c s = made-length k c (sound-fitting k c s) ∙ written-size k c s
 
-pub content-length : (k : Kind) (c : Contents) → Sound k c → 2 + length (contentOf k c) ≡ contentsSize k c
+pub content-length : (k : Kind) (c : Contents) → Sound k c → 2 + length (bytesAfterId k c) ≡ contentsSize k c
 unfolding messageOf
 content-length k c s = omega (arith, message-length k c s)
 

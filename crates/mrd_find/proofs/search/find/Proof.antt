@@ -101,8 +101,8 @@ loop-holds c =
     let asked = c .before .before .before .before .before .before .before .before .before .before .before .asked in
     start (counters-length _) (asked .given .0)
 
-counter-requires : tie.Need-counter-requires Inv-loop μ-loop Inv-records μ-records
-counter-requires c κs = (header-long (read-at (c .before .before)), omega (arith, c .loop-test .taken))
+encoding-counter-requires : tie.Need-encoding-counter-requires Inv-loop μ-loop Inv-records μ-records
+encoding-counter-requires c κs = (header-long (read-at (c .before .before)), omega (arith, c .loop-test .taken))
 
 mul-if2 : tie.Need-mul-if2 Inv-loop μ-loop Inv-records μ-records
 mul-if2 c = omega arith
@@ -118,7 +118,7 @@ records-again-2 c =
     let loop = c .before .before .before .before .loop in
     let test : loop .i < 17 = omega (arith, c .before .before .before .loop-test .taken) in
     no-match (read-at (c .before .before .before .before .before))
-    (differs (loop .inv) test (λ e. c .if2 .taken (c .before .before .counter .ensures ∙ e)))
+    (differs (loop .inv) test (λ e. c .if2 .taken (c .before .before .encoding-counter .ensures ∙ e)))
 
 add-i : tie.Need-add-i Inv-loop μ-loop Inv-records μ-records
 add-i c = omega arith
@@ -130,7 +130,7 @@ loop-again : tie.Need-loop-again Inv-loop μ-loop Inv-records μ-records
 loop-again c =
     let loop = c .before .before .before .before .loop in
     let test : loop .i < 17 = omega (arith, c .before .before .before .loop-test .taken) in
-    step (loop .inv) test (sym (c .before .before .counter .ensures) ∙ c .if2 .left)
+    step (loop .inv) test (sym (c .before .before .encoding-counter .ensures) ∙ c .if2 .left)
 
 check-from-requires : tie.Need-check-from-requires Inv-loop μ-loop Inv-records μ-records
 check-from-requires c κs = search needs
@@ -176,7 +176,7 @@ find-spec =
     part-fixed-part-end
     fixed-part-requires
     loop-holds
-    counter-requires
+    encoding-counter-requires
     mul-if2
     shared-slice-read-if2
     records-less-2

@@ -10,7 +10,7 @@ use borrow.Author.Needs.{needs}
 use Rattle.mrd_numbers.specs.Little.{toBytes}
 use Rattle.mrd_format.specs.declared.kind.Kind.{Kind}
 use Rattle.mrd_format.specs.Parts.{Contents, contents}
-use Rattle.mrd_format.specs.Content.{fixedOf, bodyOf, contentOf}
+use Rattle.mrd_format.specs.Content.{fixedOf, bodyOf, bytesAfterId}
 use Rattle.mrd_format.proofs.kind.Kind.{the-type}
 use Rattle.mrd_format.proofs.Arms.{arm-same}
 use Rattle.mrd_put.specs.PutLaws.{content-name, name-room, text-room, acquisition-room, image-room, waveform-room}
@@ -25,9 +25,9 @@ given s =
 
 -- a text of any of the three kinds is put after its length
 text-made : (c : Contents) (k : Kind) → OneOf (1 ∷ 2 ∷ 4 ∷ []) (tagOf the-type k) →
-    contentOf k c ≡ toBytes 4 (length (c .parts .text)) ++ c .parts .text
-unfolding contentOf fixedOf bodyOf
-text-made c k o = arm-same (λ (j : Kind). contentOf j c) _ (1 ∷ 2 ∷ 4 ∷ []) k o refl
+    bytesAfterId k c ≡ toBytes 4 (length (c .parts .text)) ++ c .parts .text
+unfolding bytesAfterId fixedOf bodyOf
+text-made c k o = arm-same (λ (j : Kind). bytesAfterId j c) _ (1 ∷ 2 ∷ 4 ∷ []) k o refl
 
 put-name-requires : tie.Need-put-name-requires
 put-name-requires c κs =
@@ -63,19 +63,19 @@ returns-2 c =
     rw (text-made (given s) (s .args .kind) (c .before .before .before .before .match .keys2)) (c .before .before .put-text .ensures)
 
 returns-3 : tie.Need-returns-3
-unfolding contentOf fixedOf bodyOf
+unfolding bytesAfterId fixedOf bodyOf
 returns-3 c = rw (c .enum-told2 .given .1)
 
 returns-4 : tie.Need-returns-4
-unfolding contentOf fixedOf bodyOf
+unfolding bytesAfterId fixedOf bodyOf
 returns-4 c = rw (c .before .before .before .before .enum-told3 .given .1) (c .before .before .put-acquisition .ensures)
 
 returns-5 : tie.Need-returns-5
-unfolding contentOf fixedOf bodyOf
+unfolding bytesAfterId fixedOf bodyOf
 returns-5 c = rw (c .before .before .before .before .enum-told4 .given .1) (c .before .before .put-image .ensures)
 
 returns-6 : tie.Need-returns-6
-unfolding contentOf fixedOf bodyOf
+unfolding bytesAfterId fixedOf bodyOf
 returns-6 c = rw (c .before .before .before .before .enum-told5 .given .1) (c .before .before .put-joined .ensures)
 
 pub put-content-spec : {M : Type 1} → statement M

@@ -13,8 +13,8 @@ use Rattle.mrd_logic.specs.Every.{Every}
 use Rattle.mrd_logic.specs.Choice.{both}
 use Rattle.mrd_logic.specs.Joined.{joined, joined-append}
 use Rattle.mrd_format.specs.Parts.{filler, same, Extent}
-use Rattle.mrd_format.specs.Segments.{Segment, fixed, counted, padded, sized, channels, sizeIn, total, nameLength, Piece, channelsFrom, piecesIn, piecesFrom}
-use Rattle.mrd_format.specs.Content.{normalPiece}
+use Rattle.mrd_format.specs.Segments.{Segment, fixed, counted, padded, sized, channels, sizeIn, total, nameLength, PlacedPart, channelsFrom, segmentParts, segmentsParts}
+use Rattle.mrd_format.specs.Content.{normalPart}
 
 -- the bytes of two parts, the second after the first
 pub take-next : (a b at : ℕ) (m : List ℕ) → take (a + b) (drop at m) ≡ take a (drop at m) ++ take b (drop (at + a) m)
@@ -43,12 +43,12 @@ allPlain [] = true
 allPlain (s ∷ ss) = plain s && allPlain ss
 
 -- the bytes of a message's channels
-pub joined-channels : (m : List ℕ) (n c at z : ℕ) → joined (map (normalPiece m) (channelsFrom n c at z)) ≡ take (n * z) (drop at m)
+pub joined-channels : (m : List ℕ) (n c at z : ℕ) → joined (map (normalPart m) (channelsFrom n c at z)) ≡ take (n * z) (drop at m)
 joined-channels m zero c at z = rw zero-mul
 joined-channels m (suc n) c at z = rw (take-parts n z at m, joined-channels m n (suc c) (at + z) z)
 
 module _ (m h : List ℕ) where
-  segment-joined : (at : ℕ) (s : Segment) → plain s ≡ true → joined (map (normalPiece m) (piecesIn h at s)) ≡ take (sizeIn s) (drop at m)
+  segment-joined : (at : ℕ) (s : Segment) → plain s ≡ true → joined (map (normalPart m) (segmentParts h at s)) ≡ take (sizeIn s) (drop at m)
   segment-joined at (fixed n) e = append-nil (take n (drop at m))
   segment-joined at (counted w p) e = append-nil (take w (drop at m))
   segment-joined at (sized p n) e = rw (not-true (same p filler) e) (append-nil (take n (drop at m)))
@@ -57,7 +57,7 @@ module _ (m h : List ℕ) where
 
   -- the parts of such segments, joined, are the bytes that the segments take
   pub segments-joined : (at : ℕ) (ss : List Segment) → allPlain ss ≡ true →
-      joined (map (normalPiece m) (piecesFrom h at ss)) ≡ take (total ss) (drop at m)
+      joined (map (normalPart m) (segmentsParts h at ss)) ≡ take (total ss) (drop at m)
   segments-joined at [] e = refl
   segments-joined at (s ∷ []) e = segment-joined at s (both (plain s) true e .0)
   segments-joined at (s ∷ (t ∷ ss)) e =
@@ -86,8 +86,8 @@ Fits h (padded n) = nameLength h ≤ n
 Fits h (sized p n) = Unit {0}
 Fits h (channels c n) = Unit {0}
 
-abbrev pub placesOf : List Piece → List Extent
-placesOf ps = map (λ (p : Piece). p .place) ps
+abbrev pub placesOf : List PlacedPart → List Extent
+placesOf ps = map (λ (p : PlacedPart). p .place) ps
 
 pub channels-adjoin : (n c at z : ℕ) → Adjoins at (at + n * z) (placesOf (channelsFrom n c at z))
 channels-adjoin zero c at z = rw zero-mul (sym (add-zero at))
@@ -96,7 +96,7 @@ channels-adjoin (suc n) c at z =
     (refl, rw end (channels-adjoin n (suc c) (at + z) z))
 
 module _ (h : List ℕ) where
-  segment-adjoins : (at : ℕ) (s : Segment) → Fits h s → Adjoins at (at + sizeIn s) (placesOf (piecesIn h at s))
+  segment-adjoins : (at : ℕ) (s : Segment) → Fits h s → Adjoins at (at + sizeIn s) (placesOf (segmentParts h at s))
   segment-adjoins at (fixed n) f = (refl, refl)
   segment-adjoins at (counted w p) f = (refl, refl)
   segment-adjoins at (padded n) f = (refl, (refl, omega arith))
@@ -104,11 +104,11 @@ module _ (h : List ℕ) where
   segment-adjoins at (channels c n) f = channels-adjoin c 0 at n
 
   -- the parts of segments adjoin, from the first byte to the last
-  pub segments-adjoin : (at : ℕ) (ss : List Segment) → Every (Fits h) ss → Adjoins at (at + total ss) (placesOf (piecesFrom h at ss))
+  pub segments-adjoin : (at : ℕ) (ss : List Segment) → Every (Fits h) ss → Adjoins at (at + total ss) (placesOf (segmentsParts h at ss))
   segments-adjoin at [] f = sym (add-zero at)
   segments-adjoin at (s ∷ []) f = segment-adjoins at s (f .0)
   segments-adjoin at (s ∷ (t ∷ ss)) f =
       let end : at + (sizeIn s + total (t ∷ ss)) ≡ at + sizeIn s + total (t ∷ ss) = sym (add-assoc at (sizeIn s) (total (t ∷ ss))) in
       rw (map-append, end)
-      (adjoins-append at (at + sizeIn s) (at + sizeIn s + total (t ∷ ss)) (placesOf (piecesIn h at s)) _
+      (adjoins-append at (at + sizeIn s) (at + sizeIn s + total (t ∷ ss)) (placesOf (segmentParts h at s)) _
       (segment-adjoins at s (f .0)) (segments-adjoin (at + sizeIn s) (t ∷ ss) (f .1)))

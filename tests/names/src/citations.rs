@@ -1,5 +1,6 @@
-//! What the pages cite from `crates/`: each name is declared where the page says, what the README promises is in
-//! docs/DEMANDS.md too, and the functions that it names for Rattle are public and ask nothing of their caller.
+//! What the pages cite from `crates/`: each name is declared where the page says, also on the map of the crates; what
+//! the README promises is in docs/DEMANDS.md too, and the functions that it names for Rattle are public and ask
+//! nothing of their caller.
 
 use crate::definitions::Sources;
 use crate::read;
@@ -35,9 +36,12 @@ fn home<'a>(name: &str, path: &'a str, sources: &'a Sources) -> &'a str {
 pub fn faults(sources: &Sources) -> Vec<String> {
     let readme = read(sources.root(), "README.md");
     let demands = read(sources.root(), "docs/DEMANDS.md");
+    let crates = read(sources.root(), "docs/CRATES.md");
     let promises = section(&readme, "## What is promised");
     let mut faults = strays("README.md", promises, sources);
     faults.extend(strays("docs/DEMANDS.md", &demands, sources));
+    let inside = crates.split("## Beside the crates").next();
+    faults.extend(strays("docs/CRATES.md", inside.unwrap_or(""), sources));
     faults.extend(not_demanded(promises, &demands));
     faults.extend(not_callable(section(&readme, "### From Rattle"), sources));
     faults
@@ -64,14 +68,20 @@ fn name(piece: &str) -> Option<&str> {
     (!name.is_empty() && name.chars().all(of_a_name)).then_some(name)
 }
 
-/// The paths in backticks of a page, and names of files without their path. `crates/NAME/src/` stands for every
-/// crate's.
+/// The paths in backticks of a page, and names of files without their path. `crates/NAME/src/` and `src/` stand for
+/// every crate's, `..Laws.antt` for every file of that end.
 fn paths(page: &str) -> BTreeSet<&str> {
     let pieces = page.split('`').skip(1).step_by(2);
+    let of_every_crate = |piece: &str| {
+        let inside = ["specs/", "src/", "proofs/"];
+        piece.ends_with('/') && inside.iter().any(|folder| piece.starts_with(folder))
+    };
     let is_path = |piece: &&str| {
         (piece.contains('/') || piece.ends_with(".antt") || piece.ends_with(".rt"))
             && !piece.contains(' ')
             && !piece.contains("/NAME/")
+            && !piece.starts_with("..")
+            && !of_every_crate(piece)
     };
     pieces.filter(is_path).collect()
 }

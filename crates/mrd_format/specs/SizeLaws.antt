@@ -4,11 +4,12 @@ use Prim.Native.Nat.{ℕ, zero, suc, _+_, _*_, _≤_}
 use native.Mathlib.Nat.{mul-le-mul, le-mul-of-pos-right, min-eq-left, mul-zero}
 use native.Mathlib.Omega.{arith}
 use mathlib.Core.Path.{_≡_, ap}
-use mathlib.Core.Bool.{Bool, true, false, _&&_}
+use mathlib.Core.Bool.{Bool, true, _&&_}
 use mathlib.Core.List.{List, [], _∷_}
 use native.Mathlib.Decide.{decLe}
 use lib.Dec.{T, leb, leb→le}
 use lib.ListN.{getD}
+use mir.Facts.{and-yes}
 use Rattle.mrd_format.specs.Message.{limit}
 use Rattle.mrd_format.specs.Sizes.{capped}
 use Rattle.mrd_format.specs.Image.{elementSize}
@@ -26,18 +27,10 @@ elementSize-small t = within t (0 ∷ 2 ∷ 2 ∷ 4 ∷ 4 ∷ 4 ∷ 8 ∷ 8 ∷ 
     small [] = true
     small (x ∷ xs) = leb x 16 && small xs
 
-    left : (a b : Bool) → T (a && b) → T a
-    left true b h = tt
-    left false b h = h
-
-    right : (a b : Bool) → T (a && b) → T b
-    right true b h = h
-    right false b h = absurd h
-
     within : (t : ℕ) (xs : List ℕ) → T (small xs) → getD xs t 0 ≤ 16
     within t [] h = omega arith
-    within zero (x ∷ xs) h = leb→le x 16 (left (leb x 16) (small xs) h)
-    within (suc t) (x ∷ xs) h = within t xs (right (leb x 16) (small xs) h)
+    within zero (x ∷ xs) h = leb→le x 16 (and-yes (leb x 16) (small xs) h .0)
+    within (suc t) (x ∷ xs) h = within t xs (and-yes (leb x 16) (small xs) h .1)
 
 -- a factor may be capped before it is multiplied
 pub capped-product : (a b : ℕ) → capped (capped a * b) ≡ capped (a * b)

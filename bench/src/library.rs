@@ -5,6 +5,8 @@ use crate::baseline::writer::Message;
 use crate::baseline::Refusal;
 use cotterleaf::raw;
 
+pub use cotterleaf::raw::mrd_cursor as Cursor;
+
 fn answer<T>(number: u32, record: usize, byte: usize, value: T) -> Result<T, Refusal> {
     if number == 0 {
         Ok(value)
@@ -37,7 +39,28 @@ pub fn walk(stream: &[u8], mut each: impl FnMut(usize, usize, u16)) -> Result<us
 }
 
 pub fn field(stream: &[u8], n: usize, offset: usize) -> Result<Field, Refusal> {
-    let a = raw::field(stream, n, offset);
+    field_of(raw::field(stream, n, offset))
+}
+
+pub fn field_at(stream: &[u8], cursor: Cursor, offset: usize) -> Result<Field, Refusal> {
+    field_of(raw::field_at(stream, cursor, offset))
+}
+
+/// A cursor at each record of an accepted stream.
+pub fn cursors(stream: &[u8]) -> Vec<Cursor> {
+    let mut cursor = raw::beginning();
+    let mut cursors = vec![];
+    loop {
+        let step = raw::next(stream, cursor);
+        if step.ended {
+            return cursors;
+        }
+        cursors.push(cursor);
+        cursor = step.next;
+    }
+}
+
+fn field_of(a: raw::mrd_field_answer) -> Result<Field, Refusal> {
     let field = match a.value_type {
         raw::MRD_SIGNED => Field::Signed(a.integer),
         raw::MRD_FLOAT => Field::Float(a.float_bits),

@@ -9,6 +9,7 @@ mod baseline;
 mod library;
 mod made;
 mod operations;
+mod reads;
 mod table;
 mod timing;
 
@@ -87,4 +88,5 @@ fn main() {
     let operations: Vec<&str> = rows.iter().map(|row| row.operation).collect();
     print_table(rows, &operations);
     print_second_reader(effort);
+    reads::print(effort);
 }

@@ -35,6 +35,7 @@ impl Measured<'_> {
             self.check(),
             self.walk(),
             self.field(),
+            self.field_at(),
             self.find(),
             self.normal_form(out),
             self.normal_form_against_copy(out),
@@ -79,6 +80,34 @@ impl Measured<'_> {
             &mut || taken(questions::field(black_box(s), n, 14)),
         );
         self.row("field", Unit::PerMessage, times)
+    }
+
+    /// The scan counter of every record, where a walk stood before it; a text has none.
+    fn field_at(&self) -> Row {
+        let s = self.stream;
+        let cursors = library::cursors(s);
+        let walks = reader::Records::of(s).walks();
+        assert_eq!(walks.len(), cursors.len());
+        for (cursor, walk) in cursors.iter().zip(&walks) {
+            for offset in [0, 2, 13, 14, 40, 178, 276, 339] {
+                let answer = questions::field_at(walk, offset);
+                assert_eq!(library::field_at(s, *cursor, offset), answer);
+            }
+        }
+        let times = alternately(
+            self.effort,
+            &mut || {
+                cursors
+                    .iter()
+                    .for_each(|c| taken(library::field_at(black_box(s), *c, 14)))
+            },
+            &mut || {
+                walks
+                    .iter()
+                    .for_each(|w| taken(questions::field_at(black_box(w), 14)))
+            },
+        );
+        self.row("field at a cursor", Unit::PerMessage, times)
     }
 
     /// The last readout, by its counters.

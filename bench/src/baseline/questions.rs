@@ -113,6 +113,13 @@ pub fn field(stream: &[u8], n: usize, offset: usize) -> Result<Field, Refusal> {
     Ok(element.read(&stream[record.start + 2..], offset))
 }
 
+/// The element at `offset` of the header of the record that is due where the walk stands.
+pub fn field_at(walk: &Records, offset: usize) -> Result<Field, Refusal> {
+    let record = walk.clone().next().ok_or(Refusal::of(16))??;
+    let element = element_at(&record.kind, offset).ok_or(Refusal::of(20))?;
+    Ok(element.read(&walk.stream()[record.start + 2..], offset))
+}
+
 /// The number of the first acquisition from record `n` on with these counters.
 pub fn find(stream: &[u8], n: usize, counters: &[u16; 17]) -> Result<usize, Refusal> {
     let mut found = None;

@@ -41,6 +41,22 @@ impl<'a> Records<'a> {
         }
     }
 
+    pub fn stream(&self) -> &'a [u8] {
+        self.stream
+    }
+
+    /// Where the walk stands before each record of an accepted stream.
+    pub fn walks(mut self) -> Vec<Records<'a>> {
+        let mut walks = vec![];
+        loop {
+            let here = self.clone();
+            match self.next() {
+                None => return walks,
+                Some(_) => walks.push(here),
+            }
+        }
+    }
+
     #[inline]
     fn judge(&self, left: &[u8]) -> Result<(Kind, Phase), u32> {
         if self.phase == Phase::Closed {

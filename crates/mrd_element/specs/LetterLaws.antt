@@ -1,25 +1,19 @@
--- A table drawn as letters is the table: the letter at an offset tells what starts there.
+-- The letters of a table, stretch by stretch: which stretches are filled by elements of one width and letter, and that past the end none starts.
 -- Assumes nothing.
-use Prim.Native.Nat.{ℕ, zero, suc, _+_, _*_, _≤_, _<_}
-use native.Mathlib.Nat.{zero-add, add-zero, add-suc, suc-add, suc-mul}
+use Prim.Native.Nat.{ℕ, zero, suc, _+_, _-_, _*_, _≤_, _<_}
+use native.Mathlib.Nat.{add-zero, add-suc, suc-add, suc-mul}
 use native.Mathlib.Omega.{arith}
-use mathlib.Core.Path.{_≡_, refl, sym, ap, _∙_}
+use mathlib.Core.Path.{_≡_, refl, sym}
 use mathlib.Core.Logic.{_⊎_, inl, inr, ⊎-elim}
 use mathlib.Core.Bool.{Bool, true, false, _&&_}
 use mathlib.Core.List.{List, [], _∷_}
-use lib.Dec.{T, leb, eqb, leb→le}
-use lib.ListN.{length, getD}
+use lib.Dec.{T, leb, eqb, leb→le, eqb→eq}
 use mir.Facts.{and-yes}
 use borrow.Author.Tests.{eqb-true, eqb-false}
 use Rattle.mrd_logic.specs.Choice.{pick, either}
 use Rattle.mrd_format.specs.Elements.{ElementType, u16, u32, u64, i32, f32, width, Run}
 use Rattle.mrd_element.specs.Element.{Start, starts, none, startsAmong, typeAt}
-use Rattle.mrd_element.specs.Letters.{letterOf}
-
--- the letters of n bytes of a table, from a byte on
-abbrev pub drawnFrom : ℕ → ℕ → List Run → List ℕ
-drawnFrom zero at t = []
-drawnFrom (suc n) at t = letterOf (typeAt t at) ∷ drawnFrom n (suc at) t
+use Rattle.mrd_element.specs.Letters.{letterOf, letterAmong}
 
 -- whether every run of a table ends within n bytes
 abbrev pub within : ℕ → List Run → Bool
@@ -70,21 +64,26 @@ none-past n t at inside past = by-start (typeAt t at) refl
     by-start (starts e) found = absurd (omega (arith, starts-inside n t at e inside found, wide e))
     by-start none found = found
 
--- within a list it does not matter what stands past it
-pub getD-default : (l : List ℕ) (i d e : ℕ) → i < length l → getD l i d ≡ getD l i e
-getD-default [] i d e h = absurd (omega arith)
-getD-default (x ∷ l) zero d e h = refl
-getD-default (x ∷ l) (suc i) d e h = getD-default l i d e (omega arith)
+-- whether a table has, in n bytes from an offset on, the elements of one width from `first` on
+abbrev pub fills : ℕ → ℕ → List Run → ℕ → ℕ → ℕ → Bool
+fills zero at t first w letter = true
+fills (suc n) at t first w letter = eqb (letterAmong first w letter at) (letterOf (typeAt t at)) && fills n (suc at) t first w letter
 
--- the letter at each place of a drawn table, and the dot past it
-drawn-from :
-    (n i : ℕ) (t : List Run) (at : ℕ) → ((j : ℕ) → i + n ≤ j → typeAt t j ≡ none) → getD
-    (drawnFrom n i t) at 46 ≡ letterOf (typeAt t (i + at))
-drawn-from zero i t at past = rw (past (i + at) (omega arith))
-drawn-from (suc n) i t zero past = rw add-zero
-drawn-from (suc n) i t (suc at) past =
-    drawn-from n (suc i) t at (λ j h. past j (omega arith)) ∙ ap (λ (j : ℕ). letterOf (typeAt t j)) (suc-add i at ∙ sym (add-suc i at))
+-- then each of their letters is the table's
+fills-at :
+    (n from i : ℕ) (t : List Run) (first w letter : ℕ) → T (fills n from t first w letter) → i < n → letterAmong first w letter (from + i) ≡ letterOf
+    (typeAt t (from + i))
+fills-at zero from i t first w letter h small = absurd (omega arith)
+fills-at (suc n) from zero t first w letter h small =
+    rw add-zero (eqb→eq _ _ (and-yes (eqb (letterAmong first w letter from) (letterOf (typeAt t from))) _ h .0))
+fills-at (suc n) from (suc i) t first w letter h small =
+    let later = and-yes (eqb (letterAmong first w letter from) (letterOf (typeAt t from))) _ h .1 in
+    rw (add-suc, ← suc-add) (fills-at n (suc from) i t first w letter later (omega arith))
 
-pub drawn-letter : (n : ℕ) (t : List Run) (at : ℕ) → T (within n t) → getD (drawnFrom n 0 t) at 46 ≡ letterOf (typeAt t at)
-drawn-letter n t at inside =
-    drawn-from n 0 t at (λ j h. none-past n t j inside (omega arith)) ∙ ap (λ (j : ℕ). letterOf (typeAt t j)) (zero-add at)
+-- the same of an offset from the first to the last of a stretch
+pub letter-among :
+    (first last w letter : ℕ) (t : List Run) (at : ℕ) → T (fills (1 + last - first) first t first w letter) → first ≤ at → at ≤ last → letterAmong
+    first w letter at ≡ letterOf (typeAt t at)
+letter-among first last w letter t at h low high =
+    let e : first + (at - first) ≡ at = omega arith in
+    rw e at (fills-at (1 + last - first) first (at - first) t first w letter h (omega arith))

@@ -1,6 +1,8 @@
 -- The letters that the source has in place of a header's table, one for each byte: what starts there.
 -- Assumes nothing.
-use Prim.Native.Nat.{ℕ}
+use Prim.Native.Nat.{ℕ, _-_, _%_}
+use lib.Dec.{eqb}
+use Rattle.mrd_logic.specs.Choice.{pick}
 use Rattle.mrd_format.specs.Elements.{u16, u32, u64, i32, f32}
 use Rattle.mrd_element.specs.Element.{Start, starts, none}
 
@@ -12,3 +14,7 @@ letterOf (starts u64) = 81
 letterOf (starts i32) = 105
 letterOf (starts f32) = 102
 letterOf none = 46
+
+-- the letter at an offset among elements of one width, from the first one's offset on, and a dot where none of them starts
+abbrev pub letterAmong : ℕ → ℕ → ℕ → ℕ → ℕ
+letterAmong first width letter at = pick (eqb ((at - first) % width) 0) letter 46

@@ -1,58 +1,82 @@
-// The header lists, drawn: a letter for each byte of a header. `H`, `I` and `Q` stand where a whole
-// number of 2, 4 or 8 bytes starts, `i` where a signed number and `f` where a float of 4 bytes does,
-// and a dot where no element starts. A line of letters is a group of fields of the header list.
+// The header lists in short: for each stretch of a header the letter of the elements that fill it. `H`, `I`
+// and `Q` are whole numbers of 2, 4 and 8 bytes, `i` is a signed number and `f` a float of 4 bytes; a dot
+// says that no element starts there.
 //
+// The lists are code and no array: an array that a function indexes is laid out anew at each call.
 // Assumes nothing.
 use mrd_format::Kind;
 ghost use mathlib.Core.Path.{_≡_};
-ghost use lib.ListN.{getD};
+ghost use Prim.Native.Nat.{_≤_, _<_};
+ghost use Rattle.mrd_format.specs.declared.kind.Kind.«the-variants».{Acquisition, Image, Waveform};
 ghost use Rattle.mrd_element.specs.Element.{elementAt};
-ghost use Rattle.mrd_element.specs.Letters.{letterOf};
+ghost use Rattle.mrd_element.specs.Letters.{letterOf, letterAmong};
 
-const ACQUISITION: [u8; 340] = *b"\
-    H.Q.......\
-    I...I...I...\
-    I...I...I...\
-    H.H.H.\
-    Q.......Q.......Q.......Q.......Q.......Q.......Q.......Q.......\
-    Q.......Q.......Q.......Q.......Q.......Q.......Q.......Q.......\
-    H.H.H.H.H.\
-    f...\
-    f...f...f...f...f...f...f...f...f...f...f...f...f...f...f...\
-    H.H.H.H.H.H.H.H.H.H.H.H.H.H.H.H.H.\
-    i...i...i...i...i...i...i...i...\
-    f...f...f...f...f...f...f...f...";
-
-const IMAGE: [u8; 198] = *b"\
-    H.H.Q.......\
-    I...\
-    H.H.H.\
-    f...f...f...\
-    H.\
-    f...f...f...f...f...f...f...f...f...f...f...f...f...f...f...\
-    H.H.H.H.H.H.\
-    I...\
-    I...I...I...\
-    H.H.H.\
-    i...i...i...i...i...i...i...i...\
-    f...f...f...f...f...f...f...f...\
-    I...";
-
-const WAVEFORM: [u8; 32] = *b"\
-    H.Q.......\
-    I...I...I...\
-    H.H.\
-    f...\
-    H.";
-
-// The letter at an offset, and a dot past the end.
-fn letter_in(letters: &[u8], offset: usize) -> u8
-    ensures { λ r. ⌜ r ≡ getD (now (letters .entry)) offset 46 ⌝ }
+// The letter at an offset among elements of one width, from the first one's offset on, and a dot where none
+// of them starts.
+fn among(first: usize, width: usize, letter: u8, offset: usize) -> u8
+    requires { ⌜ (0 < width) × (first ≤ offset) ⌝ }
+    ensures { λ r. ⌜ r ≡ letterAmong first width letter offset ⌝ }
 {
-    if offset < letters.len() {
-        return letters[offset];
+    if (offset - first) % width == 0 {
+        return letter;
     }
     b'.'
+}
+
+// The letter at an offset of an acquisition's header, and a dot past its end.
+fn acquisition(offset: usize) -> u8
+    ensures { λ r. ⌜ r ≡ letterOf (elementAt Acquisition offset) ⌝ }
+{
+    match offset {
+        0..=1 => among(0, 2, b'H', offset),
+        2..=9 => among(2, 8, b'Q', offset),
+        10..=33 => among(10, 4, b'I', offset),
+        34..=39 => among(34, 2, b'H', offset),
+        40..=167 => among(40, 8, b'Q', offset),
+        168..=177 => among(168, 2, b'H', offset),
+        178..=241 => among(178, 4, b'f', offset),
+        242..=275 => among(242, 2, b'H', offset),
+        276..=307 => among(276, 4, b'i', offset),
+        308..=339 => among(308, 4, b'f', offset),
+        _ => b'.',
+    }
+}
+
+// The letter at an offset of an image's header, and a dot past its end.
+fn image(offset: usize) -> u8
+    ensures { λ r. ⌜ r ≡ letterOf (elementAt Image offset) ⌝ }
+{
+    match offset {
+        0..=3 => among(0, 2, b'H', offset),
+        4..=11 => among(4, 8, b'Q', offset),
+        12..=15 => among(12, 4, b'I', offset),
+        16..=21 => among(16, 2, b'H', offset),
+        22..=33 => among(22, 4, b'f', offset),
+        34..=35 => among(34, 2, b'H', offset),
+        36..=95 => among(36, 4, b'f', offset),
+        96..=107 => among(96, 2, b'H', offset),
+        108..=123 => among(108, 4, b'I', offset),
+        124..=129 => among(124, 2, b'H', offset),
+        130..=161 => among(130, 4, b'i', offset),
+        162..=193 => among(162, 4, b'f', offset),
+        194..=197 => among(194, 4, b'I', offset),
+        _ => b'.',
+    }
+}
+
+// The letter at an offset of a waveform's header, and a dot past its end.
+fn waveform(offset: usize) -> u8
+    ensures { λ r. ⌜ r ≡ letterOf (elementAt Waveform offset) ⌝ }
+{
+    match offset {
+        0..=1 => among(0, 2, b'H', offset),
+        2..=9 => among(2, 8, b'Q', offset),
+        10..=21 => among(10, 4, b'I', offset),
+        22..=25 => among(22, 2, b'H', offset),
+        26..=29 => among(26, 4, b'f', offset),
+        30..=31 => among(30, 2, b'H', offset),
+        _ => b'.',
+    }
 }
 
 // The letter at an offset of a kind's header, and a dot where the kind has no header.
@@ -60,9 +84,9 @@ pub fn letter(kind: Kind, offset: usize) -> u8
     ensures { λ r. ⌜ r ≡ letterOf (elementAt kind offset) ⌝ }
 {
     match kind {
-        Kind::Acquisition => letter_in(&ACQUISITION, offset),
-        Kind::Image => letter_in(&IMAGE, offset),
-        Kind::Waveform => letter_in(&WAVEFORM, offset),
+        Kind::Acquisition => acquisition(offset),
+        Kind::Image => image(offset),
+        Kind::Waveform => waveform(offset),
         _ => b'.',
     }
 }

@@ -1,11 +1,13 @@
 -- The laws of little-endian numbers, each once for every width.
 -- Assumes nothing.
-use Prim.Native.Nat.{ℕ, zero, suc, _+_, _*_, _^_, _≤_}
-use native.Mathlib.Nat.{zero-add, suc-add, zero-mul, mul-one, pow-zero, pow-succ', mul-left-comm}
+use Prim.Native.Nat.{ℕ, zero, suc, _+_, _*_, _%_, _^_, _≤_, _<_}
+use native.Mathlib.Nat.{zero-add, suc-add, add-comm, zero-mul, mul-one, mul-suc, pow-zero, pow-suc, pow-succ', mul-left-comm}
 use native.Mathlib.Omega.{arith}
 use mathlib.Core.Path.{_≡_, refl, ap, _∙_}
 use mathlib.Core.List.{List, [], _∷_, _++_}
 use lib.ListN.{length, getD, take, drop, length-drop}
+use lib.Bits.{bitOr, or-shifted-r}
+use lib.Pow.{pow-add, shl-exact}
 use lib.Seq.{drop-drop, take-take, take-append-le, drop-append-le, take-nil, drop-nil}
 use Rattle.mrd_numbers.specs.Little.{fromBytes, num}
 
@@ -61,3 +63,16 @@ unfolding num
 num-one [] i = simp (drop-nil, take-nil)
 num-one (x ∷ s) zero = omega arith
 num-one (x ∷ s) (suc i) = num-one s i
+
+-- so many bytes have eight times so many bits
+byte-bits : (w : ℕ) → 2 ^ (8 * w) ≡ 256 ^ w
+byte-bits zero = refl
+byte-bits (suc w) = rw (mul-suc, pow-suc, pow-add, byte-bits w, pow-suc)
+
+-- the low part, and the high part shifted above it in a word that both fill: their 'or' is the number
+pub num-joined :
+    (m n : ℕ) (s : List ℕ) (i lo hi : ℕ) → lo ≡ num m s i → hi ≡ num n s (i + m) → lo < 2 ^ (8 * m) → hi < 2 ^ (8 * n) →
+    bitOr lo ((hi * 2 ^ (8 * m)) % 2 ^ (8 * n + 8 * m)) ≡ num (m + n) s i
+num-joined m n s i lo hi low high small fits =
+    let kept : (hi * 2 ^ (8 * m)) % 2 ^ (8 * n + 8 * m) ≡ hi * 2 ^ (8 * m) = shl-exact (8 * n) (8 * m) _ fits (omega arith) in
+    rw (kept, or-shifted-r hi (8 * m) lo small, byte-bits, num-halves, ← low, ← high) (add-comm (hi * 256 ^ m) lo)

@@ -2,6 +2,9 @@
 //
 // Each read asks that its bytes lie in the slice, and each write that they fit at the front of the
 // part it is given; the callers, all proved, have tested the whole fixed part before. Assumes nothing.
+//
+// A read puts two halves together by a shift and an 'or'; the compiler makes one load of it, and one store of a
+// write.
 ghost use mathlib.Core.Path.{_≡_};
 ghost use Prim.Native.Nat.{_+_, _≤_, _<_};
 ghost use mathlib.Core.List.{_++_};
@@ -20,7 +23,7 @@ pub fn read_u16(s: &[u8], at: usize) -> u16
     requires { ⌜ at + 2 ≤ length (now s) ⌝ }
     ensures { λ r. ⌜ r ≡ num 2 (now (s .entry)) at ⌝ }
 {
-    wide(s[at]) + wide(s[at + 1]) * 256
+    wide(s[at]) | (wide(s[at + 1]) << 8)
 }
 
 // The number of the four bytes from `at` on: two halves.
@@ -28,7 +31,7 @@ pub fn read_u32(s: &[u8], at: usize) -> u32
     requires { ⌜ at + 4 ≤ length (now s) ⌝ }
     ensures { λ r. ⌜ r ≡ num 4 (now (s .entry)) at ⌝ }
 {
-    (read_u16(s, at) as u32) + (read_u16(s, at + 2) as u32) * 65536
+    (read_u16(s, at) as u32) | ((read_u16(s, at + 2) as u32) << 16)
 }
 
 // The number of the eight bytes from `at` on: two halves.
@@ -36,7 +39,7 @@ pub fn read_u64(s: &[u8], at: usize) -> u64
     requires { ⌜ at + 8 ≤ length (now s) ⌝ }
     ensures { λ r. ⌜ r ≡ num 8 (now (s .entry)) at ⌝ }
 {
-    (read_u32(s, at) as u64) + (read_u32(s, at + 4) as u64) * 4294967296
+    (read_u32(s, at) as u64) | ((read_u32(s, at + 4) as u64) << 32)
 }
 
 // Stores v in the first two bytes of out; the others keep their content.

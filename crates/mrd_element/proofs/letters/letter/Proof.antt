@@ -1,36 +1,23 @@
--- `mrd_element::letters::letter` meets its contract: each row of letters is its header's table drawn, which one computation over the row tells.
+-- `mrd_element::letters::letter` meets its contract: a kind that has a header has its own function, and in any other no element starts.
 -- Assumes nothing.
-use mathlib.Core.Path.{refl, sym, _∙_}
+use mathlib.Core.Path.{refl, sym}
 use mathlib.Core.List.{[], _∷_}
 use Rattle.mrd_format.specs.declared.kind.Kind.{Kind}
-use Rattle.mrd_format.specs.Acquisition as acquisition
-use Rattle.mrd_format.specs.Image as image
-use Rattle.mrd_format.specs.Waveform as waveform
 use Rattle.mrd_format.proofs.Arms.{arm-same}
 use Rattle.mrd_element.specs.Element.{typeAt, elementAt}
 use Rattle.mrd_element.specs.Letters.{letterOf}
-use Rattle.mrd_element.specs.LetterLaws.{drawn-letter}
 use borrow.Author.Needs.{needs}
 use Rattle.mrd_element.proofs.letters.letter.Statement.{statement}
 use Rattle.mrd_element.proofs.letters.letter.Tie as tie
 
 returns : tie.Need-returns
-unfolding typeAt
-returns c = rw
-    (c .before .before .enum-told .given .1)
-    (c .letter-in .ensures ∙ drawn-letter 340 acquisition.table (c .before .before .before .before .args .offset) tt)
+returns c = rw (c .before .enum-told .given .1) (c .acquisition .ensures)
 
 returns-2 : tie.Need-returns-2
-unfolding typeAt
-returns-2 c = rw
-    (c .before .before .enum-told2 .given .1)
-    (c .letter-in2 .ensures ∙ drawn-letter 198 image.table (c .before .before .before .before .args .offset) tt)
+returns-2 c = rw (c .before .enum-told2 .given .1) (c .image .ensures)
 
 returns-3 : tie.Need-returns-3
-unfolding typeAt
-returns-3 c = rw
-    (c .before .before .enum-told3 .given .1)
-    (c .letter-in3 .ensures ∙ drawn-letter 32 waveform.table (c .before .before .before .before .args .offset) tt)
+returns-3 c = rw (c .before .enum-told3 .given .1) (c .waveform .ensures)
 
 returns-4 : tie.Need-returns-4
 unfolding typeAt
@@ -43,12 +30,9 @@ letter-spec =
     tie.close
     (tie.spec
     (λ c. search needs)
-    (λ c. search needs)
     (λ c κs. search needs)
     (λ c. search needs)
-    (λ c. search needs)
     (λ c κs. search needs)
-    (λ c. search needs)
     (λ c. search needs)
     (λ c κs. search needs)
     returns

@@ -1,0 +1,71 @@
+//! The number reads of the library, those that they replaced, and Rust's own, by width. The first two are the proved
+//! ones of crates/reads_compared. Each gives 0 where its bytes do not lie in the slice.
+
+/// The number of the bytes of a slice from a place on.
+pub type Read = fn(&[u8], usize) -> u64;
+
+pub struct Width {
+    pub bytes: usize,
+    pub old: Read,
+    pub new: Read,
+    /// `from_le_bytes`, in a function of its own like the others.
+    pub plain: Read,
+}
+
+pub const WIDTHS: [Width; 3] = [
+    Width {
+        bytes: 2,
+        old: old_u16,
+        new: new_u16,
+        plain: plain_u16,
+    },
+    Width {
+        bytes: 4,
+        old: old_u32,
+        new: new_u32,
+        plain: plain_u32,
+    },
+    Width {
+        bytes: 8,
+        old: old_u64,
+        new: new_u64,
+        plain: plain_u64,
+    },
+];
+
+/// The C function of the archive, and the same with a slice in place of pointer and length.
+macro_rules! read {
+    ($name:ident, $function:ident, $number:ty) => {
+        extern "C" {
+            fn $function(s: *const u8, length: usize, at: usize) -> $number;
+        }
+
+        #[inline]
+        fn $name(s: &[u8], at: usize) -> u64 {
+            // SAFETY: pointer and length are those of a slice that is borrowed for the call; any place may be given.
+            u64::from(unsafe { $function(s.as_ptr(), s.len(), at) })
+        }
+    };
+}
+
+read!(old_u16, old_read_u16, u16);
+read!(old_u32, old_read_u32, u32);
+read!(old_u64, old_read_u64, u64);
+read!(new_u16, new_read_u16, u16);
+read!(new_u32, new_read_u32, u32);
+read!(new_u64, new_read_u64, u64);
+
+macro_rules! plain {
+    ($name:ident, $number:ty) => {
+        #[inline(never)]
+        fn $name(s: &[u8], at: usize) -> u64 {
+            s.get(at..)
+                .and_then(|from| from.first_chunk())
+                .map_or(0, |&bytes| u64::from(<$number>::from_le_bytes(bytes)))
+        }
+    };
+}
+
+plain!(plain_u16, u16);
+plain!(plain_u32, u32);
+plain!(plain_u64, u64);

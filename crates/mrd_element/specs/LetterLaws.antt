@@ -3,7 +3,7 @@
 use Prim.Native.Nat.{ℕ, zero, suc, _+_, _-_, _*_, _≤_, _<_}
 use native.Mathlib.Nat.{add-zero, add-suc, suc-add, suc-mul}
 use native.Mathlib.Omega.{arith}
-use mathlib.Core.Path.{_≡_, refl, sym}
+use mathlib.Core.Path.{_≡_, refl, sym, _∙_}
 use mathlib.Core.Logic.{_⊎_, inl, inr, ⊎-elim}
 use mathlib.Core.Bool.{Bool, true, false, _&&_}
 use mathlib.Core.List.{List, [], _∷_}
@@ -80,10 +80,10 @@ fills-at (suc n) from (suc i) t first w letter h small =
     let later = and-yes (eqb (letterAmong first w letter from) (letterOf (typeAt t from))) _ h .1 in
     rw (add-suc, ← suc-add) (fills-at n (suc from) i t first w letter later (omega arith))
 
--- the same of an offset from the first to the last of a stretch
+-- a letter told among elements that fill a stretch, of an offset from its first to its last byte, is the table's
 pub letter-among :
-    (first last w letter : ℕ) (t : List Run) (at : ℕ) → T (fills (1 + last - first) first t first w letter) → first ≤ at → at ≤ last → letterAmong
-    first w letter at ≡ letterOf (typeAt t at)
-letter-among first last w letter t at h low high =
+    (first w letter last : ℕ) (t : List Run) (at r : ℕ) → r ≡ letterAmong first w letter at → first ≤ at → at ≤ last → T
+    (fills (1 + last - first) first t first w letter) → r ≡ letterOf (typeAt t at)
+letter-among first w letter last t at r told low high h =
     let e : first + (at - first) ≡ at = omega arith in
-    rw e at (fills-at (1 + last - first) first (at - first) t first w letter h (omega arith))
+    told ∙ rw e at (fills-at (1 + last - first) first (at - first) t first w letter h (omega arith))

@@ -16,5 +16,5 @@ letterOf (starts f32) = 102
 letterOf none = 46
 
 -- the letter at an offset among elements of one width, from the first one's offset on, and a dot where none of them starts
-abbrev pub letterAmong : ℕ → ℕ → ℕ → ℕ → ℕ
+unfoldable pub letterAmong : ℕ → ℕ → ℕ → ℕ → ℕ
 letterAmong first width letter at = pick (eqb ((at - first) % width) 0) letter 46

@@ -1,73 +1,73 @@
 -- `mrd_element::letters::acquisition` meets its contract: each stretch is filled by the elements that its arm names, which a computation tells.
 -- Assumes nothing.
-use mathlib.Core.Path.{sym, ap, _∙_}
+use mathlib.Core.Path.{sym, ap}
 use Rattle.mrd_format.specs.Acquisition.{table}
 use Rattle.mrd_element.specs.Element.{typeAt}
-use Rattle.mrd_element.specs.Letters.{letterOf}
+use Rattle.mrd_element.specs.Letters.{letterOf, letterAmong}
 use Rattle.mrd_element.specs.LetterLaws.{letter-among, none-past}
 use borrow.Author.Needs.{needs}
 use Rattle.mrd_element.proofs.letters.acquisition.Statement.{statement}
 use Rattle.mrd_element.proofs.letters.acquisition.Tie as tie
 
 returns : tie.Need-returns
-unfolding typeAt
+unfolding typeAt letterAmong
 returns c =
     let at = c .before .before .before .args .offset in
-    c .among .ensures ∙ letter-among 0 1 2 72 table at tt (search needs) (search needs)
+    letter-among _ _ _ 1 table at _ (c .among .ensures) (search needs) (search needs) tt
 
 returns-2 : tie.Need-returns-2
-unfolding typeAt
+unfolding typeAt letterAmong
 returns-2 c =
     let at = c .before .before .before .before .args .offset in
-    c .among2 .ensures ∙ letter-among 2 9 8 81 table at tt (search needs) (search needs)
+    letter-among _ _ _ 9 table at _ (c .among2 .ensures) (search needs) (search needs) tt
 
 returns-3 : tie.Need-returns-3
-unfolding typeAt
+unfolding typeAt letterAmong
 returns-3 c =
     let at = c .before .before .before .before .before .args .offset in
-    c .among3 .ensures ∙ letter-among 10 33 4 73 table at tt (search needs) (search needs)
+    letter-among _ _ _ 33 table at _ (c .among3 .ensures) (search needs) (search needs) tt
 
 returns-4 : tie.Need-returns-4
-unfolding typeAt
+unfolding typeAt letterAmong
 returns-4 c =
     let at = c .before .before .before .before .before .before .args .offset in
-    c .among4 .ensures ∙ letter-among 34 39 2 72 table at tt (search needs) (search needs)
+    letter-among _ _ _ 39 table at _ (c .among4 .ensures) (search needs) (search needs) tt
 
 returns-5 : tie.Need-returns-5
-unfolding typeAt
+unfolding typeAt letterAmong
 returns-5 c =
     let at = c .before .before .before .before .before .before .before .args .offset in
-    c .among5 .ensures ∙ letter-among 40 167 8 81 table at tt (search needs) (search needs)
+    letter-among _ _ _ 167 table at _ (c .among5 .ensures) (search needs) (search needs) tt
 
 returns-6 : tie.Need-returns-6
-unfolding typeAt
+unfolding typeAt letterAmong
 returns-6 c =
     let at = c .before .before .before .before .before .before .before .args .offset in
-    c .among6 .ensures ∙ letter-among 168 177 2 72 table at tt (search needs) (search needs)
+    letter-among _ _ _ 177 table at _ (c .among6 .ensures) (search needs) (search needs) tt
 
 returns-7 : tie.Need-returns-7
-unfolding typeAt
+unfolding typeAt letterAmong
 returns-7 c =
     let at = c .before .before .before .args .offset in
-    c .among7 .ensures ∙ letter-among 178 241 4 102 table at tt (search needs) (search needs)
+    letter-among _ _ _ 241 table at _ (c .among7 .ensures) (search needs) (search needs) tt
 
 returns-8 : tie.Need-returns-8
-unfolding typeAt
+unfolding typeAt letterAmong
 returns-8 c =
     let at = c .before .before .before .before .args .offset in
-    c .among8 .ensures ∙ letter-among 242 275 2 72 table at tt (search needs) (search needs)
+    letter-among _ _ _ 275 table at _ (c .among8 .ensures) (search needs) (search needs) tt
 
 returns-9 : tie.Need-returns-9
-unfolding typeAt
+unfolding typeAt letterAmong
 returns-9 c =
     let at = c .before .before .before .before .before .args .offset in
-    c .among9 .ensures ∙ letter-among 276 307 4 105 table at tt (search needs) (search needs)
+    letter-among _ _ _ 307 table at _ (c .among9 .ensures) (search needs) (search needs) tt
 
 returns-10 : tie.Need-returns-10
-unfolding typeAt
+unfolding typeAt letterAmong
 returns-10 c =
     let at = c .before .before .before .before .before .before .args .offset in
-    c .among10 .ensures ∙ letter-among 308 339 4 102 table at tt (search needs) (search needs)
+    letter-among _ _ _ 339 table at _ (c .among10 .ensures) (search needs) (search needs) tt
 
 returns-11 : tie.Need-returns-11
 unfolding typeAt

@@ -1,49 +1,49 @@
 -- `mrd_element::letters::waveform` meets its contract: each stretch is filled by the elements that its arm names, which a computation tells.
 -- Assumes nothing.
-use mathlib.Core.Path.{sym, ap, _∙_}
+use mathlib.Core.Path.{sym, ap}
 use Rattle.mrd_format.specs.Waveform.{table}
 use Rattle.mrd_element.specs.Element.{typeAt}
-use Rattle.mrd_element.specs.Letters.{letterOf}
+use Rattle.mrd_element.specs.Letters.{letterOf, letterAmong}
 use Rattle.mrd_element.specs.LetterLaws.{letter-among, none-past}
 use borrow.Author.Needs.{needs}
 use Rattle.mrd_element.proofs.letters.waveform.Statement.{statement}
 use Rattle.mrd_element.proofs.letters.waveform.Tie as tie
 
 returns : tie.Need-returns
-unfolding typeAt
+unfolding typeAt letterAmong
 returns c =
     let at = c .before .before .args .offset in
-    c .among .ensures ∙ letter-among 0 1 2 72 table at tt (search needs) (search needs)
+    letter-among _ _ _ 1 table at _ (c .among .ensures) (search needs) (search needs) tt
 
 returns-2 : tie.Need-returns-2
-unfolding typeAt
+unfolding typeAt letterAmong
 returns-2 c =
     let at = c .before .before .before .args .offset in
-    c .among2 .ensures ∙ letter-among 2 9 8 81 table at tt (search needs) (search needs)
+    letter-among _ _ _ 9 table at _ (c .among2 .ensures) (search needs) (search needs) tt
 
 returns-3 : tie.Need-returns-3
-unfolding typeAt
+unfolding typeAt letterAmong
 returns-3 c =
     let at = c .before .before .before .before .args .offset in
-    c .among3 .ensures ∙ letter-among 10 21 4 73 table at tt (search needs) (search needs)
+    letter-among _ _ _ 21 table at _ (c .among3 .ensures) (search needs) (search needs) tt
 
 returns-4 : tie.Need-returns-4
-unfolding typeAt
+unfolding typeAt letterAmong
 returns-4 c =
     let at = c .before .before .before .before .before .args .offset in
-    c .among4 .ensures ∙ letter-among 22 25 2 72 table at tt (search needs) (search needs)
+    letter-among _ _ _ 25 table at _ (c .among4 .ensures) (search needs) (search needs) tt
 
 returns-5 : tie.Need-returns-5
-unfolding typeAt
+unfolding typeAt letterAmong
 returns-5 c =
     let at = c .before .before .before .before .before .before .args .offset in
-    c .among5 .ensures ∙ letter-among 26 29 4 102 table at tt (search needs) (search needs)
+    letter-among _ _ _ 29 table at _ (c .among5 .ensures) (search needs) (search needs) tt
 
 returns-6 : tie.Need-returns-6
-unfolding typeAt
+unfolding typeAt letterAmong
 returns-6 c =
     let at = c .before .before .before .before .before .before .before .args .offset in
-    c .among6 .ensures ∙ letter-among 30 31 2 72 table at tt (search needs) (search needs)
+    letter-among _ _ _ 31 table at _ (c .among6 .ensures) (search needs) (search needs) tt
 
 returns-7 : tie.Need-returns-7
 unfolding typeAt

@@ -204,7 +204,7 @@ impl Measured<'_> {
 }
 
 /// Keeps the compiler from leaving out a call whose answer nobody looks at.
-fn taken<T>(answer: T) {
+pub fn taken<T>(answer: T) {
     black_box(answer);
 }
 

@@ -1,8 +1,9 @@
-//! The library's number reads beside those that they replaced and beside Rust's own, on the same bytes. Each read is
-//! a call: inside the library the compiler puts it where it is used.
+//! The library's number reads beside those that they replaced and beside Rust's own, on the same bytes. Each is read
+//! in a loop over all places of a slice, as the library reads: where it is used, and not by a call.
 
+use crate::operations::taken;
 use crate::timing::{alternately, Effort, Times};
-use reads::{Read, Width, WIDTHS};
+use reads::{new_together, old_together, plain_together};
 use std::hint::black_box;
 use streams::rng::Rng;
 
@@ -13,32 +14,29 @@ const HEAD: &str = "\
 | bytes read | now | before | speed, before = 1 | Rust's `from_le_bytes` | speed, Rust's = 1 |
 |---|---|---|---|---|---|";
 
-/// The sum of the numbers at all places.
-fn sum(read: Read, s: &[u8], places: usize) -> u64 {
-    (0..places).fold(0_u64, |sum, at| sum.wrapping_add(read(s, at)))
-}
-
 fn cell(times: Times, places: usize) -> String {
     let each = |seconds: f64| seconds * 1e9 / places as f64;
     let (median, least, most) = (each(times.median), each(times.least), each(times.most));
     format!("{median:.2} ns ({least:.2} to {most:.2})")
 }
 
-fn line(width: &Width, s: &[u8], effort: Effort) -> String {
-    let places = s.len() + 1 - width.bytes;
-    let sums = [width.new, width.old, width.plain].map(|read| sum(read, s, places));
-    assert!(sums.iter().all(|&other| other == sums[0]));
-    let timed = |read: Read| {
-        move || {
-            black_box(sum(black_box(read), black_box(s), places));
-        }
-    };
-    let (mut new, mut old, mut plain) = (timed(width.new), timed(width.old), timed(width.plain));
-    let before = alternately(effort, &mut new, &mut old);
-    let rust = alternately(effort, &mut new, &mut plain);
+fn line(width: usize, s: &[u8], effort: Effort) -> String {
+    let places = s.len() + 1 - width;
+    assert_eq!(
+        new_together(s, width, places),
+        old_together(s, width, places)
+    );
+    assert_eq!(
+        new_together(s, width, places),
+        plain_together(s, width, places)
+    );
+    let new = &mut || taken(new_together(black_box(s), black_box(width), places));
+    let old = &mut || taken(old_together(black_box(s), black_box(width), places));
+    let plain = &mut || taken(plain_together(black_box(s), black_box(width), places));
+    let before = alternately(effort, new, old);
+    let rust = alternately(effort, new, plain);
     format!(
-        "| {} | {} | {} | {:.2} | {} | {:.2} |",
-        width.bytes,
+        "| {width} | {} | {} | {:.2} | {} | {:.2} |",
         cell(before.library, places),
         cell(before.baseline, places),
         before.speed,
@@ -50,7 +48,7 @@ fn line(width: &Width, s: &[u8], effort: Effort) -> String {
 pub fn print(effort: Effort) {
     let s = Rng::new(3).bytes(BYTES);
     println!("\n{HEAD}");
-    for width in &WIDTHS {
+    for width in [2, 4, 8] {
         println!("{}", line(width, &s, effort));
     }
 }

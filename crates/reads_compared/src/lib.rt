@@ -7,7 +7,7 @@ mod old;
 ghost use mathlib.Core.Path.{_≡_};
 ghost use Prim.Native.Nat.{_+_};
 ghost use lib.Dec.{leb};
-ghost use Rattle.reads_compared.specs.Within.{numWithin};
+ghost use Rattle.reads_compared.specs.Within.{numWithin, readWidth, xorTo};
 
 // Whether `width` bytes from `at` on lie in a slice of this length. A sum of both could wrap.
 fn lies(length: usize, at: usize, width: usize) -> bool
@@ -86,4 +86,54 @@ pub extern "C" fn new_read_u64(s: &[u8], at: usize) -> u64
         return mrd_numbers::read_u64(s, at);
     }
     0
+}
+
+// The number at a place, by its width, 8 bytes for any width but 2 and 4, as it is read before.
+fn old_number(s: &[u8], at: usize, width: usize) -> u64
+    ensures { λ r. ⌜ r ≡ numWithin (readWidth width) (now (s .entry)) at ⌝ }
+{
+    match width {
+        2 => old_read_u16(s, at) as u64,
+        4 => old_read_u32(s, at) as u64,
+        _ => old_read_u64(s, at),
+    }
+}
+
+// The numbers at the first places, each read in the loop itself: 'exclusive or' of all of them.
+#[no_mangle]
+pub extern "C" fn old_xor(s: &[u8], width: usize, places: usize) -> u64
+    ensures { λ r. ⌜ r ≡ xorTo (readWidth width) (now (s .entry)) places ⌝ }
+{
+    let mut x: u64 = 0;
+    let mut i: usize = 0;
+    while i < places {
+        x = x ^ old_number(s, i, width);
+        i += 1;
+    }
+    x
+}
+
+// The number at a place, by its width, 8 bytes for any width but 2 and 4, as it is read now.
+fn new_number(s: &[u8], at: usize, width: usize) -> u64
+    ensures { λ r. ⌜ r ≡ numWithin (readWidth width) (now (s .entry)) at ⌝ }
+{
+    match width {
+        2 => new_read_u16(s, at) as u64,
+        4 => new_read_u32(s, at) as u64,
+        _ => new_read_u64(s, at),
+    }
+}
+
+// The numbers at the first places, each read in the loop itself: 'exclusive or' of all of them.
+#[no_mangle]
+pub extern "C" fn new_xor(s: &[u8], width: usize, places: usize) -> u64
+    ensures { λ r. ⌜ r ≡ xorTo (readWidth width) (now (s .entry)) places ⌝ }
+{
+    let mut x: u64 = 0;
+    let mut i: usize = 0;
+    while i < places {
+        x = x ^ new_number(s, i, width);
+        i += 1;
+    }
+    x
 }

@@ -8,7 +8,7 @@ pub struct Width {
     pub bytes: usize,
     pub old: Read,
     pub new: Read,
-    /// `from_le_bytes`, in a function of its own like the others.
+    /// Rust's `from_le_bytes`.
     pub plain: Read,
 }
 
@@ -40,7 +40,6 @@ macro_rules! read {
             fn $function(s: *const u8, length: usize, at: usize) -> $number;
         }
 
-        #[inline]
         fn $name(s: &[u8], at: usize) -> u64 {
             // SAFETY: pointer and length are those of a slice that is borrowed for the call; any place may be given.
             u64::from(unsafe { $function(s.as_ptr(), s.len(), at) })
@@ -57,7 +56,7 @@ read!(new_u64, new_read_u64, u64);
 
 macro_rules! plain {
     ($name:ident, $number:ty) => {
-        #[inline(never)]
+        #[inline]
         fn $name(s: &[u8], at: usize) -> u64 {
             s.get(at..)
                 .and_then(|from| from.first_chunk())
@@ -69,3 +68,29 @@ macro_rules! plain {
 plain!(plain_u16, u16);
 plain!(plain_u32, u32);
 plain!(plain_u64, u64);
+
+/// Reads of a width, 2, 4 or 8 bytes, at the first places of a slice, taken together by 'exclusive or'.
+pub type Together = fn(&[u8], usize, usize) -> u64;
+
+extern "C" {
+    fn old_xor(s: *const u8, length: usize, width: usize, places: usize) -> u64;
+    fn new_xor(s: *const u8, length: usize, width: usize, places: usize) -> u64;
+}
+
+pub fn old_together(s: &[u8], width: usize, places: usize) -> u64 {
+    // SAFETY: pointer and length are those of a slice that is borrowed for the call; any numbers may be given.
+    unsafe { old_xor(s.as_ptr(), s.len(), width, places) }
+}
+
+pub fn new_together(s: &[u8], width: usize, places: usize) -> u64 {
+    // SAFETY: as above.
+    unsafe { new_xor(s.as_ptr(), s.len(), width, places) }
+}
+
+pub fn plain_together(s: &[u8], width: usize, places: usize) -> u64 {
+    match width {
+        2 => (0..places).fold(0, |x, at| x ^ plain_u16(s, at)),
+        4 => (0..places).fold(0, |x, at| x ^ plain_u32(s, at)),
+        _ => (0..places).fold(0, |x, at| x ^ plain_u64(s, at)),
+    }
+}

@@ -1,7 +1,7 @@
 //! Old and new reads side by side on the same bytes, and beside Rust's own: every width, every place at both ends of
 //! a slice and beyond, drawn and patterned bytes, between pages that must not be touched.
 
-use reads::{Read, Width, WIDTHS};
+use reads::{new_together, old_together, plain_together, Read, Width, WIDTHS};
 use streams::rng::Rng;
 
 /// The first place where a read and Rust's own differ.
@@ -110,6 +110,22 @@ fn every_number_of_two_bytes() {
             s[place] = byte;
             let number = u64::from(byte) << (8 * place);
             assert_eq!((old(&s, 0), new(&s, 0)), (number, number));
+        }
+    }
+}
+
+/// The loops that the benchmark times read the same numbers.
+#[test]
+fn numbers_of_many_places_together() {
+    let mut rng = Rng::new(6);
+    for _ in 0..200 {
+        let length = rng.below(300) as usize;
+        let s = rng.bytes(length);
+        let places = rng.below(320) as usize;
+        for width in [2, 4, 8] {
+            let plain = plain_together(&s, width, places);
+            assert_eq!(old_together(&s, width, places), plain);
+            assert_eq!(new_together(&s, width, places), plain);
         }
     }
 }

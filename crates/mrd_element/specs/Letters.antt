@@ -1,4 +1,4 @@
--- The letters that the source has in place of a header's table, one for each byte: what starts there.
+-- The letters by which the source tells what starts at an offset of a header, in place of the header's table.
 -- Assumes nothing.
 use Prim.Native.Nat.{ℕ, _-_, _%_}
 use lib.Dec.{eqb}

@@ -2,7 +2,7 @@
 // and `Q` are whole numbers of 2, 4 and 8 bytes, `i` is a signed number and `f` a float of 4 bytes; a dot
 // says that no element starts there.
 //
-// The lists are code and no array: an array that a function indexes is laid out anew at each call.
+// The lists are code and no array: an array that a function indexes is laid out on the stack at each call.
 // Assumes nothing.
 use mrd_format::Kind;
 ghost use mathlib.Core.Path.{_≡_};

@@ -22,7 +22,7 @@ fn lies(length: usize, at: usize, width: usize) -> bool
     true
 }
 
-// The number of the two bytes from `at` on, as it is read before; 0 where they do not lie in s.
+// The number of the two bytes from `at` on, as it was read before; 0 where they do not lie in s.
 #[no_mangle]
 pub extern "C" fn old_read_u16(s: &[u8], at: usize) -> u16
     ensures { λ r. ⌜ r ≡ numWithin 2 (now (s .entry)) at ⌝ }
@@ -33,7 +33,7 @@ pub extern "C" fn old_read_u16(s: &[u8], at: usize) -> u16
     0
 }
 
-// The number of the four bytes from `at` on, as it is read before; 0 where they do not lie in s.
+// The number of the four bytes from `at` on, as it was read before; 0 where they do not lie in s.
 #[no_mangle]
 pub extern "C" fn old_read_u32(s: &[u8], at: usize) -> u32
     ensures { λ r. ⌜ r ≡ numWithin 4 (now (s .entry)) at ⌝ }
@@ -44,7 +44,7 @@ pub extern "C" fn old_read_u32(s: &[u8], at: usize) -> u32
     0
 }
 
-// The number of the eight bytes from `at` on, as it is read before; 0 where they do not lie in s.
+// The number of the eight bytes from `at` on, as it was read before; 0 where they do not lie in s.
 #[no_mangle]
 pub extern "C" fn old_read_u64(s: &[u8], at: usize) -> u64
     ensures { λ r. ⌜ r ≡ numWithin 8 (now (s .entry)) at ⌝ }
@@ -88,7 +88,7 @@ pub extern "C" fn new_read_u64(s: &[u8], at: usize) -> u64
     0
 }
 
-// The number at a place, by its width, 8 bytes for any width but 2 and 4, as it is read before.
+// The number at a place, by its width, 8 bytes for any width but 2 and 4, as it was read before.
 fn old_number(s: &[u8], at: usize, width: usize) -> u64
     ensures { λ r. ⌜ r ≡ numWithin (readWidth width) (now (s .entry)) at ⌝ }
 {

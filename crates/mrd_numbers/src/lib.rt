@@ -3,8 +3,8 @@
 // Each read asks that its bytes lie in the slice, and each write that they fit at the front of the
 // part it is given; the callers, all proved, have tested the whole fixed part before. Assumes nothing.
 //
-// A read puts two halves together by a shift and an 'or'; the compiler makes one load of it, and one store of a
-// write.
+// A read puts two halves together by a shift and an 'or', of which the compiler makes one load
+// (`tests/reads/loads` looks at it).
 ghost use mathlib.Core.Path.{_≡_};
 ghost use Prim.Native.Nat.{_+_, _≤_, _<_};
 ghost use mathlib.Core.List.{_++_};

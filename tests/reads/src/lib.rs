@@ -69,24 +69,25 @@ plain!(plain_u16, u16);
 plain!(plain_u32, u32);
 plain!(plain_u64, u64);
 
-/// Reads of a width, 2, 4 or 8 bytes, at the first places of a slice, taken together by 'exclusive or'.
-pub type Together = fn(&[u8], usize, usize) -> u64;
-
 extern "C" {
     fn old_xor(s: *const u8, length: usize, width: usize, places: usize) -> u64;
     fn new_xor(s: *const u8, length: usize, width: usize, places: usize) -> u64;
 }
 
+/// The numbers of a width, 2, 4 or 8 bytes, at the first places of a slice, taken together by 'exclusive or', each read
+/// in the loop itself: what the benchmark times.
 pub fn old_together(s: &[u8], width: usize, places: usize) -> u64 {
     // SAFETY: pointer and length are those of a slice that is borrowed for the call; any numbers may be given.
     unsafe { old_xor(s.as_ptr(), s.len(), width, places) }
 }
 
+/// The same by the new reads.
 pub fn new_together(s: &[u8], width: usize, places: usize) -> u64 {
     // SAFETY: as above.
     unsafe { new_xor(s.as_ptr(), s.len(), width, places) }
 }
 
+/// The same by Rust's own.
 pub fn plain_together(s: &[u8], width: usize, places: usize) -> u64 {
     match width {
         2 => (0..places).fold(0, |x, at| x ^ plain_u16(s, at)),

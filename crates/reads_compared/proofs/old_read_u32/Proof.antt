@@ -7,14 +7,11 @@ use Rattle.reads_compared.specs.Within.{inside, outside}
 use Rattle.reads_compared.proofs.old_read_u32.Statement.{statement}
 use Rattle.reads_compared.proofs.old_read_u32.Tie as tie
 
-read-u32-requires : tie.Need-read-u32-requires
-read-u32-requires c κs = leb-true _ _ (sym (c .before .lies .ensures) ∙ c .if1 .taken)
-
-returns : tie.Need-returns
-returns c = inside 4 _ _ _ (sym (c .before .before .lies .ensures) ∙ c .before .if1 .taken) (c .read-u32 .ensures)
-
-returns-2 : tie.Need-returns-2
-returns-2 c = outside 4 (c .before .before .before .args .s .now) _ (sym (c .before .lies .ensures) ∙ c .if1 .left)
-
 pub old-read-u32-spec : {M : Type 1} → statement M
-old-read-u32-spec = tie.close (tie.spec (λ c κs. search needs) read-u32-requires returns returns-2)
+old-read-u32-spec =
+    tie.close
+    (tie.spec
+    (λ c κs. search needs)
+    (λ c κs. leb-true _ _ (sym (c .before .lies .ensures) ∙ c .if1 .taken))
+    (λ c. inside 4 _ _ _ (sym (c .before .before .lies .ensures) ∙ c .before .if1 .taken) (c .read-u32 .ensures))
+    (λ c. outside 4 (c .before .before .before .args .s .now) _ (sym (c .before .lies .ensures) ∙ c .if1 .left)))

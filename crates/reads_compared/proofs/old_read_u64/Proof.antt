@@ -7,14 +7,11 @@ use Rattle.reads_compared.specs.Within.{inside, outside}
 use Rattle.reads_compared.proofs.old_read_u64.Statement.{statement}
 use Rattle.reads_compared.proofs.old_read_u64.Tie as tie
 
-read-u64-requires : tie.Need-read-u64-requires
-read-u64-requires c κs = leb-true _ _ (sym (c .before .lies .ensures) ∙ c .if1 .taken)
-
-returns : tie.Need-returns
-returns c = inside 8 _ _ _ (sym (c .before .before .lies .ensures) ∙ c .before .if1 .taken) (c .read-u64 .ensures)
-
-returns-2 : tie.Need-returns-2
-returns-2 c = outside 8 (c .before .before .before .args .s .now) _ (sym (c .before .lies .ensures) ∙ c .if1 .left)
-
 pub old-read-u64-spec : {M : Type 1} → statement M
-old-read-u64-spec = tie.close (tie.spec (λ c κs. search needs) read-u64-requires returns returns-2)
+old-read-u64-spec =
+    tie.close
+    (tie.spec
+    (λ c κs. search needs)
+    (λ c κs. leb-true _ _ (sym (c .before .lies .ensures) ∙ c .if1 .taken))
+    (λ c. inside 8 _ _ _ (sym (c .before .before .lies .ensures) ∙ c .before .if1 .taken) (c .read-u64 .ensures))
+    (λ c. outside 8 (c .before .before .before .args .s .now) _ (sym (c .before .lies .ensures) ∙ c .if1 .left)))

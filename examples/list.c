@@ -8,9 +8,13 @@
 static int list(const uint8_t *stream, size_t length)
 {
     mrd_step step = mrd_next(stream, length, mrd_beginning());
-    for (; !step.ended; step = mrd_next(stream, length, step.next))
-        printf("record %zu: id %u, %zu bytes from byte %zu\n", step.here.number, step.here.id,
+    for (; !step.ended; step = mrd_next(stream, length, step.next)) {
+        printf("record %zu: id %u, %zu bytes from byte %zu", step.here.number, step.here.id,
                step.here.size, step.here.start);
+        if (step.here.mask == MRD_MASK_DIFFERS)
+            printf(", %u channels, its mask has %u", step.here.channels, step.here.mask_ones);
+        printf("\n");
+    }
     if (step.answer.refusal == MRD_OK) {
         printf("accepted, %zu records\n", step.answer.count);
         return EXIT_SUCCESS;

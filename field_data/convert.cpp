@@ -163,6 +163,10 @@ void tell_acquisition(std::ostream &out, Acquisition &acq)
     for (uint64_t n = 1; n <= 64; n++)
         if (acq.isFlagSet(n))
             out << ' ' << n;
+    out << "\nmask_channels";
+    for (uint16_t channel = 0; channel < 1024; channel++)
+        if (acq.isChannelActive(channel))
+            out << ' ' << channel;
     out << '\n';
     Checksum trajectory;
     for (uint16_t sample = 0; sample < head.number_of_samples; sample++)
@@ -334,7 +338,7 @@ AcquisitionHeader full_acquisition_header(const AcquisitionHeader &sized)
     return head;
 }
 
-void append_full_acquisition(Dataset &dataset)
+Acquisition full_acquisition()
 {
     Acquisition acq(FULL_SAMPLES, FULL_CHANNELS, FULL_DIMENSIONS);
     acq.setHead(full_acquisition_header(acq.getHead()));
@@ -344,7 +348,15 @@ void append_full_acquisition(Dataset &dataset)
         for (uint16_t channel = 0; channel < FULL_CHANNELS; channel++)
             acq.data(sample, channel) = complex_float_t(float(sample), -float(channel));
     }
-    dataset.appendAcquisition(acq);
+    return acq;
+}
+
+// Two channels in place of three: the library's resize leaves the mask as it is.
+Acquisition compressed_acquisition()
+{
+    Acquisition acq = full_acquisition();
+    acq.resize(FULL_SAMPLES, FULL_CHANNELS - 1, FULL_DIMENSIONS);
+    return acq;
 }
 
 const char *const FULL_IMAGE = "full_image";
@@ -471,7 +483,8 @@ private:
 int convert(const char *dataset_path, const char *stream_path, const char *description_path)
 {
     Dataset dataset(dataset_path, "dataset", false);
-    append_full_acquisition(dataset);
+    dataset.appendAcquisition(full_acquisition());
+    dataset.appendAcquisition(compressed_acquisition());
     append_full_image(dataset);
     append_waveform(dataset);
     std::ofstream stream(stream_path, std::ios::binary);

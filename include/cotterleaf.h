@@ -52,6 +52,14 @@ typedef struct {
 
 mrd_checked mrd_check(const uint8_t *stream, size_t stream_length);
 
+/* What an acquisition's channel mask says of its active channels. Only how many bits are set is looked at, not which. A
+ * mask that differs is no fault: after a coil compression, say, it may still name the coils from before. */
+enum {
+    MRD_MASK_NOT_STATED = 1, /* all zero */
+    MRD_MASK_AGREES = 2,     /* as many ones as active channels */
+    MRD_MASK_DIFFERS = 3     /* another count of ones */
+};
+
 /* A record: its number from 0, first byte, size with the id, id, and the numbers of its kind. */
 typedef struct {
     mrd_refusal refusal;
@@ -64,6 +72,8 @@ typedef struct {
     uint16_t channels;          /* active, of an acquisition; of an image or waveform */
     uint16_t trajectory_dimensions; /* of an acquisition */
     uint16_t matrix_size_x, matrix_size_y, matrix_size_z, data_type; /* of an image */
+    uint32_t mask;              /* of an acquisition: MRD_MASK_NOT_STATED, MRD_MASK_AGREES or MRD_MASK_DIFFERS */
+    uint32_t mask_ones;         /* counted in an acquisition's mask */
 } mrd_placed;
 
 mrd_placed mrd_place(const uint8_t *stream, size_t stream_length, size_t n);

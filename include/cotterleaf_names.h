@@ -18,7 +18,7 @@ typedef enum mrd_refusal {
     MRD_REFUSED_FIXED_PART_CUT = 3,   /* The fixed part doesn't fit in what remains; of the writer: the header bytes are not as long as the kind's fixed header. */
     MRD_REFUSED_VERSION = 4,          /* The version is not 1. */
     MRD_REFUSED_NAME = 5,             /* No zero among the name's 1,024 bytes; of the writer: a name over 1,023 bytes or holding a zero. */
-    MRD_REFUSED_CHANNELS = 6,         /* Active channels above available, or a mask that isn't all zero whose count of ones differs from them. */
+    MRD_REFUSED_CHANNELS = 6,         /* Active channels above available. */
     MRD_REFUSED_DISCARD = 7,          /* Discard pre plus discard post above the number of samples. */
     MRD_REFUSED_DATA_TYPE = 8,        /* An image's data type is not 1 to 8. */
     MRD_REFUSED_ATTRIBUTE_LENGTH = 9, /* The two attribute lengths differ. */
@@ -45,7 +45,7 @@ static inline const char *mrd_refusal_text(uint32_t refusal)
         "the stream ends inside the fixed part of the message, or a header to be written has another length than its kind's; have the message sent again whole, or give 340, 198, 32 or no header bytes as the kind asks",
         "the version in the header is not 1; have the sender write version 1 of the header",
         "a configuration name has no zero in its 1,024 bytes, or one to be written is too long or holds a zero; give a name of at most 1,023 bytes without a zero",
-        "more channels are active than available, or the channel mask has another count of ones; correct the channel numbers, or leave the mask all zero",
+        "more channels are active than available; correct the two channel numbers of the acquisition header",
         "discard_pre and discard_post together exceed the number of samples; correct these numbers of the acquisition header",
         "the image data type is not 1 to 8; correct the data type of the image header",
         "the image's two attribute lengths differ; write the same length in the header and in the 8 bytes after it",

@@ -64,7 +64,7 @@ pub use index::Index;
 pub use message::Message;
 pub use names::{acquisition_flag, counter, data_type, id, image_type, offset, refused};
 pub use names::{MAX_MESSAGES, MAX_MESSAGE_SIZE};
-pub use record::{Field, Kind, Part, Record};
+pub use record::{Field, Kind, Mask, Part, Record};
 pub use refusal::{Fault, Refusal};
 pub use samples::Samples;
 pub use stream::Stream;

@@ -13,7 +13,7 @@ pub mod refused {
     pub const VERSION: u32 = 4;
     /// No zero among the name's 1,024 bytes; of the writer: a name over 1,023 bytes or holding a zero.
     pub const NAME: u32 = 5;
-    /// Active channels above available, or a mask that isn't all zero whose count of ones differs from them.
+    /// Active channels above available.
     pub const CHANNELS: u32 = 6;
     /// Discard pre plus discard post above the number of samples.
     pub const DISCARD: u32 = 7;
@@ -68,8 +68,8 @@ pub(crate) const SENTENCES: [(&str, &str); 20] = [
         "give a name of at most 1,023 bytes without a zero",
     ),
     (
-        "more channels are active than available, or the channel mask has another count of ones",
-        "correct the channel numbers, or leave the mask all zero",
+        "more channels are active than available",
+        "correct the two channel numbers of the acquisition header",
     ),
     (
         "discard_pre and discard_post together exceed the number of samples",

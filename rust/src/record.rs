@@ -50,6 +50,8 @@ pub enum Kind {
         active_channels: u16,
         /// Numbers for each sample of the trajectory.
         trajectory_dimensions: u16,
+        /// What its channel mask says of the active channels.
+        mask: Mask,
     },
     /// An image.
     Image {
@@ -98,6 +100,7 @@ impl Kind {
                 number_of_samples: placed.number_of_samples,
                 active_channels: placed.channels,
                 trajectory_dimensions: placed.trajectory_dimensions,
+                mask: Mask::of(placed),
             },
             id::IMAGE => Kind::Image {
                 matrix_size: [
@@ -114,6 +117,45 @@ impl Kind {
                 channels: placed.channels,
             },
             other => unreachable!("the library hands out records of the eight kinds, not {other}"),
+        }
+    }
+}
+
+/// What an acquisition's channel mask says of its active channels. Only how many bits are set is looked at, not which.
+/// After a coil compression, say, the mask may still name the coils from before: such a readout is whole, and the
+/// mask differs.
+#[derive(Clone, Copy, Debug, PartialEq, Eq, Hash)]
+pub enum Mask {
+    /// The mask is all zero.
+    NotStated,
+    /// It has as many ones as there are active channels.
+    Agrees {
+        /// The ones counted.
+        ones: u32,
+    },
+    /// It has another count of ones.
+    Differs {
+        /// The ones counted.
+        ones: u32,
+    },
+}
+
+impl Mask {
+    /// The ones counted, 0 where the mask is not stated.
+    pub fn ones(self) -> u32 {
+        match self {
+            Mask::NotStated => 0,
+            Mask::Agrees { ones } | Mask::Differs { ones } => ones,
+        }
+    }
+
+    fn of(placed: &raw::mrd_placed) -> Mask {
+        let ones = placed.mask_ones;
+        match placed.mask {
+            raw::MRD_MASK_NOT_STATED => Mask::NotStated,
+            raw::MRD_MASK_AGREES => Mask::Agrees { ones },
+            raw::MRD_MASK_DIFFERS => Mask::Differs { ones },
+            other => unreachable!("the library knows three answers of a mask, not {other}"),
         }
     }
 }

@@ -55,6 +55,15 @@ fn records_come_once_each_and_then_the_refusal() {
         assert_eq!(whole.place(record.number), Ok(*record));
     }
     assert_eq!(records[8].kind, Kind::Close);
+    // The sample's last readout still has the mask from before a coil compression.
+    let masks = [3, 4, 5].map(|n: usize| match records[n].kind {
+        Kind::Acquisition { mask, .. } => mask,
+        other => panic!("no acquisition: {other:?}"),
+    });
+    let agrees = Mask::Agrees { ones: 2 };
+    assert_eq!(masks, [agrees, agrees, Mask::Differs { ones: 8 }]);
+    assert_eq!(masks.map(Mask::ones), [2, 2, 8]);
+    assert_eq!(Mask::NotStated.ones(), 0);
 
     let cut = Stream::new(&ALL_KINDS[..6_307]);
     let fault = Fault {

@@ -22,7 +22,7 @@ MEMBER(mrd_question, channel, 16, size_t);
 MEMBER(mrd_question, offset, 24, size_t);
 ARRAY(mrd_question, counters, 32, uint16_t, 34);
 
-_Static_assert(sizeof(mrd_placed) == 80, "mrd_placed: another size");
+_Static_assert(sizeof(mrd_placed) == 88, "mrd_placed: another size");
 MEMBER(mrd_placed, refusal, 0, uint32_t);
 MEMBER(mrd_placed, record, 8, size_t);
 MEMBER(mrd_placed, byte, 16, size_t);
@@ -39,6 +39,8 @@ MEMBER(mrd_placed, matrix_size_x, 72, uint16_t);
 MEMBER(mrd_placed, matrix_size_y, 74, uint16_t);
 MEMBER(mrd_placed, matrix_size_z, 76, uint16_t);
 MEMBER(mrd_placed, data_type, 78, uint16_t);
+MEMBER(mrd_placed, mask, 80, uint32_t);
+MEMBER(mrd_placed, mask_ones, 84, uint32_t);
 
 _Static_assert(sizeof(mrd_field_answer) == 48, "mrd_field_answer: another size");
 MEMBER(mrd_field_answer, refusal, 0, uint32_t);
@@ -62,14 +64,14 @@ MEMBER(mrd_view_place, byte, 16, size_t);
 MEMBER(mrd_view_place, start, 24, size_t);
 MEMBER(mrd_view_place, length, 32, size_t);
 
-_Static_assert(sizeof(mrd_reply) == 224, "mrd_reply: another size");
+_Static_assert(sizeof(mrd_reply) == 232, "mrd_reply: another size");
 MEMBER(mrd_reply, refusal, 0, uint32_t);
 MEMBER(mrd_reply, record, 8, size_t);
 MEMBER(mrd_reply, byte, 16, size_t);
 MEMBER(mrd_reply, place, 24, mrd_placed);
-MEMBER(mrd_reply, view, 104, mrd_view_place);
-MEMBER(mrd_reply, field, 144, mrd_field_answer);
-MEMBER(mrd_reply, found, 192, mrd_found);
+MEMBER(mrd_reply, view, 112, mrd_view_place);
+MEMBER(mrd_reply, field, 152, mrd_field_answer);
+MEMBER(mrd_reply, found, 200, mrd_found);
 
 _Static_assert(sizeof(mrd_checked) == 32, "mrd_checked: another size");
 MEMBER(mrd_checked, refusal, 0, uint32_t);
@@ -86,11 +88,11 @@ _Static_assert(sizeof(mrd_cursor_answer) == 32, "mrd_cursor_answer: another size
 MEMBER(mrd_cursor_answer, refusal, 0, uint32_t);
 MEMBER(mrd_cursor_answer, cursor, 8, mrd_cursor);
 
-_Static_assert(sizeof(mrd_step) == 144, "mrd_step: another size");
+_Static_assert(sizeof(mrd_step) == 152, "mrd_step: another size");
 MEMBER(mrd_step, ended, 0, bool);
 MEMBER(mrd_step, here, 8, mrd_placed);
-MEMBER(mrd_step, next, 88, mrd_cursor);
-MEMBER(mrd_step, answer, 112, mrd_checked);
+MEMBER(mrd_step, next, 96, mrd_cursor);
+MEMBER(mrd_step, answer, 120, mrd_checked);
 
 _Static_assert(sizeof(mrd_matched) == 24, "mrd_matched: another size");
 MEMBER(mrd_matched, refusal, 0, uint32_t);

@@ -1,4 +1,4 @@
-/* The worked examples of document 01, and each call of the library once, from C. */
+/* The worked examples of document 01, each call of the library once, and what a mask says, from C. */
 #include "cotterleaf.h"
 
 #include <stdio.h>
@@ -295,6 +295,54 @@ static void fields_and_find(void)
     CHECK(mrd_find(stream, sizeof stream, 0, asked).refusal == MRD_REFUSED_NO_RECORD);
 }
 
+/* What a mask says, at every place where a kind is handed out: by number, in a walk, and with an index of either form. */
+static void masks(void)
+{
+    static const struct {
+        uint16_t active;
+        uint64_t first, last; /* words of the mask */
+        uint32_t mask, ones;
+    } rows[] = {
+        {3, 0, 0, MRD_MASK_NOT_STATED, 0},
+        {3, 5, 1, MRD_MASK_AGREES, 3},
+        {3, 7, UINT64_C(1) << 63, MRD_MASK_DIFFERS, 4},
+        {3, 3, 0, MRD_MASK_DIFFERS, 2},
+        {0, 0, 0, MRD_MASK_NOT_STATED, 0},
+        {0, 1, 0, MRD_MASK_DIFFERS, 1},
+    };
+    for (size_t i = 0; i < sizeof rows / sizeof rows[0]; i++) {
+        uint8_t stream[6 + 342 + 2] = {3, 0}, file[74];
+        uint64_t starts[3];
+        uint16_t ids[3];
+        uint32_t counters[3];
+        put(stream, 6, 2, MRD_ID_ACQUISITION);
+        put(stream, 8, 2, 1);
+        put(stream, 8 + MRD_ACQUISITION_AVAILABLE_CHANNELS, 2, 3);
+        put(stream, 8 + MRD_ACQUISITION_ACTIVE_CHANNELS, 2, rows[i].active);
+        put(stream, 8 + MRD_ACQUISITION_CHANNEL_MASK, 8, rows[i].first);
+        put(stream, 8 + MRD_ACQUISITION_CHANNEL_MASK + 120, 8, rows[i].last);
+        put(stream, 348, 2, MRD_ID_CLOSE);
+        CHECK(mrd_check(stream, sizeof stream).count == 3);
+        CHECK(mrd_write_index(stream, sizeof stream, file, sizeof file).length == sizeof file);
+        CHECK(mrd_fill_columns(stream, sizeof stream, starts, 3, ids, 3, counters, 3).length == 3);
+        mrd_step header = mrd_next(stream, sizeof stream, mrd_beginning());
+        mrd_question question = mrd_question_place(1);
+        mrd_placed placed[] = {
+            mrd_place(stream, sizeof stream, 1),
+            mrd_next(stream, sizeof stream, header.next).here,
+            mrd_ask_with_file(stream, sizeof stream, question, file, sizeof file).place,
+            mrd_ask_with_columns(stream, sizeof stream, question, starts, 3, ids, 3, counters, 3).place,
+        };
+        for (size_t k = 0; k < sizeof placed / sizeof placed[0]; k++)
+            CHECK(placed[k].refusal == 0 && placed[k].channels == rows[i].active && placed[k].mask == rows[i].mask &&
+                  placed[k].mask_ones == rows[i].ones);
+        CHECK(header.here.mask == 0 && header.here.mask_ones == 0); /* a text has no mask */
+        put(stream, 8 + MRD_ACQUISITION_ACTIVE_CHANNELS, 2, 4); /* of 3 available */
+        CHECK(mrd_check(stream, sizeof stream).refusal == MRD_REFUSED_CHANNELS);
+        CHECK(mrd_place(stream, sizeof stream, 1).mask == 0);
+    }
+}
+
 /* A walk hands out each record once and then the answer; from any cursor there is one. */
 static void walk(void)
 {
@@ -356,6 +404,7 @@ int main(void)
     refused_views();
     one_normal_form();
     fields_and_find();
+    masks();
     walk();
     where_a_walk_stands();
     where_the_columns_say();

@@ -17,7 +17,7 @@ pub fn u64_at(bytes: &[u8], at: usize) -> u64 {
     u64::from_le_bytes(*bytes[at..].first_chunk().expect("eight bytes"))
 }
 
-/// A kind of message with the numbers that decide its size.
+/// A kind of message with that kind's own numbers.
 #[derive(Clone, Copy, Debug, PartialEq, Eq)]
 pub enum Kind {
     Name {
@@ -33,6 +33,7 @@ pub enum Kind {
         samples: u16,
         channels: u16,
         dimensions: u16,
+        mask: Mask,
     },
     Image {
         matrix_size: [u16; 3],
@@ -46,6 +47,26 @@ pub enum Kind {
     },
 }
 
+/// What a channel mask says, with the ones counted.
+#[derive(Clone, Copy, Debug, PartialEq, Eq)]
+pub enum Mask {
+    NotStated,
+    Agrees(u32),
+    Differs(u32),
+}
+
+#[inline]
+fn mask(header: &[u8; ACQUISITION_HEADER], channels: u16) -> Mask {
+    let ones: u32 = (0..16)
+        .map(|word| u64_at(header, 40 + 8 * word).count_ones())
+        .sum();
+    match ones {
+        0 => Mask::NotStated,
+        _ if ones == u32::from(channels) => Mask::Agrees(ones),
+        _ => Mask::Differs(ones),
+    }
+}
+
 /// Checks 4, 6 and 7 of an acquisition.
 #[inline]
 pub fn acquisition(header: &[u8; ACQUISITION_HEADER]) -> Result<Kind, u32> {
@@ -53,10 +74,7 @@ pub fn acquisition(header: &[u8; ACQUISITION_HEADER]) -> Result<Kind, u32> {
         return Err(4);
     }
     let (samples, channels) = (u16_at(header, 34), u16_at(header, 38));
-    let ones: u32 = (0..16)
-        .map(|word| u64_at(header, 40 + 8 * word).count_ones())
-        .sum();
-    if channels > u16_at(header, 36) || (ones != 0 && ones != u32::from(channels)) {
+    if channels > u16_at(header, 36) {
         return Err(6);
     }
     if u32::from(u16_at(header, 168)) + u32::from(u16_at(header, 170)) > u32::from(samples) {
@@ -66,6 +84,7 @@ pub fn acquisition(header: &[u8; ACQUISITION_HEADER]) -> Result<Kind, u32> {
         samples,
         channels,
         dimensions: u16_at(header, 176),
+        mask: mask(header, channels),
     })
 }
 
@@ -135,6 +154,7 @@ impl Kind {
                 samples,
                 channels,
                 dimensions,
+                ..
             } => (
                 u64::from(samples) * u64::from(dimensions) * 4,
                 u64::from(samples) * u64::from(channels) * 8,

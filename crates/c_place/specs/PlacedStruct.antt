@@ -13,8 +13,8 @@ use Rattle.mrd_stream.specs.ReaderMeaning.{recordMeaning}
 use Rattle.c_place.specs.declared.placed.Placed.{Placed}
 
 -- a record at a place, with its id and the numbers of its kind
-abbrev pub placeAs : Place → (id length attributes samples channels dimensions x y z type : ℕ) → Placed
-placeAs p id n a s c d x y z t =
+abbrev pub placeAs : Place → (id length attributes samples channels dimensions x y z type mask ones : ℕ) → Placed
+placeAs p id n a s c d x y z t m o =
     record {
       refusal = 0;
       «record» = 0;
@@ -32,6 +32,8 @@ placeAs p id n a s c d x y z t =
       «matrix_size_y» = y;
       «matrix_size_z» = z;
       «data_type» = t;
+      mask = m;
+      «mask_ones» = o;
     }
 
 -- an answer without a record
@@ -54,10 +56,12 @@ refusedPlace f r b =
       «matrix_size_y» = 0;
       «matrix_size_z» = 0;
       «data_type» = 0;
+      mask = 0;
+      «mask_ones» = 0;
     }
 
 -- the same of a record that the rules give
-abbrev pub recordWith : Located → (length attributes samples channels dimensions x y z type : ℕ) → Placed
+abbrev pub recordWith : Located → (length attributes samples channels dimensions x y z type mask ones : ℕ) → Placed
 recordWith l = placeAs (record { number = l .number; start = l .start; size = l .size }) (idOf (l .kind))
 
 -- number i of the kind's own, in the paper's order
@@ -66,14 +70,14 @@ own l i = getD (l .numbers) i 0
 
 -- the members that each kind's own numbers stand in
 abbrev pub recordAs : Kind → Located → Placed
-recordAs ConfigurationName l = recordWith l (own l 0) 0 0 0 0 0 0 0 0
-recordAs ConfigurationText l = recordWith l (own l 0) 0 0 0 0 0 0 0 0
-recordAs HeaderText l = recordWith l (own l 0) 0 0 0 0 0 0 0 0
-recordAs Close l = recordWith l 0 0 0 0 0 0 0 0 0
-recordAs Text l = recordWith l (own l 0) 0 0 0 0 0 0 0 0
-recordAs Acquisition l = recordWith l 0 0 (own l 0) (own l 1) (own l 2) 0 0 0 0
-recordAs Image l = recordWith l 0 (own l 5) 0 (own l 3) 0 (own l 0) (own l 1) (own l 2) (own l 4)
-recordAs Waveform l = recordWith l 0 0 (own l 0) (own l 1) 0 0 0 0 0
+recordAs ConfigurationName l = recordWith l (own l 0) 0 0 0 0 0 0 0 0 0 0
+recordAs ConfigurationText l = recordWith l (own l 0) 0 0 0 0 0 0 0 0 0 0
+recordAs HeaderText l = recordWith l (own l 0) 0 0 0 0 0 0 0 0 0 0
+recordAs Close l = recordWith l 0 0 0 0 0 0 0 0 0 0 0
+recordAs Text l = recordWith l (own l 0) 0 0 0 0 0 0 0 0 0 0
+recordAs Acquisition l = recordWith l 0 0 (own l 0) (own l 1) (own l 2) 0 0 0 0 (own l 3) (own l 4)
+recordAs Image l = recordWith l 0 (own l 5) 0 (own l 3) 0 (own l 0) (own l 1) (own l 2) (own l 4) 0 0
+recordAs Waveform l = recordWith l 0 0 (own l 0) (own l 1) 0 0 0 0 0 0 0
 
 abbrev pub cRecord : Located → Placed
 cRecord l = recordAs (l .kind) l

@@ -1,6 +1,7 @@
 // A record's place and kind as a C struct: the numbers of its kind in the members for them.
 ghost use mathlib.Core.Path.{_≡_};
 ghost use Rattle.mrd_format.specs.Kinds.{idOf};
+ghost use Rattle.mrd_format.specs.Acquisition.{maskNumber, maskOnes};
 ghost use Rattle.mrd_stream.specs.ReaderMeaning.{placedMeaning, recordMeaning};
 ghost use Rattle.c_place.specs.PlacedStruct.{refusedPlace, placeAs, cRecord, cPlaced};
 use mrd_format::AcquisitionShape;
@@ -13,7 +14,8 @@ use mrd_stream::Place;
 use mrd_stream::PlacedRecord;
 
 // A record: its number from 0, first byte, size with the id, id, and the numbers that its kind has: the
-// `length` is that of a name or text, the `channels` of an acquisition are the active ones.
+// `length` is that of a name or text, the `channels` of an acquisition are the active ones, `mask` is the number
+// of its mask's answer.
 #[repr(C)]
 pub struct Placed {
     pub refusal: u32,
@@ -32,6 +34,8 @@ pub struct Placed {
     pub matrix_size_y: u16,
     pub matrix_size_z: u16,
     pub data_type: u16,
+    pub mask: u32,
+    pub mask_ones: u32,
 }
 
 impl Placed {
@@ -56,12 +60,14 @@ impl Placed {
             matrix_size_y: 0,
             matrix_size_z: 0,
             data_type: 0,
+            mask: 0,
+            mask_ones: 0,
         }
     }
 
     // A record with none of its kind's own numbers.
     fn bare(place: Place, id: u16) -> Placed
-        ensures { λ r. ⌜ r ≡ placeAs place id 0 0 0 0 0 0 0 0 0 ⌝ }
+        ensures { λ r. ⌜ r ≡ placeAs place id 0 0 0 0 0 0 0 0 0 0 0 ⌝ }
     {
         let mut r = Placed::refused(0, 0, 0);
         r.number = place.number;
@@ -72,7 +78,7 @@ impl Placed {
     }
 
     fn text(place: Place, id: u16, shape: TextShape) -> Placed
-        ensures { λ r. ⌜ r ≡ placeAs place id (shape .length) 0 0 0 0 0 0 0 0 ⌝ }
+        ensures { λ r. ⌜ r ≡ placeAs place id (shape .length) 0 0 0 0 0 0 0 0 0 0 ⌝ }
     {
         let mut r = Placed::bare(place, id);
         r.length = shape.length;
@@ -80,17 +86,20 @@ impl Placed {
     }
 
     fn acquisition(place: Place, shape: AcquisitionShape) -> Placed
-        ensures { λ r. ⌜ r ≡ placeAs place (idOf Kind.Acquisition) 0 0 (shape .«number_of_samples») (shape .«active_channels») (shape .«trajectory_dimensions») 0 0 0 0 ⌝ }
+        ensures { λ r. ⌜ r ≡ placeAs place (idOf Kind.Acquisition) 0 0 (shape .«number_of_samples») (shape .«active_channels») (shape .«trajectory_dimensions») 0 0 0 0 (maskNumber (shape .mask)) (maskOnes (shape .mask)) ⌝ }
     {
         let mut r = Placed::bare(place, Kind::ACQUISITION);
         r.number_of_samples = shape.number_of_samples;
         r.channels = shape.active_channels;
         r.trajectory_dimensions = shape.trajectory_dimensions;
+        let mask = shape.mask;
+        r.mask = mask.number();
+        r.mask_ones = mask.ones();
         r
     }
 
     fn image(place: Place, shape: ImageShape) -> Placed
-        ensures { λ r. ⌜ r ≡ placeAs place (idOf Kind.Image) 0 (shape .«attribute_length») 0 (shape .channels) 0 (shape .«matrix_size_x») (shape .«matrix_size_y») (shape .«matrix_size_z») (shape .«data_type») ⌝ }
+        ensures { λ r. ⌜ r ≡ placeAs place (idOf Kind.Image) 0 (shape .«attribute_length») 0 (shape .channels) 0 (shape .«matrix_size_x») (shape .«matrix_size_y») (shape .«matrix_size_z») (shape .«data_type») 0 0 ⌝ }
     {
         let mut r = Placed::bare(place, Kind::IMAGE);
         r.matrix_size_x = shape.matrix_size_x;
@@ -103,7 +112,7 @@ impl Placed {
     }
 
     fn waveform(place: Place, shape: WaveformShape) -> Placed
-        ensures { λ r. ⌜ r ≡ placeAs place (idOf Kind.Waveform) 0 0 (shape .«number_of_samples») (shape .channels) 0 0 0 0 0 ⌝ }
+        ensures { λ r. ⌜ r ≡ placeAs place (idOf Kind.Waveform) 0 0 (shape .«number_of_samples») (shape .channels) 0 0 0 0 0 0 0 ⌝ }
     {
         let mut r = Placed::bare(place, Kind::WAVEFORM);
         r.number_of_samples = shape.number_of_samples;

@@ -1,5 +1,5 @@
-// The acquisition header: the checks that it must pass, and the sizes and numbers that it gives.
-// Offsets count from the header's first byte.
+// The acquisition header: the checks that it must pass, the sizes and numbers that it gives, and what its channel
+// mask says. Offsets count from the header's first byte.
 ghost use mathlib.Core.Path.{_≡_};
 ghost use Prim.Native.Nat.{_<_, _^_};
 ghost use lib.ListN.{length};
@@ -7,10 +7,11 @@ ghost use Rattle.mrd_logic.specs.Checks.{first};
 ghost use Rattle.mrd_format.specs.Elements.{elements};
 ghost use Rattle.mrd_format.specs.Kinds.{fixedSize};
 ghost use Rattle.mrd_format.specs.declared.kind.Kind.«the-variants».{Acquisition};
-ghost use Rattle.mrd_format.specs.Acquisition.{layout, get, checks, channelsDiffer, discardsExceed, maskDiffers, onesOf, trajectorySize, channelSize, bodySize, numbers};
+ghost use Rattle.mrd_format.specs.Acquisition.{layout, get, checks, channelsExceed, discardsExceed, trajectorySize, channelSize, bodySize, onesOf, maskAnswer, numbers};
 ghost use Rattle.mrd_format.specs.Acquisition.{«channel-mask», «active-channels»};
 ghost use Rattle.mrd_format.specs.Shapes.{acquisitionNumbers};
 use mrd_format::AcquisitionShape;
+use mrd_format::Mask;
 use mrd_format::refusal;
 use mrd_format::size::product;
 use mrd_numbers::read_u16;
@@ -42,7 +43,7 @@ pub fn fault(h: &[u8]) -> u8
     if read_u16(h, VERSION) != 1 {
         return refusal::VERSION;
     }
-    if channels_differ(h) {
+    if channels_exceed(h) {
         return refusal::CHANNELS;
     }
     if discards_exceed(h) {
@@ -51,15 +52,12 @@ pub fn fault(h: &[u8]) -> u8
     0
 }
 
-// Whether more channels are active than available, or the mask does not agree.
-fn channels_differ(h: &[u8]) -> bool
+// Whether more channels are active than available.
+fn channels_exceed(h: &[u8]) -> bool
     requires { ⌜ length (now h) ≡ fixedSize Acquisition ⌝ }
-    ensures { λ r. ⌜ r ≡ channelsDiffer (now (h .entry)) ⌝ }
+    ensures { λ r. ⌜ r ≡ channelsExceed (now (h .entry)) ⌝ }
 {
-    if read_u16(h, AVAILABLE_CHANNELS) < read_u16(h, ACTIVE_CHANNELS) {
-        return true;
-    }
-    mask_differs(h)
+    read_u16(h, AVAILABLE_CHANNELS) < read_u16(h, ACTIVE_CHANNELS)
 }
 
 // Whether more samples are discarded than there are.
@@ -69,32 +67,6 @@ fn discards_exceed(h: &[u8]) -> bool
 {
     let discarded = (read_u16(h, DISCARD_PRE) as u32) + (read_u16(h, DISCARD_POST) as u32);
     (read_u16(h, NUMBER_OF_SAMPLES) as u32) < discarded
-}
-
-// Whether the channel mask isn't all zero and its count of ones differs from the active channels.
-fn mask_differs(h: &[u8]) -> bool
-    requires { ⌜ length (now h) ≡ fixedSize Acquisition ⌝ }
-    ensures { λ r. ⌜ r ≡ maskDiffers (now (h .entry)) ⌝ }
-{
-    let ones = mask_ones(h);
-    if ones == 0 {
-        return false;
-    }
-    ones != read_u16(h, ACTIVE_CHANNELS) as u32
-}
-
-// The ones in the sixteen words of the channel mask.
-fn mask_ones(h: &[u8]) -> u32
-    requires { ⌜ length (now h) ≡ fixedSize Acquisition ⌝ }
-    ensures { λ r. ⌜ r ≡ onesOf (elements (layout «channel-mask») (now (h .entry))) ⌝ }
-{
-    let mut ones: u32 = 0;
-    let mut i: usize = 0;
-    while i < MASK_WORDS {
-        ones += u64::count_ones(read_u64(h, CHANNEL_MASK + i * 8));
-        i += 1;
-    }
-    ones
 }
 
 // The bytes of the trajectory.
@@ -132,7 +104,36 @@ pub fn body_size(h: &[u8]) -> usize
     trajectory_size(h) + channels as usize
 }
 
-// The header's own numbers.
+// What the channel mask says; only zero has no ones.
+fn mask(h: &[u8]) -> Mask
+    requires { ⌜ length (now h) ≡ fixedSize Acquisition ⌝ }
+    ensures { λ r. ⌜ r ≡ maskAnswer (now (h .entry)) ⌝ }
+{
+    let ones = mask_ones(h);
+    if ones == 0 {
+        return Mask::NotStated;
+    }
+    if ones == read_u16(h, ACTIVE_CHANNELS) as u32 {
+        return Mask::Agrees(ones);
+    }
+    Mask::Differs(ones)
+}
+
+// The ones in the sixteen words of the channel mask.
+fn mask_ones(h: &[u8]) -> u32
+    requires { ⌜ length (now h) ≡ fixedSize Acquisition ⌝ }
+    ensures { λ r. ⌜ r ≡ onesOf (elements (layout «channel-mask») (now (h .entry))) ⌝ }
+{
+    let mut ones: u32 = 0;
+    let mut i: usize = 0;
+    while i < MASK_WORDS {
+        ones += u64::count_ones(read_u64(h, CHANNEL_MASK + i * 8));
+        i += 1;
+    }
+    ones
+}
+
+// The header's own numbers, and what its mask says.
 pub fn shape(h: &[u8]) -> AcquisitionShape
     requires { ⌜ length (now h) ≡ fixedSize Acquisition ⌝ }
     ensures { λ r. ⌜ acquisitionNumbers r ≡ numbers (now (h .entry)) ⌝ }
@@ -141,5 +142,6 @@ pub fn shape(h: &[u8]) -> AcquisitionShape
         number_of_samples: read_u16(h, NUMBER_OF_SAMPLES),
         active_channels: read_u16(h, ACTIVE_CHANNELS),
         trajectory_dimensions: read_u16(h, TRAJECTORY_DIMENSIONS),
+        mask: mask(h),
     }
 }

@@ -1,4 +1,5 @@
-// The acquisition header: the checks that it must pass, and the sizes and numbers that it gives.
+// The acquisition header: the checks that it must pass, the sizes and numbers that it gives, and what its channel
+// mask says.
 //
 // Each function asks for the header's 340 bytes, which the callers, all proved, have. Assumes nothing.
 mod acquisition;

@@ -1,17 +1,19 @@
--- The theorems of the three demands, each proved in a line from named parts; start here. They hold of every stream, and are said with the
+-- The theorems of the three demands and of the requests, each proved in a line from named parts; start here. They hold of every stream, and are said with the
 -- answer (`answer`, `accepted`, `refused`), the record list (`records`), the normal form (`normal`), well-formed messages (`WellFormed`) and
 -- cuts (`Cut`). That the code gives these answers and writes these bytes is what its contracts say.
 -- Assumes nothing.
-use Prim.Native.Nat.{ℕ}
+use Prim.Native.Nat.{ℕ, _+_}
 use mathlib.Core.Path.{_≡_, sym, ap, _∙_}
 use mathlib.Core.Logic.{_↔_}
 use mathlib.Core.List.{List, map}
-use lib.ListN.{length}
+use lib.ListN.{length, take, drop}
 use Rattle.mrd_numbers.specs.Little.{Bytes}
 use Rattle.mrd_logic.specs.Lists.{Nth}
 use Rattle.mrd_logic.specs.Answer.{accepted, refused, Answer, answered, andThen}
 use Rattle.mrd_format.specs.Parts.{Contents}
 use Rattle.mrd_format.specs.Content.{Record, bytesOf}
+use Rattle.mrd_format.specs.declared.kind.Kind.the-variants.{Acquisition}
+use Rattle.mrd_format.specs.Acquisition.{numbers}
 use Rattle.mrd_cursor.specs.declared.cursor.Cursor.{Cursor}
 use Rattle.mrd_cursor.specs.Cursors.{beginning}
 use Rattle.mrd_stream.specs.Walk.{answer, trace}
@@ -47,6 +49,8 @@ use Rattle.mrd_demands.specs.Refusals.{Refusal, output-kept, written-kep
 use Rattle.mrd_demands.specs.RecordViews.{ViewsOf, EachPart}
 use Rattle.mrd_demands.specs.RecordViews as views
 use Rattle.mrd_demands.specs.Messages.{recordsIn}
+use Rattle.mrd_demands.specs.Replaced.{replaced}
+use Rattle.mrd_demands.specs.Masks as masks
 use Rattle.mrd_demands.specs.NormalStreams.{accepted-again, normal-long, normal-records, normal-own, normal-written, records-cut}
 
 -- Demand 1: a refusal changes no output byte
@@ -145,3 +149,15 @@ pub record NormalForm (s : List ℕ) (n : ℕ) : Type 0 where
 pub normal-accepted : (s : List ℕ) (n : ℕ) → answer s ≡ accepted n → NormalForm s n
 normal-accepted s n e =
     record { accepted-too = accepted-again s e; same-length = normal-long s e; same-records = normal-records s e; its-own = normal-own s e }
+
+-- Request E5: stale channel masks
+
+-- no mask is refused: whatever 128 bytes are put in the place of the mask of an acquisition, the stream is accepted as before
+pub any-mask-accepted : (s : List ℕ) (n : ℕ) → answer s ≡ accepted n → (i : ℕ) {l : Located} → place s i ≡ answered l → l .kind ≡ Acquisition →
+    (w : List ℕ) → length w ≡ 128 → answer (replaced s (l .start + 42) w) ≡ accepted n
+any-mask-accepted s n = masks.any-mask-accepted s
+
+-- an acquisition's kind carries its mask's answer: the numbers that are handed out are `numbers` of the header, the 340 bytes after the id
+pub masks-are-told : (s : List ℕ) (i : ℕ) {l : Located} → place s i ≡ answered l → l .kind ≡ Acquisition →
+    l .numbers ≡ numbers (take 340 (drop (l .start + 2) s))
+masks-are-told = masks.acquisition-told

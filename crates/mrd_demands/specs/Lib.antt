@@ -3,5 +3,7 @@ pub mod Messages
 pub mod NormalStreams
 pub mod Refusals
 pub mod RecordViews
+pub mod Replaced
+pub mod Masks
 pub mod Demands
 pub mod FillerExample

@@ -1,12 +1,15 @@
--- The acquisition header (1008), the checks that it must pass, and the sizes it gives.
+-- The acquisition header (1008), the checks that it must pass, the sizes it gives, and what its channel mask says.
 -- Assumes nothing.
 use Prim.Native.Nat.{ℕ, _+_, _*_}
-use mathlib.Core.Bool.{Bool, true, not, _||_, _&&_}
+use mathlib.Core.Bool.{Bool, true, not, _&&_}
 use mathlib.Core.List.{List, [], _∷_, map}
 use lib.Dec.{eqb, ltb}
 use lib.Count.{ones}
 use Rattle.mrd_format.specs.Elements.{Run, one, many, element, elements, u16, u32, u64, i32, f32}
+use Rattle.mrd_logic.specs.Choice.{pick}
 use Rattle.mrd_logic.specs.Checks.{Check, _when_}
+use Rattle.mrd_format.specs.declared.mask.Mask.{Mask}
+use Rattle.mrd_format.specs.declared.mask.Mask.the-variants.{NotStated, Agrees, Differs}
 use Rattle.mrd_format.specs.Parts.{trajectory}
 use Rattle.mrd_format.specs.Segments.{Segment, fixed, sized, channels, total, Form}
 
@@ -70,14 +73,30 @@ abbrev pub allZero : List ℕ → Bool
 allZero [] = true
 allZero (w ∷ ws) = eqb w 0 && allZero ws
 
--- 'a mask that isn't all zero whose count of ones differs from active channels'
-unfoldable pub maskDiffers : List ℕ → Bool
-maskDiffers h =
-    not (allZero (elements (layout channel-mask) h)) && not (eqb (onesOf (elements (layout channel-mask) h)) (get active-channels h))
+-- 'The mask check answers one of three: not stated (all zero), otherwise agrees or differs, with the counted ones': of the mask's words, where
+-- so many channels are active
+abbrev pub maskOf : List ℕ → ℕ → Mask
+maskOf ws active = pick (allZero ws) NotStated (pick (eqb (onesOf ws) active) (Agrees (onesOf ws)) (Differs (onesOf ws)))
 
--- 'active channels above available, or' such a mask
-abbrev pub channelsDiffer : List ℕ → Bool
-channelsDiffer h = ltb (get available-channels h) (get active-channels h) || maskDiffers h
+-- 'the mask check' of a header; it is none of the checks that refuse
+unfoldable pub maskAnswer : List ℕ → Mask
+maskAnswer h = maskOf (elements (layout channel-mask) h) (get active-channels h)
+
+-- the number of each answer
+abbrev pub maskNumber : Mask → ℕ
+maskNumber NotStated = 1
+maskNumber (Agrees n) = 2
+maskNumber (Differs n) = 3
+
+-- 'the counted ones': of a mask that is all zero there are none
+abbrev pub maskOnes : Mask → ℕ
+maskOnes NotStated = 0
+maskOnes (Agrees n) = n
+maskOnes (Differs n) = n
+
+-- 'active above available'
+abbrev pub channelsExceed : List ℕ → Bool
+channelsExceed h = ltb (get available-channels h) (get active-channels h)
 
 -- 'discard pre plus discard post above number of samples'
 abbrev pub discardsExceed : List ℕ → Bool
@@ -85,7 +104,7 @@ discardsExceed h = ltb (get number-of-samples h) (get discard-pre h + get discar
 
 -- checks 4, 6 and 7
 unfoldable pub checks : List ℕ → List Check
-checks h = (4 when not (eqb (get version h) 1)) ∷ (6 when channelsDiffer h) ∷ (7 when discardsExceed h) ∷ []
+checks h = (4 when not (eqb (get version h) 1)) ∷ (6 when channelsExceed h) ∷ (7 when discardsExceed h) ∷ []
 
 -- 'samples x dimensions x 4'
 unfoldable pub trajectorySize : List ℕ → ℕ
@@ -106,9 +125,11 @@ bodySize h = total (body h)
 unfoldable pub countersOf : List ℕ → List ℕ
 countersOf h = elements (layout counters) h
 
--- 'samples, active channels and dimensions for an acquisition'
+-- 'samples, active channels and dimensions for an acquisition', and its mask's answer
 unfoldable pub numbers : List ℕ → List ℕ
-numbers h = get number-of-samples h ∷ get active-channels h ∷ get trajectory-dimensions h ∷ []
+numbers h =
+    get number-of-samples h ∷ get active-channels h ∷ get trajectory-dimensions h ∷
+    maskNumber (maskAnswer h) ∷ maskOnes (maskAnswer h) ∷ []
 
 abbrev pub form : Form
 form =

@@ -1,4 +1,5 @@
--- The count of ones in the channel mask, word by word; and that a mask is all zero exactly when it has no ones.
+-- The count of ones in the channel mask, word by word; that a mask is all zero exactly when it has no ones; that its answer is told by two numbers;
+-- and that no check looks at it.
 -- Assumes nothing.
 use Prim.Native.Nat.{ℕ, zero, suc, _+_, _-_, _*_, _/_, _^_, _≤_, _<_}
 use native.Mathlib.Omega.{arith}
@@ -10,7 +11,12 @@ use lib.Dec.{eqb}
 use lib.Count.{ones, ones-step, ones-le}
 use Rattle.mrd_numbers.specs.Little.{num}
 use Rattle.mrd_format.specs.Elements.{elements, elementsFrom}
-use Rattle.mrd_format.specs.Acquisition.{layout, channel-mask, onesOf, allZero}
+use Rattle.mrd_logic.specs.Choice.{pick}
+use Rattle.mrd_logic.specs.Every.{Every}
+use Rattle.mrd_format.specs.declared.mask.Mask.{Mask}
+use Rattle.mrd_format.specs.declared.mask.Mask.the-variants.{NotStated, Agrees, Differs}
+use Rattle.mrd_format.specs.Acquisition.{Field, version, number-of-samples, available-channels, active-channels, channel-mask, discard-pre, discard-post}
+use Rattle.mrd_format.specs.Acquisition.{layout, get, onesOf, allZero, maskNumber, maskOnes, checks}
 
 -- after i words: n ones counted, at most 64 a word, and with those of the words that are left they are all
 pub record Counted (h : List ℕ) (i n : ℕ) : Type 0 where
@@ -65,3 +71,23 @@ all-zero (w ∷ ws) = rw (zero-ones w, all-zero ws) (both (ones w) (onesOf ws))
     both : (a b : ℕ) → (eqb a 0 && eqb b 0) ≡ eqb (a + b) 0
     both zero b = let less : 0 + b ≡ b = omega arith in rw less
     both (suc a) b = rw (ne-eqb (suc a) 0 (λ e. omega arith)) (sym (ne-eqb (suc a + b) 0 (λ e. omega arith)))
+
+-- the answer with this number and so many ones
+abbrev pub answerWith : ℕ → ℕ → Mask
+answerWith k n = pick (eqb k 1) NotStated (pick (eqb k 2) (Agrees n) (Differs n))
+
+-- so the number of an answer and the ones counted tell which answer it is
+pub told : (a : Mask) → answerWith (maskNumber a) (maskOnes a) ≡ a
+told NotStated = refl
+told (Agrees n) = refl
+told (Differs n) = refl
+
+-- the fields that the checks look at; the mask is none of them
+abbrev pub checked : List Field
+checked = version ∷ number-of-samples ∷ available-channels ∷ active-channels ∷ discard-pre ∷ discard-post ∷ []
+
+-- headers that agree in these pass the same checks, whatever their masks
+pub checks-look-at : (g h : List ℕ) → Every (λ (f : Field). get f g ≡ get f h) checked → checks g ≡ checks h
+unfolding checks
+checks-look-at g h e =
+    rw (e .0, e .1 .0, e .1 .1 .0, e .1 .1 .1 .0, e .1 .1 .1 .1 .0, e .1 .1 .1 .1 .1 .0)

@@ -2,6 +2,7 @@
 -- Assumes nothing.
 use Prim.Native.Nat.{ℕ}
 use mathlib.Core.List.{List, [], _∷_}
+use Rattle.mrd_format.specs.Acquisition.{maskNumber, maskOnes}
 use Rattle.mrd_format.specs.declared.kind.Kind.{Kind}
 use Rattle.mrd_format.specs.declared.kind.Kind
 use Rattle.mrd_format.specs.declared.shape.AcquisitionShape.{AcquisitionShape}
@@ -21,7 +22,8 @@ kindOf (Image s) = Kind.Image
 kindOf (Waveform s) = Kind.Waveform
 
 abbrev pub acquisitionNumbers : AcquisitionShape → List ℕ
-acquisitionNumbers s = s .«number_of_samples» ∷ s .«active_channels» ∷ s .«trajectory_dimensions» ∷ []
+acquisitionNumbers s =
+    s .«number_of_samples» ∷ s .«active_channels» ∷ s .«trajectory_dimensions» ∷ maskNumber (s .mask) ∷ maskOnes (s .mask) ∷ []
 
 abbrev pub imageNumbers : ImageShape → List ℕ
 imageNumbers s =

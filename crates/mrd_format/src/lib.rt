@@ -1,15 +1,17 @@
-// The format of one message: the eight kinds, the numbers of refusal, the shape of a message, and sizes
-// that cannot wrap. The header tables, the checks and the rest of the format's definitions stand in
-// specs/.
+// The format of one message: the eight kinds, the numbers of refusal, the shape of a message, what a channel
+// mask says, and sizes that cannot wrap. The header tables, the checks and the rest of the format's
+// definitions stand in specs/.
 //
 // Assumes nothing.
 mod kind;
+mod mask;
 pub mod refusal;
 mod shape;
 pub mod size;
 
 pub use kind::Identified;
 pub use kind::Kind;
+pub use mask::Mask;
 pub use shape::AcquisitionShape;
 pub use shape::ImageShape;
 pub use shape::Shape;

@@ -16,7 +16,7 @@ pub const VERSION: u8 = 4;
 // No zero among the name's 1,024 bytes; of the writer: a name over 1,023 bytes or holding a zero.
 pub const NAME: u8 = 5;
 
-// Active channels above available, or a mask that isn't all zero whose count of ones differs from them.
+// Active channels above available.
 pub const CHANNELS: u8 = 6;
 
 // Discard pre plus discard post above the number of samples.

@@ -2,6 +2,7 @@
 ghost use mathlib.Core.Path.{_≡_};
 ghost use Rattle.mrd_format.specs.Shapes.{kindOf};
 use crate::kind::Kind;
+use crate::mask::Mask;
 
 // The length of a name or of a text, in bytes.
 pub struct TextShape {
@@ -12,6 +13,7 @@ pub struct AcquisitionShape {
     pub number_of_samples: u16,
     pub active_channels: u16,
     pub trajectory_dimensions: u16,
+    pub mask: Mask,
 }
 
 pub struct ImageShape {

@@ -1,9 +1,12 @@
 // Lists the records of the stream on standard input: a line for each with its number, id, start and
-// size, or one line with the refusal. At most 65,536 bytes are listed; of more, nothing is, and what
-// comes after the first byte too many is not read.
+// size, and ` mask` with the count of ones where a channel mask differs from the active channels; or one
+// line with the refusal. At most 65,536 bytes are listed; of more, nothing is, and what comes after the
+// first byte too many is not read.
 use libc::STDIN_FILENO;
 use libc::STDOUT_FILENO;
 use mrd_cursor::Cursor;
+use mrd_format::Mask;
+use mrd_format::Shape;
 use mrd_stream::Checked;
 use mrd_stream::PlacedRecord;
 use mrd_stream::Refusal;
@@ -67,7 +70,19 @@ fn list_record(record: PlacedRecord) {
     io::print_decimal(STDOUT_FILENO, place.start as u64);
     io::write_all(STDOUT_FILENO, b" ");
     io::print_decimal(STDOUT_FILENO, place.size as u64);
+    list_mask(shape);
     io::write_all(STDOUT_FILENO, b"\n");
+}
+
+// Of an acquisition whose mask differs from its active channels: the ones that the mask has.
+fn list_mask(shape: Shape) {
+    if let Shape::Acquisition(acquisition) = shape {
+        let mask = acquisition.mask;
+        if let Mask::Differs(ones) = mask {
+            io::write_all(STDOUT_FILENO, b" mask ");
+            io::print_decimal(STDOUT_FILENO, ones as u64);
+        }
+    }
 }
 
 fn list_refusal(refusal: Refusal) {

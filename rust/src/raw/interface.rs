@@ -19,7 +19,7 @@ const _: fn(mrd_question) -> usize = |of| of.offset;
 const _: () = assert!(offset_of!(mrd_question, counters) == 32);
 const _: fn(mrd_question) -> [u16; 17] = |of| of.counters;
 
-const _: () = assert!(size_of::<mrd_placed>() == 80);
+const _: () = assert!(size_of::<mrd_placed>() == 88);
 const _: () = assert!(offset_of!(mrd_placed, refusal) == 0);
 const _: fn(mrd_placed) -> u32 = |of| of.refusal;
 const _: () = assert!(offset_of!(mrd_placed, record) == 8);
@@ -52,6 +52,10 @@ const _: () = assert!(offset_of!(mrd_placed, matrix_size_z) == 76);
 const _: fn(mrd_placed) -> u16 = |of| of.matrix_size_z;
 const _: () = assert!(offset_of!(mrd_placed, data_type) == 78);
 const _: fn(mrd_placed) -> u16 = |of| of.data_type;
+const _: () = assert!(offset_of!(mrd_placed, mask) == 80);
+const _: fn(mrd_placed) -> u32 = |of| of.mask;
+const _: () = assert!(offset_of!(mrd_placed, mask_ones) == 84);
+const _: fn(mrd_placed) -> u32 = |of| of.mask_ones;
 
 const _: () = assert!(size_of::<mrd_field_answer>() == 48);
 const _: () = assert!(offset_of!(mrd_field_answer, refusal) == 0);
@@ -91,7 +95,7 @@ const _: fn(mrd_view_place) -> usize = |of| of.start;
 const _: () = assert!(offset_of!(mrd_view_place, length) == 32);
 const _: fn(mrd_view_place) -> usize = |of| of.length;
 
-const _: () = assert!(size_of::<mrd_reply>() == 224);
+const _: () = assert!(size_of::<mrd_reply>() == 232);
 const _: () = assert!(offset_of!(mrd_reply, refusal) == 0);
 const _: fn(mrd_reply) -> u32 = |of| of.refusal;
 const _: () = assert!(offset_of!(mrd_reply, record) == 8);
@@ -100,11 +104,11 @@ const _: () = assert!(offset_of!(mrd_reply, byte) == 16);
 const _: fn(mrd_reply) -> usize = |of| of.byte;
 const _: () = assert!(offset_of!(mrd_reply, place) == 24);
 const _: fn(mrd_reply) -> mrd_placed = |of| of.place;
-const _: () = assert!(offset_of!(mrd_reply, view) == 104);
+const _: () = assert!(offset_of!(mrd_reply, view) == 112);
 const _: fn(mrd_reply) -> mrd_view_place = |of| of.view;
-const _: () = assert!(offset_of!(mrd_reply, field) == 144);
+const _: () = assert!(offset_of!(mrd_reply, field) == 152);
 const _: fn(mrd_reply) -> mrd_field_answer = |of| of.field;
-const _: () = assert!(offset_of!(mrd_reply, found) == 192);
+const _: () = assert!(offset_of!(mrd_reply, found) == 200);
 const _: fn(mrd_reply) -> mrd_found = |of| of.found;
 
 const _: () = assert!(size_of::<mrd_checked>() == 32);
@@ -131,14 +135,14 @@ const _: fn(mrd_cursor_answer) -> u32 = |of| of.refusal;
 const _: () = assert!(offset_of!(mrd_cursor_answer, cursor) == 8);
 const _: fn(mrd_cursor_answer) -> mrd_cursor = |of| of.cursor;
 
-const _: () = assert!(size_of::<mrd_step>() == 144);
+const _: () = assert!(size_of::<mrd_step>() == 152);
 const _: () = assert!(offset_of!(mrd_step, ended) == 0);
 const _: fn(mrd_step) -> bool = |of| of.ended;
 const _: () = assert!(offset_of!(mrd_step, here) == 8);
 const _: fn(mrd_step) -> mrd_placed = |of| of.here;
-const _: () = assert!(offset_of!(mrd_step, next) == 88);
+const _: () = assert!(offset_of!(mrd_step, next) == 96);
 const _: fn(mrd_step) -> mrd_cursor = |of| of.next;
-const _: () = assert!(offset_of!(mrd_step, answer) == 112);
+const _: () = assert!(offset_of!(mrd_step, answer) == 120);
 const _: fn(mrd_step) -> mrd_checked = |of| of.answer;
 
 const _: () = assert!(size_of::<mrd_matched>() == 24);

@@ -1,6 +1,6 @@
 //! The library's answers in the second reader's words, so that the two can be compared.
 
-use cotterleaf::{Field, Kind, Record, Refusal};
+use cotterleaf::{Field, Kind, Mask, Record, Refusal};
 use second_reader::{Detail, Refused};
 use std::ops::Range;
 
@@ -51,10 +51,12 @@ fn detail(kind: Kind) -> Detail {
             number_of_samples: samples,
             active_channels,
             trajectory_dimensions,
+            mask,
         } => Detail::Acquisition {
             samples,
             active_channels,
             dimensions: trajectory_dimensions,
+            mask: mask_answer(mask),
         },
         Kind::Image {
             matrix_size,
@@ -71,6 +73,14 @@ fn detail(kind: Kind) -> Detail {
             number_of_samples: samples,
             channels,
         } => Detail::Waveform { samples, channels },
+    }
+}
+
+fn mask_answer(mask: Mask) -> second_reader::Mask {
+    match mask {
+        Mask::NotStated => second_reader::Mask::NotStated,
+        Mask::Agrees { ones } => second_reader::Mask::Agrees { ones },
+        Mask::Differs { ones } => second_reader::Mask::Differs { ones },
     }
 }
 

@@ -3,7 +3,7 @@
 
 use crate::tally::{Outcome, Tally};
 use cotterleaf::raw;
-use second_reader::{self as second, Detail, Field, GivenIndex, Kind, Refused};
+use second_reader::{self as second, Detail, Field, GivenIndex, Kind, Mask, Refused};
 use streams::Rng;
 
 /// Number, record and byte of a refusal as the C functions gives them.
@@ -54,10 +54,16 @@ fn set_own_numbers(placed: &mut raw::mrd_placed, detail: Detail) {
             samples,
             active_channels,
             dimensions,
+            mask,
         } => {
             placed.number_of_samples = samples;
             placed.channels = active_channels;
             placed.trajectory_dimensions = dimensions;
+            (placed.mask, placed.mask_ones) = match mask {
+                Mask::NotStated => (raw::MRD_MASK_NOT_STATED, 0),
+                Mask::Agrees { ones } => (raw::MRD_MASK_AGREES, ones),
+                Mask::Differs { ones } => (raw::MRD_MASK_DIFFERS, ones),
+            };
         }
         Detail::Image {
             matrix_size,

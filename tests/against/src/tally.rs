@@ -1,7 +1,7 @@
 //! What a run has met, the comparison that counts it, and the table that is printed at the end.
 
 use crate::answers::Answer;
-use second_reader::Kind;
+use second_reader::{Detail, Kind, Mask};
 use std::collections::BTreeMap;
 use std::fmt::Debug;
 use streams::WRITER_REFUSALS;
@@ -97,9 +97,27 @@ const VIEWS: &[&str] = &[
 ];
 
 /// Everything but answers that a run must meet, by group.
-const GROUPS: [(&str, &[&str]); 10] = [
+const GROUPS: [(&str, &[&str]); 13] = [
     ("view shown", VIEWS),
     ("view where a walk stands", VIEWS),
+    (
+        "mask, no channel active",
+        &["not stated", "differs by one", "differs", "all ones"],
+    ),
+    (
+        "mask, 1 to 1,024 channels active",
+        &[
+            "not stated",
+            "agrees",
+            "differs by one",
+            "differs",
+            "all ones",
+        ],
+    ),
+    (
+        "mask, more channels active",
+        &["not stated", "differs", "all ones"],
+    ),
     ("element", &["whole", "signed", "float", "NaN"]),
     (
         "file given",
@@ -206,8 +224,33 @@ impl Tally {
         *self.met.entry((group, what)).or_default() += 1;
     }
 
-    pub fn note_kind(&mut self, kind: Kind) {
-        *self.kinds.entry(kind).or_default() += 1;
+    pub fn note_kind(&mut self, detail: Detail) {
+        *self.kinds.entry(detail.kind()).or_default() += 1;
+        if let Detail::Acquisition {
+            active_channels,
+            mask,
+            ..
+        } = detail
+        {
+            self.note_mask(active_channels, mask);
+        }
+    }
+
+    fn note_mask(&mut self, active_channels: u16, mask: Mask) {
+        let group = match active_channels {
+            0 => "mask, no channel active",
+            1..=1_024 => "mask, 1 to 1,024 channels active",
+            _ => "mask, more channels active",
+        };
+        let by_one = |ones: u32| ones.abs_diff(u32::from(active_channels)) == 1;
+        let what = match mask {
+            Mask::NotStated => "not stated",
+            Mask::Agrees { .. } => "agrees",
+            Mask::Differs { ones: 1_024 } => "all ones",
+            Mask::Differs { ones } if by_one(ones) => "differs by one",
+            Mask::Differs { .. } => "differs",
+        };
+        self.note(group, what);
     }
 
     /// Counts what another share of the streams has met too.

@@ -108,7 +108,7 @@ pub fn walk(tally: &mut Tally, rng: &mut Rng, bytes: &[u8], read: &Read) -> Outc
     for record in &read.records {
         let next = same_step(tally, &stream, cursor, Met::Record(*record))?;
         cursor = next.expect("a record comes with the cursor after it");
-        tally.note_kind(record.detail.kind());
+        tally.note_kind(record.detail);
         if rng.one_in(4 + read.count() / 4) {
             same_rest(tally, &stream, cursor, answer)?;
         }

@@ -4,7 +4,7 @@
 use crate::description::{checksum, number, Described, Description, Fact, Member};
 use crate::readers::{Library, Part, Reader, SecondReader};
 use crate::tables;
-use second_reader::{Field, Kind, Type};
+use second_reader::{Field, Kind, Mask, Type};
 
 /// What was compared, for the line that a passed check prints.
 #[derive(Clone, Copy, Debug, Default, PartialEq, Eq)]
@@ -75,13 +75,16 @@ struct Question<'a> {
 
 impl Question<'_> {
     fn record(&self, described: &Described, compared: &mut Compared) -> Result<(), String> {
-        let (mut members, mut flags, mut parts) = (0, 0, 0);
+        let (mut members, mut flags, mut masks, mut parts) = (0, 0, 0, 0);
         for fact in &described.facts {
             if let Some(member) = self.members.iter().find(|member| member.name == fact.name) {
                 compared.elements += self.member(member, fact)?;
                 members += 1;
             } else if fact.name == "flags_set" {
                 flags += self.flags(fact)?;
+            } else if fact.name == "mask_channels" {
+                self.mask(fact)?;
+                masks += 1;
             } else {
                 self.part(fact)?;
                 parts += 1;
@@ -91,12 +94,13 @@ impl Question<'_> {
         let due = (
             self.members.len(),
             if acquisition { 64 } else { 0 },
+            usize::from(acquisition),
             self.parts_due()?,
         );
-        if (members, flags, parts) != due {
-            let described = (members, flags, parts);
+        if (members, flags, masks, parts) != due {
+            let described = (members, flags, masks, parts);
             return Err(format!(
-                "{described:?} members, flags and parts are described, {due:?} are due"
+                "{described:?} members, flags, masks and parts are described, {due:?} are due"
             ));
         }
         if acquisition {
@@ -148,6 +152,47 @@ impl Question<'_> {
         }
     }
 
+    /// The channels that the library finds named in the mask are those that are read, and what the mask says goes by
+    /// their number.
+    fn mask(&self, fact: &Fact) -> Result<(), String> {
+        let described: Result<Vec<usize>, String> =
+            fact.words.iter().map(|word| number(word)).collect();
+        let (described, read) = (described?, self.mask_channels()?);
+        if described != read {
+            return Err(format!("the mask names {read:?}, not {described:?}"));
+        }
+        let ones = described.len() as u32;
+        let held = match ones {
+            0 => Mask::NotStated,
+            _ if u64::from(ones) == self.active_channels()? => Mask::Agrees { ones },
+            _ => Mask::Differs { ones },
+        };
+        match self.reader.mask(self.stream, self.n) {
+            Ok(Some(read)) if read == held => Ok(()),
+            other => Err(format!("its mask is {other:?}, not {held:?}")),
+        }
+    }
+
+    fn mask_channels(&self) -> Result<Vec<usize>, String> {
+        let at = self.offset_of("channel_mask")?;
+        let mut channels = vec![];
+        for word in 0..16 {
+            let Field::Whole(bits) = self.field(at + 8 * word)? else {
+                return Err("the mask is no whole number".to_string());
+            };
+            let set = (0..64).filter(|bit| bits >> bit & 1 == 1);
+            channels.extend(set.map(|bit| 64 * word + bit));
+        }
+        Ok(channels)
+    }
+
+    fn active_channels(&self) -> Result<u64, String> {
+        match self.field(self.offset_of("active_channels")?)? {
+            Field::Whole(channels) => Ok(channels),
+            other => Err(format!("the active channels are {other:?}")),
+        }
+    }
+
     fn offset_of(&self, name: &str) -> Result<usize, String> {
         let member = self.members.iter().find(|member| member.name == name);
         member
@@ -188,9 +233,7 @@ impl Question<'_> {
         match self.kind {
             Kind::Close => Ok(0),
             Kind::Acquisition => {
-                let Field::Whole(channels) = self.field(self.offset_of("active_channels")?)? else {
-                    return Err("the channels are no whole number".to_string());
-                };
+                let channels = self.active_channels()?;
                 match self
                     .reader
                     .view(self.stream, self.n, Part::Channel(channels))

@@ -1,8 +1,8 @@
 //! The two readers that are judged by the description: the proved library by its C functions, and the
 //! second reader. Both answer in the second reader's types.
 
-use cotterleaf::{Refusal, Stream};
-use second_reader::{Field, GivenIndex};
+use cotterleaf::{Kind, Refusal, Stream};
+use second_reader::{Detail, Field, GivenIndex, Mask};
 
 /// Number, first byte, size with the id, and id of a record.
 #[derive(Clone, Copy, Debug, PartialEq, Eq)]
@@ -30,6 +30,8 @@ pub trait Reader {
     fn field(&self, stream: &[u8], n: u64, offset: u64) -> Result<Field, u32>;
     fn view<'a>(&self, stream: &'a [u8], n: u64, part: Part) -> Result<&'a [u8], u32>;
     fn find(&self, stream: &[u8], n: u64, counters: [u16; 17]) -> Result<u64, u32>;
+    /// What the mask of record n says; none where it is no acquisition.
+    fn mask(&self, stream: &[u8], n: u64) -> Result<Option<Mask>, u32>;
     fn flag(&self, flags: u64, n: u32) -> bool;
 }
 
@@ -95,6 +97,18 @@ impl Reader for Library {
         found.map(|number| number as u64).map_err(number_of)
     }
 
+    fn mask(&self, stream: &[u8], n: u64) -> Result<Option<Mask>, u32> {
+        let record = Stream::new(stream).place(n as usize).map_err(number_of)?;
+        Ok(match record.kind {
+            Kind::Acquisition { mask, .. } => Some(match mask {
+                cotterleaf::Mask::NotStated => Mask::NotStated,
+                cotterleaf::Mask::Agrees { ones } => Mask::Agrees { ones },
+                cotterleaf::Mask::Differs { ones } => Mask::Differs { ones },
+            }),
+            _ => None,
+        })
+    }
+
     fn flag(&self, flags: u64, n: u32) -> bool {
         cotterleaf::flag_test(flags, n)
     }
@@ -143,6 +157,16 @@ impl Reader for SecondReader {
     fn find(&self, stream: &[u8], n: u64, counters: [u16; 17]) -> Result<u64, u32> {
         second_reader::find(stream, GivenIndex::NONE, n, &counters)
             .map_err(|refused| refused.number())
+    }
+
+    fn mask(&self, stream: &[u8], n: u64) -> Result<Option<Mask>, u32> {
+        match second_reader::kind_and_place(stream, GivenIndex::NONE, n) {
+            Ok(record) => Ok(match record.detail {
+                Detail::Acquisition { mask, .. } => Some(mask),
+                _ => None,
+            }),
+            Err(refused) => Err(refused.number()),
+        }
     }
 
     fn flag(&self, flags: u64, n: u32) -> bool {

@@ -1,6 +1,6 @@
 //! The kept stream passes, and whatever is changed in it or in its description is found.
 
-use cotterleaf::{Kind, Message, Part, Record, Stream};
+use cotterleaf::{Kind, Mask, Message, Part, Record, Stream};
 use field_data::check::check_both;
 use field_data::description::Description;
 
@@ -30,7 +30,24 @@ fn both_readers_find_what_the_ismrmrd_library_holds() {
             .filter(|record| record.id == id)
             .count()
     };
-    assert_eq!([3, 1008, 1022, 1026, 4].map(count), [1, 42, 2, 1, 1]);
+    assert_eq!([3, 1008, 1022, 1026, 4].map(count), [1, 43, 2, 1, 1]);
+}
+
+/// The phantom's masks are zero, one acquisition's names its channels, and after the ISMRMRD library's own `resize` to
+/// fewer channels it still names those from before.
+#[test]
+fn masks_are_told_as_the_field_leaves_them() {
+    let (stream, _) = kept();
+    let masks: Vec<Mask> = Stream::new(&stream)
+        .records()
+        .filter_map(|record| match record.unwrap().kind {
+            Kind::Acquisition { mask, .. } => Some(mask),
+            _ => None,
+        })
+        .collect();
+    let mut due = vec![Mask::NotStated; 41];
+    due.extend([Mask::Agrees { ones: 3 }, Mask::Differs { ones: 3 }]);
+    assert_eq!(masks, due);
 }
 
 /// The description covers every byte of the stream, so that no flipped bit goes unseen.

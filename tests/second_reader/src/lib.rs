@@ -1,4 +1,4 @@
-//! A second reader and writer of MRD message streams, written from document 01 alone and for
+//! A second reader and writer of MRD message streams, written from documents 01 and 02 alone and for
 //! clarity. It shares nothing with the proved code, so that a mistake in one of the two shows as
 //! a difference between them.
 //!
@@ -8,6 +8,7 @@ pub mod headers;
 pub mod index;
 pub mod kinds;
 pub mod listing;
+pub mod mask;
 pub mod message;
 pub mod normal;
 pub mod numbers;
@@ -21,6 +22,7 @@ pub use headers::{Entry, Field, Table, Type};
 pub use index::{agrees, fill_columns, index_bytes, own_columns, write_index, Columns, GivenIndex};
 pub use kinds::Kind;
 pub use listing::listing;
+pub use mask::Mask;
 pub use message::{Detail, PartName};
 pub use normal::normal_form;
 pub use questions::{

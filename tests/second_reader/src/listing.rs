@@ -1,5 +1,7 @@
 //! What the listing program prints.
 
+use crate::mask::Mask;
+use crate::message::Detail;
 use crate::stream::records;
 use std::fmt::Write;
 
@@ -17,9 +19,10 @@ pub fn listing(input: &[u8]) -> String {
             lines.push_str("record id start bytes\n");
             for record in &records {
                 let id = record.detail.kind().id();
+                let mask = differing_mask(&record.detail);
                 writeln!(
                     lines,
-                    "{} {} {} {}",
+                    "{} {} {} {}{mask}",
                     record.number, id, record.start, record.size
                 )
                 .expect("a string takes every line");
@@ -37,4 +40,15 @@ pub fn listing(input: &[u8]) -> String {
         }
     }
     lines
+}
+
+/// How the line of an acquisition whose mask differs ends; nothing for all others.
+fn differing_mask(detail: &Detail) -> String {
+    match detail {
+        Detail::Acquisition {
+            mask: Mask::Differs { ones },
+            ..
+        } => format!(" mask {ones}"),
+        _ => String::new(),
+    }
 }

@@ -2,6 +2,7 @@
 
 use crate::headers::Table;
 use crate::kinds::Kind;
+use crate::mask::{mask, Mask};
 use crate::numbers;
 use crate::{LARGEST_MESSAGE, NAME_FIELD};
 
@@ -25,6 +26,7 @@ pub enum Detail {
         samples: u16,
         active_channels: u16,
         dimensions: u16,
+        mask: Mask,
     },
     Image {
         matrix_size: [u16; 3],
@@ -88,6 +90,7 @@ impl Detail {
                 samples,
                 active_channels,
                 dimensions,
+                ..
             } => vec![
                 (
                     PartName::Trajectory,
@@ -179,14 +182,6 @@ fn acquisition_fault(table: &Table, header: &[u8]) -> Option<u32> {
     if active > table.whole(header, "available_channels", 0) {
         return Some(6);
     }
-    // Only the count of ones is compared: which channels they stand for is not looked at.
-    let mut ones = 0;
-    for word in 0..16 {
-        ones += u64::from(table.whole(header, "channel_mask", word).count_ones());
-    }
-    if ones != 0 && ones != active {
-        return Some(6);
-    }
     let discarded = table.whole(header, "discard_pre", 0) + table.whole(header, "discard_post", 0);
     if discarded > table.whole(header, "number_of_samples", 0) {
         return Some(7);
@@ -203,6 +198,7 @@ pub fn header_detail(kind: Kind, header: &[u8], attribute_length: u64) -> Detail
             samples: number("number_of_samples", 0),
             active_channels: number("active_channels", 0),
             dimensions: number("trajectory_dimensions", 0),
+            mask: mask(table, header),
         },
         Kind::Image => Detail::Image {
             matrix_size: [

@@ -60,29 +60,58 @@ fn check_5_needs_a_zero_in_the_name() {
 }
 
 #[test]
-fn check_6_compares_channels_and_counts_ones() {
-    let judged = |available: u16, active: u16, mask: &[(usize, u64)]| {
+fn check_6_compares_active_and_available_channels_alone() {
+    let judged = |available: u16, active: u16, mask: u64| {
         let mut header = acquisition_header(1, active, 0);
         put16(&mut header, 36, available);
+        put64(&mut header, 40, mask);
+        number(&whole(&[&acquisition(&header)]))
+    };
+    // Whatever the mask says.
+    for mask in [0, 0b111, 0b11, 0b1111, u64::MAX] {
+        assert_eq!(judged(3, 3, mask), 0);
+        assert_eq!(judged(2, 3, mask), 6);
+        assert_eq!(judged(65_535, 3, mask), 0);
+        assert_eq!(judged(0, 0, mask), 0);
+        assert_eq!(judged(0, 1, mask), 6);
+    }
+}
+
+#[test]
+fn a_mask_is_not_stated_or_agrees_or_differs() {
+    let told = |active: u16, mask: &[(usize, u64)]| {
+        let mut header = acquisition_header(0, active, 0);
+        put16(&mut header, 36, 2_000);
         for &(word, ones) in mask {
             put64(&mut header, 40 + 8 * word, ones);
         }
-        number(&whole(&[&acquisition(&header)]))
+        let records = records(&whole(&[&acquisition(&header)])).expect("no mask is refused");
+        match records[1].detail {
+            Detail::Acquisition { mask, .. } => mask,
+            other => panic!("no acquisition: {other:?}"),
+        }
     };
-    assert_eq!(judged(3, 3, &[]), 0);
-    assert_eq!(judged(2, 3, &[]), 6);
-    assert_eq!(judged(65_535, 3, &[]), 0);
-    assert_eq!(judged(3, 3, &[(0, 0b111)]), 0);
-    assert_eq!(judged(3, 3, &[(0, 0b11)]), 6);
-    assert_eq!(judged(3, 3, &[(0, 0b1111)]), 6);
-    // Bits above the available channels, spread over the words, are only counted.
-    assert_eq!(judged(3, 3, &[(0, 1 << 63), (7, 1), (15, 1 << 63)]), 0);
-    assert_eq!(judged(3, 0, &[(15, 1 << 63)]), 6);
-    assert_eq!(judged(2_000, 1_024, &[]), 0);
+    let (agrees, differs) = (
+        |ones| Mask::Agrees { ones },
+        |ones| Mask::Differs { ones },
+    );
+    assert_eq!(told(3, &[]), Mask::NotStated);
+    assert_eq!(told(0, &[]), Mask::NotStated);
+    assert_eq!(told(3, &[(0, 0b111)]), agrees(3));
+    assert_eq!(told(3, &[(0, 0b11)]), differs(2));
+    assert_eq!(told(3, &[(0, 0b1111)]), differs(4));
+    // Bits spread over the words are only counted.
+    assert_eq!(
+        told(3, &[(0, 1 << 63), (7, 1), (15, 1 << 63)]),
+        agrees(3)
+    );
+    assert_eq!(told(0, &[(15, 1 << 63)]), differs(1));
+    // A mask has 1,024 bits; more channels than that may be active.
     let all: Vec<(usize, u64)> = (0..16).map(|word| (word, u64::MAX)).collect();
-    assert_eq!(judged(2_000, 1_024, &all), 0);
-    assert_eq!(judged(2_000, 1_025, &all), 6);
-    assert_eq!(judged(2_000, 1_025, &[]), 0);
+    assert_eq!(told(1_024, &[]), Mask::NotStated);
+    assert_eq!(told(1_024, &all), agrees(1_024));
+    assert_eq!(told(1_025, &all), differs(1_024));
+    assert_eq!(told(1_025, &[]), Mask::NotStated);
 }
 
 #[test]

@@ -66,6 +66,7 @@ fn p10_sizes_of_an_acquisition() {
             samples: 256,
             active_channels: 2,
             dimensions,
+            mask: Mask::NotStated,
         };
         assert_eq!(record.detail, expected);
     }

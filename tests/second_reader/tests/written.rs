@@ -107,12 +107,17 @@ fn refusals_6_to_9() {
     let none = Parts::default();
     let mut header = acquisition_header(0, 1, 0);
     put16(&mut header, 168, 1);
-    put64(&mut header, 40, 3);
+    put16(&mut header, 36, 0);
     assert_eq!(written(1008, &header, &none), Err(6));
-    put64(&mut header, 40, 1 << 40);
+    put16(&mut header, 36, 1);
     assert_eq!(written(1008, &header, &none), Err(7));
     put16(&mut header, 168, 0);
-    assert!(written(1008, &header, &none).is_ok());
+    // Any mask is written as it is given.
+    for mask in [0, 1 << 40, 3, u64::MAX] {
+        put64(&mut header, 40, mask);
+        let message = written(1008, &header, &none).expect("no mask is refused");
+        assert_eq!(message[2..], header);
+    }
     let attributes = Parts {
         attributes: b"ab",
         ..none

@@ -1,6 +1,6 @@
 //! Streams with a fault: each refusal number on purpose, and damage whose outcome is left open.
 
-use crate::messages::{self, message, set_mask, Message};
+use crate::messages::{self, message, Message};
 use crate::rng::Rng;
 use crate::well_formed::{joined, opening, well_formed};
 use crate::SHORT_REFUSALS;
@@ -124,22 +124,13 @@ fn wrong_channels(rng: &mut Rng) -> Vec<u8> {
         message.set("discard_pre", 0, 65_535);
         message.set("discard_post", 0, 65_535);
     }
-    let active = message.get("active_channels", 0);
-    if active > 0 && rng.one_in(2) {
-        let available = match rng.below(2) {
-            0 => active - 1,
-            _ => rng.below(active),
-        };
-        message.set("available_channels", 0, available);
-    } else {
-        let ones = match active {
-            0 => 1 + rng.below(1_024),
-            1 => 2 + rng.below(60),
-            2..=1_023 => rng.pick(&[active - 1, active + 1]),
-            _ => rng.pick(&[1, 1_023]),
-        };
-        set_mask(rng, &mut message, ones);
-    }
+    let active = message.get("active_channels", 0).max(1);
+    let available = match rng.below(2) {
+        0 => active - 1,
+        _ => rng.below(active),
+    };
+    message.set("active_channels", 0, active);
+    message.set("available_channels", 0, available);
     message.bytes()
 }
 
@@ -238,7 +229,6 @@ fn too_large(rng: &mut Rng, headed: bool) -> Vec<u8> {
             message.set("trajectory_dimensions", 0, dimensions);
             message.set("discard_pre", 0, 0);
             message.set("discard_post", 0, 0);
-            set_mask(rng, &mut message, 0);
             message.bytes()
         }
         Kind::Image if rng.one_in(3) => {
@@ -532,7 +522,7 @@ fn boundary(rng: &mut Rng, width: usize, now: u64) -> u64 {
     }
 }
 
-/// The header entries that the checks and sizes look at.
+/// The header entries that the checks, sizes and kinds look at.
 const JUDGED: [&str; 13] = [
     "version",
     "number_of_samples",

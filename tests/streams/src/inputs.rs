@@ -1,7 +1,7 @@
 //! Inputs of the writer and of questions.
 
 use crate::damaged::unknown_id;
-use crate::messages::{self, message, set_mask, Message};
+use crate::messages::{self, message, Message};
 use crate::rng::Rng;
 use second_reader::questions::counters_of;
 use second_reader::{index_bytes, own_columns, records, Kind, PartName};
@@ -136,14 +136,11 @@ fn refused_message(rng: &mut Rng, number: u32) -> Message {
             message.name.insert(at, 0);
         }
         5 => message.name.resize(1_024 + rng.size(3) as usize, b'n'),
-        6 if rng.one_in(2) => {
-            message.set("active_channels", 0, 5);
-            message.set("available_channels", 0, 4);
-        }
         6 => {
-            let active = message.get("active_channels", 0);
-            let ones = if active < 1_024 { active + 1 } else { 1_023 };
-            set_mask(rng, &mut message, ones);
+            let active = rng.pick(&[1, 5, 1_025, 65_535]);
+            let available = rng.pick(&[0, active - 1]);
+            message.set("active_channels", 0, active);
+            message.set("available_channels", 0, available);
         }
         7 => {
             message.set("discard_pre", 0, 65_535);

@@ -1,7 +1,7 @@
 //! Messages to make streams of, before they become bytes.
 
 use crate::rng::Rng;
-use second_reader::{numbers, Detail, Kind, PartName, Parts};
+use second_reader::{numbers, Detail, Kind, Mask, PartName, Parts};
 
 /// One message with its parts apart. Its bytes follow from them without any check, so that
 /// faulty messages can be built too.
@@ -185,8 +185,8 @@ pub fn acquisition(rng: &mut Rng, most: u64) -> Message {
     message.set("trajectory_dimensions", 0, dimensions);
     let spare = rng.size(65_535 - active);
     message.set("available_channels", 0, active + spare);
-    let masked = active <= 1_024 && rng.one_in(2);
-    set_mask(rng, &mut message, if masked { active } else { 0 });
+    let ones = mask_ones(rng, active);
+    set_mask(rng, &mut message, ones);
     let pre = rng.below(samples + 1);
     let post = match rng.below(3) {
         0 => samples - pre,
@@ -218,10 +218,22 @@ fn acquisition_sizes(rng: &mut Rng, most: u64) -> (u64, u64, u64) {
     }
 }
 
-/// Sets a channel mask of that many ones anywhere among its 1,024 bits.
+/// The ones of a mask: none, as many as channels are active, one more or less, some other number, or all 1,024.
+fn mask_ones(rng: &mut Rng, active: u64) -> u64 {
+    match rng.below(8) {
+        0 | 1 => 0,
+        2 | 3 => active.min(1_024),
+        4 => (active + 1).min(1_024),
+        5 => active.saturating_sub(1).min(1_024),
+        6 => rng.size(1_024),
+        _ => 1_024,
+    }
+}
+
+/// Sets a channel mask of that many ones, at most 1,024, anywhere among its bits.
 pub fn set_mask(rng: &mut Rng, message: &mut Message, ones: u64) {
     let mut words = [0_u64; 16];
-    let mut left = ones.min(1_024);
+    let mut left = ones;
     // Most of a nearly full mask is set word by word, so that the draw below ends soon.
     for word in words.iter_mut() {
         if left > 512 {
@@ -299,6 +311,8 @@ pub fn asked_lengths(message: &Message) -> Vec<(PartName, u128)> {
             samples: size("number_of_samples", 0),
             active_channels: size("active_channels", 0),
             dimensions: size("trajectory_dimensions", 0),
+            // Says nothing of lengths.
+            mask: Mask::NotStated,
         },
         Some(Kind::Image) => Detail::Image {
             matrix_size: [

@@ -58,9 +58,10 @@ fn with_header(kind: Kind) -> Message {
 /// One radial readout of two channels with a trajectory of two dimensions.
 fn acquisition(readout: u64) -> Message {
     let mut message = with_header(Kind::Acquisition);
+    let last = readout == READOUTS - 1;
     let flags = match readout {
         0 => 1 << 6,
-        _ if readout == READOUTS - 1 => 1 << 7,
+        _ if last => 1 << 7,
         _ => 0,
     };
     message.set("flags", 0, flags);
@@ -69,7 +70,9 @@ fn acquisition(readout: u64) -> Message {
     message.set("number_of_samples", 0, SAMPLES);
     message.set("available_channels", 0, 8);
     message.set("active_channels", 0, 2);
-    message.set("channel_mask", 0, 0b101);
+    // The last one's still names the eight coils from before they were compressed to two.
+    let mask = if last { 0b1111_1111 } else { 0b101 };
+    message.set("channel_mask", 0, mask);
     message.set("discard_pre", 0, 2);
     message.set("discard_post", 0, 2);
     message.set("center_sample", 0, SAMPLES / 2);

@@ -14,7 +14,7 @@ returns-2 : tie.Need-returns-2
 unfolding checks
 returns-2 c =
     let version = c .before .before in
-    simp (← version .before .read-u16 .ensures, eq-eqb _ _ (version .if1 .left), ← c .before .channels-differ .ensures, c .if2 .taken)
+    simp (← version .before .read-u16 .ensures, eq-eqb _ _ (version .if1 .left), ← c .before .channels-exceed .ensures, c .if2 .taken)
 
 returns-3 : tie.Need-returns-3
 unfolding checks
@@ -24,7 +24,7 @@ returns-3 c =
     simp (
       ← version .before .read-u16 .ensures,
       eq-eqb _ _ (version .if1 .left),
-      ← channels .before .channels-differ .ensures,
+      ← channels .before .channels-exceed .ensures,
       channels .if2 .left,
       ← c .before .discards-exceed .ensures,
       c .if3 .taken,
@@ -38,7 +38,7 @@ returns-4 c =
     simp (
       ← version .before .read-u16 .ensures,
       eq-eqb _ _ (version .if1 .left),
-      ← channels .before .channels-differ .ensures,
+      ← channels .before .channels-exceed .ensures,
       channels .if2 .left,
       ← c .before .discards-exceed .ensures,
       c .if3 .left,

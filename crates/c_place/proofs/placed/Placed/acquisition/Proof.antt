@@ -5,7 +5,7 @@ use Rattle.c_place.proofs.placed.Placed.acquisition.Statement.{statemen
 use Rattle.c_place.proofs.placed.Placed.acquisition.Tie as tie
 
 returns : tie.Need-returns
-returns c = rw (c .bare .ensures)
+returns c = simp (c .before .before .bare .ensures, c .before .number .ensures, c .ones .ensures)
 
 pub acquisition-spec : {M : Type 1} → statement M
-acquisition-spec = tie.close (tie.spec (λ c κs. search needs) returns)
+acquisition-spec = tie.close (tie.spec (λ c κs. search needs) (λ c κs. search needs) (λ c κs. search needs) returns)

@@ -1,7 +1,8 @@
 //! The baseline is worth comparing with only if it does the same. On drawn, damaged and refused streams and
 //! on a writer's inputs, library and baseline must give the same answers and write the same bytes.
 
-use crate::baseline::{index, normal, questions, reader, writer::Message};
+use crate::baseline::reader::{self, Met};
+use crate::baseline::{index, normal, questions, writer::Message};
 use crate::library;
 use streams::{Rng, SHORT_REFUSALS, WRITER_REFUSALS};
 
@@ -36,10 +37,10 @@ fn on_stream(rng: &mut Rng, stream: &[u8]) -> Result<usize, crate::baseline::Ref
     let answer = library::check(stream);
     assert_eq!(reader::check(stream), answer);
     let mut places = vec![];
-    let walked = library::walk(stream, |start, size, id| places.push((start, size, id)));
+    let walked = library::walk(stream, |met| places.push(met));
     assert_eq!(walked, answer);
     let records = reader::Records::of(stream).map_while(Result::ok);
-    let theirs: Vec<_> = records.map(|r| (r.start, r.size, r.kind.id())).collect();
+    let theirs: Vec<_> = records.map(|record| Met::of(stream, record)).collect();
     assert_eq!(theirs, places);
     for _ in 0..4 {
         let n = streams::record_number(rng, places.len() as u64) as usize;

@@ -1,6 +1,7 @@
 //! The proved library by its C functions, answering in the baseline's types so that the two can be compared.
 
 use crate::baseline::questions::Field;
+use crate::baseline::reader::Met;
 use crate::baseline::writer::Message;
 use crate::baseline::Refusal;
 use cotterleaf::raw;
@@ -24,8 +25,8 @@ pub fn check(stream: &[u8]) -> Result<usize, Refusal> {
     answer(a.refusal, a.record, a.byte, a.count)
 }
 
-/// Hands each record's start, size and id to `each`, and gives the stream's answer.
-pub fn walk(stream: &[u8], mut each: impl FnMut(usize, usize, u16)) -> Result<usize, Refusal> {
+/// Hands each record's place and what its mask says to `each`, and gives the stream's answer.
+pub fn walk(stream: &[u8], mut each: impl FnMut(Met)) -> Result<usize, Refusal> {
     let mut cursor = raw::beginning();
     loop {
         let step = raw::next(stream, cursor);
@@ -33,7 +34,12 @@ pub fn walk(stream: &[u8], mut each: impl FnMut(usize, usize, u16)) -> Result<us
             let a = step.answer;
             return answer(a.refusal, a.record, a.byte, a.count);
         }
-        each(step.here.start, step.here.size, step.here.id);
+        each(Met {
+            start: step.here.start,
+            size: step.here.size,
+            id: step.here.id,
+            mask: (step.here.mask, step.here.mask_ones),
+        });
         cursor = step.next;
     }
 }

@@ -1,7 +1,8 @@
 //! What is measured on one stream. Each operation first shows that library and baseline give the same
 //! answer or write the same bytes, then times both.
 
-use crate::baseline::{index, normal, questions, reader, writer::Message};
+use crate::baseline::reader::{self, Met};
+use crate::baseline::{index, normal, questions, writer::Message};
 use crate::library;
 use crate::made;
 use crate::table::{Row, Unit};
@@ -224,9 +225,7 @@ fn counter(stream: &[u8], n: usize, i: usize) -> u16 {
 /// The count of records, and a sum over what the walk hands out, so that none of it can be left out.
 fn library_walk(stream: &[u8]) -> (usize, usize) {
     let mut sum = 0_usize;
-    let count = library::walk(stream, |start, size, id| {
-        sum = sum.wrapping_add(start ^ size ^ usize::from(id));
-    });
+    let count = library::walk(stream, |met| sum = sum.wrapping_add(met.mixed()));
     (count.expect("an accepted stream"), sum)
 }
 
@@ -234,7 +233,7 @@ fn baseline_walk(stream: &[u8]) -> (usize, usize) {
     let (mut count, mut sum) = (0, 0_usize);
     for record in reader::Records::of(stream) {
         let record = record.expect("an accepted stream");
-        sum = sum.wrapping_add(record.start ^ record.size ^ usize::from(record.kind.id()));
+        sum = sum.wrapping_add(Met::of(stream, record).mixed());
         count += 1;
     }
     (count, sum)

@@ -17,7 +17,7 @@ pub fn u64_at(bytes: &[u8], at: usize) -> u64 {
     u64::from_le_bytes(*bytes[at..].first_chunk().expect("eight bytes"))
 }
 
-/// A kind of message with that kind's own numbers.
+/// A kind of message with the numbers that decide its size.
 #[derive(Clone, Copy, Debug, PartialEq, Eq)]
 pub enum Kind {
     Name {
@@ -33,7 +33,6 @@ pub enum Kind {
         samples: u16,
         channels: u16,
         dimensions: u16,
-        mask: Mask,
     },
     Image {
         matrix_size: [u16; 3],
@@ -47,23 +46,17 @@ pub enum Kind {
     },
 }
 
-/// What a channel mask says, with the ones counted.
-#[derive(Clone, Copy, Debug, PartialEq, Eq)]
-pub enum Mask {
-    NotStated,
-    Agrees(u32),
-    Differs(u32),
-}
-
+/// What the mask of an acquisition with so many active channels says, 1 not stated, 2 agrees or 3 differs, and its
+/// ones.
 #[inline]
-fn mask(header: &[u8; ACQUISITION_HEADER], channels: u16) -> Mask {
+pub fn mask(header: &[u8; ACQUISITION_HEADER], channels: u16) -> (u32, u32) {
     let ones: u32 = (0..16)
         .map(|word| u64_at(header, 40 + 8 * word).count_ones())
         .sum();
     match ones {
-        0 => Mask::NotStated,
-        _ if ones == u32::from(channels) => Mask::Agrees(ones),
-        _ => Mask::Differs(ones),
+        0 => (1, 0),
+        _ if ones == u32::from(channels) => (2, ones),
+        _ => (3, ones),
     }
 }
 
@@ -84,7 +77,6 @@ pub fn acquisition(header: &[u8; ACQUISITION_HEADER]) -> Result<Kind, u32> {
         samples,
         channels,
         dimensions: u16_at(header, 176),
-        mask: mask(header, channels),
     })
 }
 
@@ -154,7 +146,6 @@ impl Kind {
                 samples,
                 channels,
                 dimensions,
-                ..
             } => (
                 u64::from(samples) * u64::from(dimensions) * 4,
                 u64::from(samples) * u64::from(channels) * 8,

@@ -11,6 +11,43 @@ pub struct Record {
     pub kind: Kind,
 }
 
+/// What a walk hands out of a record, by either reader.
+#[derive(Clone, Copy, Debug, PartialEq, Eq)]
+pub struct Met {
+    pub start: usize,
+    pub size: usize,
+    pub id: u16,
+    /// The number of what its mask says, and the ones counted.
+    pub mask: (u32, u32),
+}
+
+impl Met {
+    /// The mask is looked at here and not by the check, which has no use for it.
+    #[inline]
+    pub fn of(stream: &[u8], record: Record) -> Met {
+        let mask = match record.kind {
+            Kind::Acquisition { channels, .. } => {
+                let header = stream[record.start + 2..].first_chunk();
+                headers::mask(header.expect("an acquisition's header"), channels)
+            }
+            _ => (0, 0),
+        };
+        Met {
+            start: record.start,
+            size: record.size,
+            id: record.kind.id(),
+            mask,
+        }
+    }
+
+    /// All of it in one number, so that none can be left out.
+    #[inline]
+    pub fn mixed(self) -> usize {
+        let (mask, ones) = self.mask;
+        self.start ^ self.size ^ usize::from(self.id) ^ (mask + (ones << 2)) as usize
+    }
+}
+
 /// How far the order of messages has come.
 #[derive(Clone, Copy, Debug, PartialEq, Eq, PartialOrd)]
 enum Phase {

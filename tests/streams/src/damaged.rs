@@ -245,7 +245,7 @@ fn too_large(rng: &mut Rng, headed: bool) -> Vec<u8> {
                 ([256; 4], 1),
                 ([65_535, 65_535, 1, 1], 1),
                 ([1, 1, 32_768, 32_768], 3),
-                ([1, 65_535, 256, 1], 8),
+                ([1, 65_535, 257, 1], 8),
             ]);
             set_image_sizes(&mut message, sizes, data_type);
             message.bytes()

@@ -52,8 +52,8 @@ typedef struct {
 
 mrd_checked mrd_check(const uint8_t *stream, size_t stream_length);
 
-/* What an acquisition's channel mask says of its active channels. Only how many bits are set is looked at, not which. A
- * mask that differs is no fault: after a coil compression, say, it may still name the coils from before. */
+/* What an acquisition's channel mask says of its active channels. Only how many bits are set is looked at, not
+ * which. A mask that differs is no fault: after a coil compression, say, it may still name the coils from before. */
 enum {
     MRD_MASK_NOT_STATED = 1, /* all zero */
     MRD_MASK_AGREES = 2,     /* as many ones as active channels */

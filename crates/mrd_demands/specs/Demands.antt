@@ -1,6 +1,6 @@
--- The theorems of the three demands and of the requests, each proved in a line from named parts; start here. They hold of every stream, and are said with the
--- answer (`answer`, `accepted`, `refused`), the record list (`records`), the normal form (`normal`), well-formed messages (`WellFormed`) and
--- cuts (`Cut`). That the code gives these answers and writes these bytes is what its contracts say.
+-- The theorems of the three demands and of the requests, each proved in a line from named parts; start here. They hold of every stream, and are
+-- said with the answer (`answer`, `accepted`, `refused`), the record list (`records`), the normal form (`normal`), well-formed messages
+-- (`WellFormed`) and cuts (`Cut`). That the code gives these answers and writes these bytes is what its contracts say.
 -- Assumes nothing.
 use Prim.Native.Nat.{ℕ, _+_}
 use mathlib.Core.Path.{_≡_, sym, ap, _∙_}

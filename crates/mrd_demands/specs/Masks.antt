@@ -94,7 +94,8 @@ pub any-mask-accepted : (s : List ℕ) {c : ℕ} → answer s ≡ accepted c →
 any-mask-accepted s e i {l} p k w size =
     let it = place-inside s i p in
     let long = acquisition-long (partAt s l) (it .well) (it .kind ∙ k) in
-    replaced-accepted s e i p 42 w (omega (arith, size)) (other-well (partAt s l) w size long (it .well) (it .kind ∙ k)) (other-id (partAt s l) w size long)
+    let well = other-well (partAt s l) w size long (it .well) (it .kind ∙ k) in
+    replaced-accepted s e i p 42 w (omega (arith, size)) well (other-id (partAt s l) w size long)
 
 -- the numbers of an acquisition, its mask's answer among them, are those of the 340 bytes after its id
 pub acquisition-told : (s : List ℕ) (i : ℕ) {l : Located} → place s i ≡ answered l → l .kind ≡ Acquisition →

@@ -82,7 +82,7 @@ maskOf ws active = pick (allZero ws) NotStated (pick (eqb (onesOf ws) active) (A
 unfoldable pub maskAnswer : List ℕ → Mask
 maskAnswer h = maskOf (elements (layout channel-mask) h) (get active-channels h)
 
--- the number of each answer
+-- the number of each answer; 0 stands for a kind that has no mask
 abbrev pub maskNumber : Mask → ℕ
 maskNumber NotStated = 1
 maskNumber (Agrees n) = 2

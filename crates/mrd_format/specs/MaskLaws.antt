@@ -16,7 +16,7 @@ use Rattle.mrd_logic.specs.Every.{Every}
 use Rattle.mrd_format.specs.declared.mask.Mask.{Mask}
 use Rattle.mrd_format.specs.declared.mask.Mask.the-variants.{NotStated, Agrees, Differs}
 use Rattle.mrd_format.specs.Acquisition.{Field, version, number-of-samples, available-channels, active-channels, channel-mask, discard-pre, discard-post}
-use Rattle.mrd_format.specs.Acquisition.{layout, get, onesOf, allZero, maskNumber, maskOnes, checks}
+use Rattle.mrd_format.specs.Acquisition.{layout, get, onesOf, allZero, maskOf, maskNumber, maskOnes, checks}
 
 -- after i words: n ones counted, at most 64 a word, and with those of the words that are left they are all
 pub record Counted (h : List ℕ) (i n : ℕ) : Type 0 where
@@ -72,6 +72,12 @@ all-zero (w ∷ ws) = rw (zero-ones w, all-zero ws) (both (ones w) (onesOf ws))
     both zero b = let less : 0 + b ≡ b = omega arith in rw less
     both (suc a) b = rw (ne-eqb (suc a) 0 (λ e. omega arith)) (sym (ne-eqb (suc a + b) 0 (λ e. omega arith)))
 
+-- a mask of zeros; three ones beside three active channels, and beside two; and a one beside none
+pub mask-examples :
+    (maskOf (0 ∷ 0 ∷ []) 0 ≡ NotStated) × (maskOf (5 ∷ 1 ∷ []) 3 ≡ Agrees 3) × (maskOf (5 ∷ 1 ∷ []) 2 ≡ Differs 3) × (maskOf (0 ∷ 8 ∷ []) 0 ≡ Differs 1)
+unfolding ones
+mask-examples = (refl, refl, refl, refl)
+
 -- the answer with this number and so many ones
 abbrev pub answerWith : ℕ → ℕ → Mask
 answerWith k n = pick (eqb k 1) NotStated (pick (eqb k 2) (Agrees n) (Differs n))
@@ -83,11 +89,11 @@ told (Agrees n) = refl
 told (Differs n) = refl
 
 -- the fields that the checks look at; the mask is none of them
-abbrev pub checked : List Field
-checked = version ∷ number-of-samples ∷ available-channels ∷ active-channels ∷ discard-pre ∷ discard-post ∷ []
+abbrev pub lookedAt : List Field
+lookedAt = version ∷ number-of-samples ∷ available-channels ∷ active-channels ∷ discard-pre ∷ discard-post ∷ []
 
 -- headers that agree in these pass the same checks, whatever their masks
-pub checks-look-at : (g h : List ℕ) → Every (λ (f : Field). get f g ≡ get f h) checked → checks g ≡ checks h
+pub checks-look-at : (g h : List ℕ) → Every (λ (f : Field). get f g ≡ get f h) lookedAt → checks g ≡ checks h
 unfolding checks
 checks-look-at g h e =
     rw (e .0, e .1 .0, e .1 .1 .0, e .1 .1 .1 .0, e .1 .1 .1 .1 .0, e .1 .1 .1 .1 .1 .0)

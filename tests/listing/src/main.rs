@@ -1,5 +1,5 @@
 //! Runs the listing program on many streams and compares its standard output, byte for byte,
-//! with what document 01 says, as the second reader works it out.
+//! with what documents 01 and 02 say, as the second reader works it out.
 //!
 //!     listing [count of drawn streams] [seed] [path of the program]
 //!
@@ -10,12 +10,23 @@ mod program;
 
 use cases::Case;
 use program::Program;
-use second_reader::Kind;
+use second_reader::{Detail, Kind, Mask};
 use std::collections::BTreeMap;
 use std::path::PathBuf;
 use std::process::ExitCode;
 use streams::program::{number_argument, shown};
 use streams::{Rng, SHORT_REFUSALS};
+
+/// What a mask says. Where it differs, the acquisition's line ends in it.
+const MASKS: [&str; 3] = ["not stated", "agreeing", "differing"];
+
+fn name_of(mask: Mask) -> &'static str {
+    match mask {
+        Mask::NotStated => MASKS[0],
+        Mask::Agrees { .. } => MASKS[1],
+        Mask::Differs { .. } => MASKS[2],
+    }
+}
 
 /// How often each outcome was met in runs that agreed.
 #[derive(Default)]
@@ -25,6 +36,7 @@ struct Tally {
     over_the_limit: u64,
     refusals: BTreeMap<u32, u64>,
     kinds: BTreeMap<Kind, u64>,
+    masks: BTreeMap<&'static str, u64>,
     ends: BTreeMap<i32, u64>,
 }
 
@@ -40,6 +52,9 @@ impl Tally {
                 self.accepted += 1;
                 for record in records {
                     *self.kinds.entry(record.detail.kind()).or_default() += 1;
+                    if let Detail::Acquisition { mask, .. } = record.detail {
+                        *self.masks.entry(name_of(mask)).or_default() += 1;
+                    }
                 }
             }
             Err(refusal) => *self.refusals.entry(refusal.number).or_default() += 1,
@@ -62,6 +77,10 @@ impl Tally {
             let times = self.kinds.get(&kind).unwrap_or(&0);
             println!("kind {} ({kind:?}): {times} records listed", kind.id());
         }
+        for mask in MASKS {
+            let times = self.masks.get(mask).unwrap_or(&0);
+            println!("mask {mask}: {times} acquisitions listed");
+        }
         for (code, times) in &self.ends {
             println!("exit code {code}: {times}");
         }
@@ -78,6 +97,11 @@ impl Tally {
         for kind in Kind::ALL {
             if !self.kinds.contains_key(&kind) {
                 missing.push(format!("kind {}", kind.id()));
+            }
+        }
+        for mask in MASKS {
+            if !self.masks.contains_key(mask) {
+                missing.push(format!("a mask that is {mask}"));
             }
         }
         if self.over_the_limit == 0 {

@@ -91,20 +91,14 @@ fn a_mask_is_not_stated_or_agrees_or_differs() {
             other => panic!("no acquisition: {other:?}"),
         }
     };
-    let (agrees, differs) = (
-        |ones| Mask::Agrees { ones },
-        |ones| Mask::Differs { ones },
-    );
+    let (agrees, differs) = (|ones| Mask::Agrees { ones }, |ones| Mask::Differs { ones });
     assert_eq!(told(3, &[]), Mask::NotStated);
     assert_eq!(told(0, &[]), Mask::NotStated);
     assert_eq!(told(3, &[(0, 0b111)]), agrees(3));
     assert_eq!(told(3, &[(0, 0b11)]), differs(2));
     assert_eq!(told(3, &[(0, 0b1111)]), differs(4));
     // Bits spread over the words are only counted.
-    assert_eq!(
-        told(3, &[(0, 1 << 63), (7, 1), (15, 1 << 63)]),
-        agrees(3)
-    );
+    assert_eq!(told(3, &[(0, 1 << 63), (7, 1), (15, 1 << 63)]), agrees(3));
     assert_eq!(told(0, &[(15, 1 << 63)]), differs(1));
     // A mask has 1,024 bits; more channels than that may be active.
     let all: Vec<(usize, u64)> = (0..16).map(|word| (word, u64::MAX)).collect();

@@ -72,8 +72,8 @@ typedef struct {
     uint16_t channels;          /* active, of an acquisition; of an image or waveform */
     uint16_t trajectory_dimensions; /* of an acquisition */
     uint16_t matrix_size_x, matrix_size_y, matrix_size_z, data_type; /* of an image */
-    uint32_t mask;              /* of an acquisition: MRD_MASK_NOT_STATED, MRD_MASK_AGREES or MRD_MASK_DIFFERS */
-    uint32_t mask_ones;         /* counted in an acquisition's mask */
+    uint16_t mask;              /* of an acquisition: MRD_MASK_NOT_STATED, MRD_MASK_AGREES or MRD_MASK_DIFFERS */
+    uint16_t mask_ones;         /* counted in an acquisition's mask */
 } mrd_placed;
 
 mrd_placed mrd_place(const uint8_t *stream, size_t stream_length, size_t n);

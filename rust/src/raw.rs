@@ -33,8 +33,8 @@ pub struct mrd_placed {
     pub matrix_size_y: u16,
     pub matrix_size_z: u16,
     pub data_type: u16,
-    pub mask: u32,
-    pub mask_ones: u32,
+    pub mask: u16,
+    pub mask_ones: u16,
 }
 
 #[repr(C)]
@@ -146,9 +146,9 @@ pub struct mrd_put {
 }
 
 /// The numbers of `mrd_placed::mask`.
-pub const MRD_MASK_NOT_STATED: u32 = 1;
-pub const MRD_MASK_AGREES: u32 = 2;
-pub const MRD_MASK_DIFFERS: u32 = 3;
+pub const MRD_MASK_NOT_STATED: u16 = 1;
+pub const MRD_MASK_AGREES: u16 = 2;
+pub const MRD_MASK_DIFFERS: u16 = 3;
 
 /// The numbers of `mrd_field_answer::type`.
 pub const MRD_WHOLE: u32 = 1;

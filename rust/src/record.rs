@@ -130,19 +130,19 @@ pub enum Mask {
     NotStated,
     /// It has as many ones as there are active channels.
     Agrees {
-        /// The ones counted.
-        ones: u32,
+        /// The ones counted, at most 1,024.
+        ones: u16,
     },
     /// It has another count of ones.
     Differs {
-        /// The ones counted.
-        ones: u32,
+        /// The ones counted, at most 1,024.
+        ones: u16,
     },
 }
 
 impl Mask {
     /// The ones counted, 0 where the mask is not stated.
-    pub fn ones(self) -> u32 {
+    pub fn ones(self) -> u16 {
         match self {
             Mask::NotStated => 0,
             Mask::Agrees { ones } | Mask::Differs { ones } => ones,

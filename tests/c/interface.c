@@ -39,8 +39,8 @@ MEMBER(mrd_placed, matrix_size_x, 72, uint16_t);
 MEMBER(mrd_placed, matrix_size_y, 74, uint16_t);
 MEMBER(mrd_placed, matrix_size_z, 76, uint16_t);
 MEMBER(mrd_placed, data_type, 78, uint16_t);
-MEMBER(mrd_placed, mask, 80, uint32_t);
-MEMBER(mrd_placed, mask_ones, 84, uint32_t);
+MEMBER(mrd_placed, mask, 80, uint16_t);
+MEMBER(mrd_placed, mask_ones, 82, uint16_t);
 
 _Static_assert(sizeof(mrd_field_answer) == 48, "mrd_field_answer: another size");
 MEMBER(mrd_field_answer, refusal, 0, uint32_t);

@@ -301,7 +301,7 @@ static void masks(void)
     static const struct {
         uint16_t active;
         uint64_t first, last; /* words of the mask */
-        uint32_t mask, ones;
+        uint16_t mask, ones;
     } rows[] = {
         {3, 0, 0, MRD_MASK_NOT_STATED, 0},
         {3, 5, 1, MRD_MASK_AGREES, 3},

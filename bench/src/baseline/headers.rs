@@ -49,14 +49,14 @@ pub enum Kind {
 /// What the mask of an acquisition with so many active channels says, 1 not stated, 2 agrees or 3 differs, and its
 /// ones.
 #[inline]
-pub fn mask(header: &[u8; ACQUISITION_HEADER], channels: u16) -> (u32, u32) {
+pub fn mask(header: &[u8; ACQUISITION_HEADER], channels: u16) -> (u16, u16) {
     let ones: u32 = (0..16)
         .map(|word| u64_at(header, 40 + 8 * word).count_ones())
         .sum();
     match ones {
         0 => (1, 0),
-        _ if ones == u32::from(channels) => (2, ones),
-        _ => (3, ones),
+        _ if ones == u32::from(channels) => (2, ones as u16),
+        _ => (3, ones as u16),
     }
 }
 

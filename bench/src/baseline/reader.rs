@@ -18,7 +18,7 @@ pub struct Met {
     pub size: usize,
     pub id: u16,
     /// The number of what its mask says, and the ones counted.
-    pub mask: (u32, u32),
+    pub mask: (u16, u16),
 }
 
 impl Met {
@@ -44,7 +44,7 @@ impl Met {
     #[inline]
     pub fn mixed(self) -> usize {
         let (mask, ones) = self.mask;
-        self.start ^ self.size ^ usize::from(self.id) ^ (mask + (ones << 2)) as usize
+        self.start ^ self.size ^ usize::from(self.id) ^ usize::from(mask + (ones << 2))
     }
 }
 

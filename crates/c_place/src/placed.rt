@@ -34,8 +34,8 @@ pub struct Placed {
     pub matrix_size_y: u16,
     pub matrix_size_z: u16,
     pub data_type: u16,
-    pub mask: u32,
-    pub mask_ones: u32,
+    pub mask: u16,
+    pub mask_ones: u16,
 }
 
 impl Placed {

@@ -113,14 +113,14 @@ fn mask(h: &[u8]) -> Mask
     if ones == 0 {
         return Mask::NotStated;
     }
-    if ones == read_u16(h, ACTIVE_CHANNELS) as u32 {
+    if ones == read_u16(h, ACTIVE_CHANNELS) {
         return Mask::Agrees(ones);
     }
     Mask::Differs(ones)
 }
 
-// The ones in the sixteen words of the channel mask.
-fn mask_ones(h: &[u8]) -> u32
+// The ones in the sixteen words of the channel mask, at most 1,024.
+fn mask_ones(h: &[u8]) -> u16
     requires { ⌜ length (now h) ≡ fixedSize Acquisition ⌝ }
     ensures { λ r. ⌜ r ≡ onesOf (elements (layout «channel-mask») (now (h .entry))) ⌝ }
 {
@@ -130,7 +130,7 @@ fn mask_ones(h: &[u8]) -> u32
         ones += u64::count_ones(read_u64(h, CHANNEL_MASK + i * 8));
         i += 1;
     }
-    ones
+    ones as u16
 }
 
 // The header's own numbers, and what its mask says.

@@ -6,13 +6,13 @@ ghost use Rattle.mrd_format.specs.Acquisition.{maskNumber, maskOnes};
 // many it has.
 pub enum Mask {
     NotStated,
-    Agrees(u32),
-    Differs(u32),
+    Agrees(u16),
+    Differs(u16),
 }
 
 impl Mask {
     // The number of the answer among a kind's own numbers; 0 stands for a kind without a mask.
-    pub fn number(self) -> u32
+    pub fn number(self) -> u16
         ensures { λ r. ⌜ r ≡ maskNumber self ⌝ }
     {
         match self {
@@ -23,7 +23,7 @@ impl Mask {
     }
 
     // The ones counted.
-    pub fn ones(self) -> u32
+    pub fn ones(self) -> u16
         ensures { λ r. ⌜ r ≡ maskOnes self ⌝ }
     {
         match self {

@@ -53,9 +53,9 @@ const _: fn(mrd_placed) -> u16 = |of| of.matrix_size_z;
 const _: () = assert!(offset_of!(mrd_placed, data_type) == 78);
 const _: fn(mrd_placed) -> u16 = |of| of.data_type;
 const _: () = assert!(offset_of!(mrd_placed, mask) == 80);
-const _: fn(mrd_placed) -> u32 = |of| of.mask;
-const _: () = assert!(offset_of!(mrd_placed, mask_ones) == 84);
-const _: fn(mrd_placed) -> u32 = |of| of.mask_ones;
+const _: fn(mrd_placed) -> u16 = |of| of.mask;
+const _: () = assert!(offset_of!(mrd_placed, mask_ones) == 82);
+const _: fn(mrd_placed) -> u16 = |of| of.mask_ones;
 
 const _: () = assert!(size_of::<mrd_field_answer>() == 48);
 const _: () = assert!(offset_of!(mrd_field_answer, refusal) == 0);

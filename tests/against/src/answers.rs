@@ -79,8 +79,8 @@ fn detail(kind: Kind) -> Detail {
 fn mask_answer(mask: Mask) -> second_reader::Mask {
     match mask {
         Mask::NotStated => second_reader::Mask::NotStated,
-        Mask::Agrees { ones } => second_reader::Mask::Agrees { ones },
-        Mask::Differs { ones } => second_reader::Mask::Differs { ones },
+        Mask::Agrees { ones } => second_reader::Mask::Agrees { ones: ones.into() },
+        Mask::Differs { ones } => second_reader::Mask::Differs { ones: ones.into() },
     }
 }
 

@@ -61,8 +61,8 @@ fn set_own_numbers(placed: &mut raw::mrd_placed, detail: Detail) {
             placed.trajectory_dimensions = dimensions;
             (placed.mask, placed.mask_ones) = match mask {
                 Mask::NotStated => (raw::MRD_MASK_NOT_STATED, 0),
-                Mask::Agrees { ones } => (raw::MRD_MASK_AGREES, ones),
-                Mask::Differs { ones } => (raw::MRD_MASK_DIFFERS, ones),
+                Mask::Agrees { ones } => (raw::MRD_MASK_AGREES, ones as u16),
+                Mask::Differs { ones } => (raw::MRD_MASK_DIFFERS, ones as u16),
             };
         }
         Detail::Image {

@@ -102,8 +102,8 @@ impl Reader for Library {
         Ok(match record.kind {
             Kind::Acquisition { mask, .. } => Some(match mask {
                 cotterleaf::Mask::NotStated => Mask::NotStated,
-                cotterleaf::Mask::Agrees { ones } => Mask::Agrees { ones },
-                cotterleaf::Mask::Differs { ones } => Mask::Differs { ones },
+                cotterleaf::Mask::Agrees { ones } => Mask::Agrees { ones: ones.into() },
+                cotterleaf::Mask::Differs { ones } => Mask::Differs { ones: ones.into() },
             }),
             _ => None,
         })

@@ -39,6 +39,9 @@ loop-less c = omega arith
 loop-again : tie.Need-loop-again Inv-loop μ-loop
 loop-again c = let w = c .read-u64 .ensures in rw w (step (c .before .before .loop .inv) (c .before .loop-test .taken) (rw (← w) (search needs)))
 
+cast-result : tie.Need-cast-result Inv-loop μ-loop
+cast-result c = omega arith
+
 returns : tie.Need-returns Inv-loop μ-loop
 returns c = finish (c .before .loop .inv) (c .loop-test .left)
 
@@ -56,4 +59,5 @@ mask-ones-spec =
     add-i
     loop-less
     loop-again
+    cast-result
     returns)

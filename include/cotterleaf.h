@@ -281,8 +281,9 @@ mrd_matched mrd_columns_match(const uint8_t *stream, size_t stream_length, const
                               const uint32_t *counters, size_t counters_length);
 
 /* Writes one message into `out` from `position` on, and answers the position after it. The header is that
- * of the kind, 340, 198 or 32 bytes, or empty; parts that the kind lacks are empty. Order and count
- * are not judged: mrd_check judges the whole stream. */
+ * of the kind, 340, 198 or 32 bytes, or empty; parts that the kind lacks are empty. An image's header is
+ * written with the length of its attributes, whatever it holds there. Order and count are not judged:
+ * mrd_check judges the whole stream. */
 typedef struct {
     mrd_refusal refusal;
     size_t position;

@@ -21,7 +21,7 @@ typedef enum mrd_refusal {
     MRD_REFUSED_CHANNELS = 6,         /* Active channels above available. */
     MRD_REFUSED_DISCARD = 7,          /* Discard pre plus discard post above the number of samples. */
     MRD_REFUSED_DATA_TYPE = 8,        /* An image's data type is not 1 to 8. */
-    MRD_REFUSED_ATTRIBUTE_LENGTH = 9, /* The two attribute lengths differ. */
+    MRD_REFUSED_ATTRIBUTE_LENGTH = 9, /* An image header's attribute length is neither 0 nor the 8-byte length after it. */
     MRD_REFUSED_TOO_LARGE = 10,       /* The whole message, id included, is over 268,435,456 bytes. */
     MRD_REFUSED_MESSAGE_CUT = 11,     /* The whole message doesn't fit in what remains. */
     MRD_REFUSED_ORDER = 12,           /* The order of messages is broken. */
@@ -48,7 +48,7 @@ static inline const char *mrd_refusal_text(uint32_t refusal)
         "more channels are active than available; correct the two channel numbers of the acquisition header",
         "discard_pre and discard_post together exceed the number of samples; correct these numbers of the acquisition header",
         "the image data type is not 1 to 8; correct the data type of the image header",
-        "the image's two attribute lengths differ; write the same length in the header and in the 8 bytes after it",
+        "the image header's attribute length is neither 0 nor the one in the 8 bytes after it; write in the header the length that those 8 bytes have, or 0",
         "the message has over 268,435,456 bytes; check the sizes in its header, or send the data in several messages",
         "the stream ends inside the message; have the message sent again whole, or cut the stream before it and add a close (04 00)",
         "the order of messages is broken; send at most one configuration, then one header text, then the data, and nothing after the close",

@@ -1,9 +1,10 @@
-//! The streams that are measured: a configuration name, a header text, readouts (and texts between them),
+//! The streams that are measured: a configuration name, a header text, readouts (and texts or images between them),
 //! and the close.
 
 use crate::baseline::headers::Kind;
-use crate::baseline::reader::Records;
+use crate::baseline::reader::{Record, Records};
 use crate::baseline::writer::Message;
+use crate::baseline::{IMAGE_HEADER, STATED_LENGTH};
 
 /// What a stream's messages are like.
 #[derive(Clone, Copy)]
@@ -13,6 +14,8 @@ pub struct Shape {
     pub samples: u16,
     /// The length of a text after each readout, if one follows.
     pub text: Option<usize>,
+    /// Whether every other readout makes way for an image of its size.
+    pub images: bool,
 }
 
 /// Many small messages: readouts of one channel and a short text after each.
@@ -21,6 +24,7 @@ pub const SMALL: Shape = Shape {
     channels: 1,
     samples: 8,
     text: Some(26),
+    images: false,
 };
 
 /// As many messages as a stream may have, in some 1,000 MB.
@@ -29,6 +33,15 @@ pub const MEDIUM: Shape = Shape {
     channels: 1,
     samples: 82,
     text: None,
+    images: false,
+};
+
+/// Every other message an image, and every other of these with a header that says 0 of its attributes, so that the
+/// normal form and the writer have lengths to put there.
+pub const IMAGES: Shape = Shape {
+    name: "readouts and images",
+    images: true,
+    ..MEDIUM
 };
 
 /// Large readouts.
@@ -37,6 +50,7 @@ pub const LARGE: Shape = Shape {
     channels: 32,
     samples: 1_024,
     text: None,
+    images: false,
 };
 
 impl Shape {
@@ -65,7 +79,11 @@ impl Shape {
         put_name(&mut stream);
         put_text(&mut stream, 3, 600);
         for i in 0..readouts {
-            self.put_readout(&mut stream, i, false);
+            if self.images && i % 2 == 1 {
+                self.put_image(&mut stream, i);
+            } else {
+                self.put_readout(&mut stream, i, false);
+            }
             if let (true, Some(length)) = (i < texts, self.text) {
                 put_text(&mut stream, 5, length);
             }
@@ -89,6 +107,27 @@ impl Shape {
         put(274, &u16::from(last).to_le_bytes());
         stream.extend(1008_u16.to_le_bytes());
         stream.extend(header);
+        put_filling(stream, self.readout() - 342);
+    }
+
+    /// An image of a readout's size: attributes for the rest of its header, and a complex float for each sample.
+    fn put_image(&self, stream: &mut Vec<u8>, i: usize) {
+        let attributes = 342 - 208;
+        let stated = if i % 4 == 1 { 0 } else { attributes };
+        let mut header = [0; IMAGE_HEADER];
+        let mut put = |at: usize, bytes: &[u8]| header[at..at + bytes.len()].copy_from_slice(bytes);
+        put(0, &1_u16.to_le_bytes());
+        put(2, &7_u16.to_le_bytes());
+        put(16, &self.samples.to_le_bytes());
+        put(18, &self.channels.to_le_bytes());
+        put(20, &1_u16.to_le_bytes());
+        put(34, &1_u16.to_le_bytes());
+        put(126, &(i as u16).to_le_bytes());
+        put(STATED_LENGTH, &(stated as u32).to_le_bytes());
+        stream.extend(1022_u16.to_le_bytes());
+        stream.extend(header);
+        stream.extend((attributes as u64).to_le_bytes());
+        stream.resize(stream.len() + attributes, b'a');
         put_filling(stream, self.readout() - 342);
     }
 }
@@ -122,9 +161,28 @@ fn put_filling(stream: &mut Vec<u8>, length: usize) {
 /// Whether `out` is the normal form of one of these streams, whose name is its first message.
 pub fn is_normal_form(stream: &[u8], out: &[u8]) -> bool {
     let zero = 2 + NAME.len();
-    out[..zero] == stream[..zero]
+    let mut after_name = Records::of(stream).skip(1);
+    out.len() == stream.len()
+        && out[..zero] == stream[..zero]
         && out[zero..1_026].iter().all(|&byte| byte == 0)
-        && out[1_026..] == stream[1_026..]
+        && after_name.all(|record| is_normal(stream, out, &record.expect("an accepted stream")))
+}
+
+/// The record's bytes, but in an image's header its attribute length.
+fn is_normal(stream: &[u8], out: &[u8], record: &Record) -> bool {
+    let stored = &stream[record.start..][..record.size];
+    let written = &out[record.start..][..record.size];
+    match record.kind {
+        Kind::Image {
+            attribute_length, ..
+        } => {
+            let stated = 2 + STATED_LENGTH;
+            written[..stated] == stored[..stated]
+                && written[stated..stated + 4] == (attribute_length as u32).to_le_bytes()
+                && written[stated + 4..] == stored[stated + 4..]
+        }
+        _ => written == stored,
+    }
 }
 
 /// The messages of an accepted stream with their parts apart, to be written again.
@@ -149,6 +207,16 @@ pub fn messages(stream: &[u8]) -> Vec<Message<'_>> {
                 samples: body,
                 ..Message::default()
             },
+            Kind::Image { .. } => {
+                let (attributes, pixels) = body.split_at(record.kind.parts().0 as usize);
+                Message {
+                    id,
+                    header: &header[..IMAGE_HEADER],
+                    attributes,
+                    pixels,
+                    ..Message::default()
+                }
+            }
             _ => Message {
                 id,
                 text: body,

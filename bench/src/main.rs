@@ -13,7 +13,7 @@ mod reads;
 mod table;
 mod timing;
 
-use made::{Shape, LARGE, MEDIUM, SMALL};
+use made::{Shape, IMAGES, LARGE, MEDIUM, SMALL};
 use operations::Measured;
 use timing::Effort;
 
@@ -26,6 +26,7 @@ fn streams_of(quick: bool) -> Vec<(Shape, usize)> {
         return vec![
             (SMALL, 2_000),
             (MEDIUM, 500),
+            (IMAGES, 500),
             (LARGE, LARGE.messages_in(2 * MB)),
         ];
     }
@@ -34,6 +35,7 @@ fn streams_of(quick: bool) -> Vec<(Shape, usize)> {
         (SMALL, SMALL.messages_in(100 * MB)),
         (SMALL, 1_000_000),
         (MEDIUM, 1_000_000),
+        (IMAGES, IMAGES.messages_in(100 * MB)),
         (LARGE, LARGE.messages_in(10 * MB)),
         (LARGE, LARGE.messages_in(100 * MB)),
         (LARGE, LARGE.messages_in(1_000 * MB)),

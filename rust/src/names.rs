@@ -19,7 +19,7 @@ pub mod refused {
     pub const DISCARD: u32 = 7;
     /// An image's data type is not 1 to 8.
     pub const DATA_TYPE: u32 = 8;
-    /// The two attribute lengths differ.
+    /// An image header's attribute length is neither 0 nor the 8-byte length after it.
     pub const ATTRIBUTE_LENGTH: u32 = 9;
     /// The whole message, id included, is over 268,435,456 bytes.
     pub const TOO_LARGE: u32 = 10;
@@ -80,8 +80,8 @@ pub(crate) const SENTENCES: [(&str, &str); 20] = [
         "correct the data type of the image header",
     ),
     (
-        "the image's two attribute lengths differ",
-        "write the same length in the header and in the 8 bytes after it",
+        "the image header's attribute length is neither 0 nor the one in the 8 bytes after it",
+        "write in the header the length that those 8 bytes have, or 0",
     ),
     (
         "the message has over 268,435,456 bytes",

@@ -349,6 +349,72 @@ fn records_written_back_are_the_normal_form() {
     assert_eq!(unknown.write(&mut out, 0), Err(refusal));
 }
 
+/// Record 6 of the sample is an image whose header says the length of its attributes, in these bytes.
+const STATED: usize = 4_747 + 2 + offset::image::ATTRIBUTE_STRING_LEN;
+const ATTRIBUTES: u32 = 134;
+
+fn sample_saying(stated: u32) -> Vec<u8> {
+    let mut bytes = ALL_KINDS.to_vec();
+    bytes[STATED..STATED + 4].copy_from_slice(&stated.to_le_bytes());
+    bytes
+}
+
+#[test]
+fn an_image_header_says_its_attribute_length_or_0() {
+    let mut normal = vec![0; ALL_KINDS.len()];
+    assert!(Stream::new(ALL_KINDS).normal_form(&mut normal).is_ok());
+    for stated in [0, ATTRIBUTES] {
+        let bytes = sample_saying(stated);
+        let stream = Stream::new(&bytes);
+        assert_eq!(stream.check(), Ok(9));
+        let record = stream.records().nth(6).unwrap().unwrap();
+        let Kind::Image {
+            attribute_length, ..
+        } = record.kind
+        else {
+            panic!("no image: {record:?}")
+        };
+        assert_eq!((attribute_length, record.size), (134, 1_366));
+        // The header is shown as it is stored; the 8 bytes after it decide.
+        assert_eq!(record.image().unwrap().attribute_string_len(), stated);
+        let stored = Ok(Field::Whole(stated.into()));
+        assert_eq!(record.field(194), stored);
+        assert_eq!(stream.field(6, 194), stored);
+        assert_eq!(stream.view(6, Part::Attributes).unwrap().len(), 134);
+        let mut out = vec![0xEE; bytes.len()];
+        assert_eq!(stream.normal_form(&mut out), Ok(bytes.len()));
+        assert!(out == normal && out[STATED..][..4] == ATTRIBUTES.to_le_bytes());
+    }
+    for stated in [1, ATTRIBUTES - 1, ATTRIBUTES + 1, u32::MAX] {
+        let refusal = Stream::new(&sample_saying(stated)).check().unwrap_err();
+        let fault = Fault {
+            record: 6,
+            byte: 4_747,
+        };
+        assert_eq!(
+            (refusal.number, refusal.place),
+            (refused::ATTRIBUTE_LENGTH, Some(fault))
+        );
+    }
+}
+
+#[test]
+fn the_writer_puts_the_true_attribute_length() {
+    let stream = Stream::new(ALL_KINDS);
+    let message = message_of(&stream, &stream.place(6).unwrap());
+    for stated in [0, 1, ATTRIBUTES, 0xDEAD_BEEF] {
+        let mut header = message.header.to_vec();
+        header[194..].copy_from_slice(&stated.to_le_bytes());
+        let given = Message {
+            header: &header,
+            ..message
+        };
+        let mut out = vec![0xEE; 1_366];
+        assert_eq!(given.write(&mut out, 0), Ok(1_366));
+        assert!(out == ALL_KINDS[4_747..6_113]);
+    }
+}
+
 #[test]
 fn flags_and_counters() {
     let flags = flag_set(0, acquisition_flag::FIRST_IN_SLICE);

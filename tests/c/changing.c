@@ -2,10 +2,11 @@
  * written. Each output ends where a page begins that may not be touched, and what lies before it in its own page is
  * looked at in the end.
  *
- * The stream is a text whose bytes are themselves messages, empty texts and a configuration name, and a close. The
- * other thread flips the text's length between all of them and none: 2 records or TEXTS + 3, both accepted. It also
- * flips the byte that ends the name, so that the name has 1 or 1,023 bytes and the normal form as much filler to
- * clear as remains. */
+ * The stream is a text whose bytes are themselves messages, empty texts, a configuration name, a header text and an
+ * image, and a close. The other thread flips the text's length between all of them and none: 2 records or TEXTS + 5
+ * and more, both accepted. It also flips the byte that ends the name, so that the name has 1 or 1,023 bytes and the
+ * normal form as much filler to clear as remains; and the length of the image's attributes, whose bytes are empty
+ * texts, between all of them and none: its header says 0, so the normal form puts that length there. */
 #define _DEFAULT_SOURCE
 #include "cotterleaf.h"
 
@@ -17,11 +18,15 @@
 #include <unistd.h>
 
 enum {
-    TEXTS = 500,
+    TEXTS = 400,
     EMPTY = 6, /* an empty text */
     NAME = EMPTY + TEXTS * EMPTY + 2, /* the name's first byte, after its id */
     NAME_BYTES = 1024,
-    LENGTH = NAME + NAME_BYTES + 2,
+    IMAGE = NAME + NAME_BYTES + EMPTY, /* the image's first byte, after the header text */
+    STATED = IMAGE + 2 + 194,          /* what its header says of its attributes */
+    ATTRIBUTE_LENGTH = IMAGE + 2 + 198,
+    ATTRIBUTES = 10 * EMPTY,
+    LENGTH = ATTRIBUTE_LENGTH + 8 + ATTRIBUTES + 2,
     TURNS = 2000000
 };
 
@@ -36,6 +41,7 @@ static void *flip(void *unused)
         for (int i = 0; i < 4; i++)
             bytes[2 + i] = (uint8_t)(length >> (8 * i));
         bytes[NAME + 1] = turn & 2 ? 'f' : 0;
+        bytes[ATTRIBUTE_LENGTH] = turn & 4 ? ATTRIBUTES : 0;
     }
     return unused;
 }
@@ -46,6 +52,13 @@ static void set_up(void)
         stream[i * EMPTY] = 5;
     stream[NAME - 2] = 1;
     memset(stream + NAME, 'f', NAME_BYTES - 1);
+    stream[IMAGE - EMPTY] = 3;
+    stream[IMAGE] = MRD_ID_IMAGE & 255;
+    stream[IMAGE + 1] = MRD_ID_IMAGE >> 8;
+    stream[IMAGE + 2] = 1; /* version */
+    stream[IMAGE + 4] = 1; /* data type; its sizes are 0 */
+    for (size_t i = 0; i < ATTRIBUTES; i += EMPTY)
+        stream[ATTRIBUTE_LENGTH + 8 + i] = 5;
     stream[LENGTH - 2] = 4;
 }
 
@@ -86,7 +99,7 @@ int main(void)
         perror("changing: no second thread");
         return EXIT_FAILURE;
     }
-    unsigned long filled = 0, refused = 0, cleared = 0, kept = 0;
+    unsigned long filled = 0, refused = 0, cleared = 0, kept = 0, stated = 0;
     for (long turn = 0; turn < TURNS; turn++) {
         mrd_written columns = mrd_fill_columns(stream, LENGTH, starts, 2, ids, 2, counters, 2);
         filled += columns.refusal == 0;
@@ -95,14 +108,16 @@ int main(void)
         if (turn % 16 == 0 && mrd_normal_form(stream, LENGTH, copy, LENGTH).refusal == 0) {
             cleared += copy[NAME + NAME_BYTES / 2] == 0;
             kept += copy[NAME + NAME_BYTES / 2] == 'f';
+            stated += copy[STATED] == ATTRIBUTES;
         }
     }
     done = 1;
     pthread_join(other, NULL);
-    if (filled == 0 || refused == 0 || cleared == 0 || kept == 0) {
+    if (filled == 0 || refused == 0 || cleared == 0 || kept == 0 || stated == 0) {
         fprintf(stderr,
-                "changing: the stream did not change during the calls: %lu filled, %lu refused, %lu cleared, %lu kept\n",
-                filled, refused, cleared, kept);
+                "changing: the stream did not change during the calls: %lu filled, %lu refused, %lu cleared, %lu kept, "
+                "%lu lengths put\n",
+                filled, refused, cleared, kept, stated);
         return EXIT_FAILURE;
     }
     if (!untouched(starts, STARTS) || !untouched(ids, IDS) || !untouched(counters, COUNTERS) ||

@@ -1,4 +1,5 @@
-/* The worked examples of document 01, each call of the library once, and what a mask says, from C. */
+/* The worked examples of document 01, each call of the library once, what a mask says, and an image header that says 0
+ * of its attributes, from C. */
 #include "cotterleaf.h"
 
 #include <stdio.h>
@@ -343,6 +344,104 @@ static void masks(void)
     }
 }
 
+enum { IMAGE = 6, ATTRIBUTES = IMAGE + 208, PIXELS = ATTRIBUTES + 3 };
+
+/* A stream of one image of 2 pixels with the attributes "abc", whose header says `stated` of their length. */
+typedef struct {
+    uint8_t bytes[PIXELS + 4 + 2];
+} image_stream;
+
+static image_stream image_saying(uint32_t stated)
+{
+    image_stream stream = {{3, 0}};
+    uint8_t *header = stream.bytes + IMAGE + 2;
+    put(stream.bytes, IMAGE, 2, MRD_ID_IMAGE);
+    put(header, MRD_IMAGE_VERSION, 2, 1);
+    put(header, MRD_IMAGE_DATA_TYPE, 2, 1);
+    put(header, MRD_IMAGE_MATRIX_SIZE, 2, 2);
+    put(header, MRD_IMAGE_MATRIX_SIZE + 2, 2, 1);
+    put(header, MRD_IMAGE_MATRIX_SIZE + 4, 2, 1);
+    put(header, MRD_IMAGE_CHANNELS, 2, 1);
+    put(header, MRD_IMAGE_ATTRIBUTE_STRING_LEN, 4, stated);
+    put(header, 198, 8, 3);
+    memcpy(stream.bytes + ATTRIBUTES, "abc", 3);
+    memset(stream.bytes + PIXELS, 0x5A, 4);
+    put(stream.bytes, PIXELS + 4, 2, MRD_ID_CLOSE);
+    return stream;
+}
+
+/* An image header says the attribute length or 0: the 8 bytes after it decide, the field is what is stored, and the
+ * normal form has the length. Any other number is 9. */
+static void stated_lengths(void)
+{
+    image_stream normal = image_saying(3), out;
+    const size_t length = sizeof out.bytes;
+    for (uint32_t stated = 0; stated <= 3; stated += 3) {
+        image_stream stream = image_saying(stated);
+        const uint8_t *bytes = stream.bytes;
+        CHECK(mrd_check(bytes, length).count == 3);
+        mrd_step text = mrd_next(bytes, length, mrd_beginning());
+        mrd_placed placed[] = {mrd_place(bytes, length, 1), mrd_next(bytes, length, text.next).here};
+        for (size_t i = 0; i < 2; i++)
+            CHECK(placed[i].id == MRD_ID_IMAGE && placed[i].attribute_length == 3 && placed[i].size == 208 + 3 + 4);
+        mrd_field_answer fields[] = {mrd_field(bytes, length, 1, MRD_IMAGE_ATTRIBUTE_STRING_LEN),
+                                     mrd_field_at(bytes, length, text.next, MRD_IMAGE_ATTRIBUTE_STRING_LEN)};
+        for (size_t i = 0; i < 2; i++)
+            CHECK(fields[i].refusal == 0 && fields[i].value_type == MRD_WHOLE && fields[i].whole == stated);
+        mrd_view_place attributes = mrd_view(bytes, length, 1, MRD_PART_ATTRIBUTES, 0);
+        CHECK(attributes.refusal == 0 && attributes.start == ATTRIBUTES && attributes.length == 3);
+        CHECK(mrd_view(bytes, length, 1, MRD_PART_PIXELS, 0).start == PIXELS);
+        memset(&out, 0xEE, sizeof out);
+        CHECK(mrd_normal_form(bytes, length, out.bytes, length).length == length);
+        CHECK(memcmp(out.bytes, normal.bytes, length) == 0);
+    }
+    static const uint32_t others[] = {1, 2, 4, 3 << 8, UINT32_MAX};
+    for (size_t i = 0; i < sizeof others / sizeof others[0]; i++) {
+        image_stream stream = image_saying(others[i]);
+        mrd_checked refused = mrd_check(stream.bytes, length);
+        CHECK(refused.refusal == MRD_REFUSED_ATTRIBUTE_LENGTH && refused.record == 1 && refused.byte == IMAGE);
+    }
+}
+
+/* An 8-byte length of 2^32 or more: over the limit where the header says 0, and its low word is another number. */
+static void lengths_past_32_bits(void)
+{
+    static const struct {
+        uint32_t stated;
+        uint64_t length;
+        uint32_t refusal;
+    } rows[] = {
+        {0, (UINT64_C(1) << 32) + 5, MRD_REFUSED_TOO_LARGE},
+        {5, (UINT64_C(1) << 32) + 5, MRD_REFUSED_ATTRIBUTE_LENGTH},
+        {1, (UINT64_C(1) << 32) + 5, MRD_REFUSED_ATTRIBUTE_LENGTH},
+        {0, UINT64_C(1) << 32, MRD_REFUSED_TOO_LARGE},
+        {0, UINT64_MAX, MRD_REFUSED_TOO_LARGE},
+    };
+    for (size_t i = 0; i < sizeof rows / sizeof rows[0]; i++) {
+        image_stream stream = image_saying(rows[i].stated);
+        put(stream.bytes, IMAGE + 200, 8, rows[i].length);
+        CHECK(mrd_check(stream.bytes, sizeof stream.bytes).refusal == rows[i].refusal);
+    }
+}
+
+/* The writer does not look at the number and puts the true one. */
+static void stated_lengths_written(void)
+{
+    static const uint32_t given[] = {0, 1, 3, 4, 0xDEADBEEF};
+    image_stream normal = image_saying(3);
+    for (size_t i = 0; i < sizeof given / sizeof given[0]; i++) {
+        image_stream stream = image_saying(given[i]);
+        uint8_t out[208 + 3 + 4];
+        memset(out, 0xEE, sizeof out);
+        mrd_parts parts = {.header = stream.bytes + IMAGE + 2, .header_length = 198,
+                           .attributes = (const uint8_t *)"abc", .attributes_length = 3,
+                           .pixels = stream.bytes + PIXELS, .pixels_length = 4};
+        mrd_put end = mrd_write_parts(MRD_ID_IMAGE, &parts, out, sizeof out, 0);
+        CHECK(end.refusal == 0 && end.position == sizeof out);
+        CHECK(memcmp(out, normal.bytes + IMAGE, sizeof out) == 0);
+    }
+}
+
 /* A walk hands out each record once and then the answer; from any cursor there is one. */
 static void walk(void)
 {
@@ -405,6 +504,9 @@ int main(void)
     one_normal_form();
     fields_and_find();
     masks();
+    stated_lengths();
+    lengths_past_32_bits();
+    stated_lengths_written();
     walk();
     where_a_walk_stands();
     where_the_columns_say();

@@ -1,6 +1,6 @@
 //! The checks that look at a fixed header alone, and the sizes that follow from it.
 
-use super::{ACQUISITION_HEADER, IMAGE_HEADER, WAVEFORM_HEADER};
+use super::{ACQUISITION_HEADER, IMAGE_HEADER, STATED_LENGTH, WAVEFORM_HEADER};
 
 #[inline(always)]
 pub fn u16_at(bytes: &[u8], at: usize) -> u16 {
@@ -80,7 +80,7 @@ pub fn acquisition(header: &[u8; ACQUISITION_HEADER]) -> Result<Kind, u32> {
     })
 }
 
-/// Checks 4, 8 and 9 of an image.
+/// Checks 4 and 8 of an image.
 #[inline]
 pub fn image(header: &[u8; IMAGE_HEADER], attribute_length: u64) -> Result<Kind, u32> {
     if u16_at(header, 0) != 1 {
@@ -90,15 +90,23 @@ pub fn image(header: &[u8; IMAGE_HEADER], attribute_length: u64) -> Result<Kind,
     if element_size(data_type) == 0 {
         return Err(8);
     }
-    if u64::from(u32_at(header, 194)) != attribute_length {
-        return Err(9);
-    }
     Ok(Kind::Image {
         matrix_size: [16, 18, 20].map(|at| u16_at(header, at)),
         channels: u16_at(header, 34),
         data_type,
         attribute_length,
     })
+}
+
+/// Check 9, which the writer does not make: the header says the attribute length or 0.
+#[inline]
+pub fn says_length(header: &[u8; IMAGE_HEADER], attribute_length: u64) -> Result<(), u32> {
+    let stated = u64::from(u32_at(header, STATED_LENGTH));
+    if stated == attribute_length || stated == 0 {
+        Ok(())
+    } else {
+        Err(9)
+    }
 }
 
 /// Check 4 of a waveform.

@@ -1,5 +1,5 @@
 //! The baseline: a reader and writer of MRD message streams as one writes them in Rust for speed, with
-//! slices and `from_le_bytes`, the checks of document 01 in its order, and no allocation.
+//! slices and `from_le_bytes`, the checks of documents 01 and 02 in their order, and no allocation.
 
 pub mod headers;
 pub mod index;
@@ -20,6 +20,9 @@ pub const NAME_FIELD: usize = 1_024;
 pub const ACQUISITION_HEADER: usize = 340;
 pub const IMAGE_HEADER: usize = 198;
 pub const WAVEFORM_HEADER: usize = 32;
+
+/// Where an image header says its attribute length, or 0; the eight bytes after the header decide.
+pub const STATED_LENGTH: usize = 194;
 
 /// A refusal's number; `record` and `byte` say where a stream is refused and are 0 otherwise.
 #[derive(Clone, Copy, Debug, PartialEq, Eq)]

@@ -78,6 +78,17 @@ impl<'a> Records<'a> {
         }
     }
 
+    /// The walk that stands before this record, one of those after the header.
+    pub fn before(stream: &'a [u8], record: &Record) -> Records<'a> {
+        Records {
+            stream,
+            number: record.number,
+            start: record.start,
+            phase: Phase::Header,
+            refused: false,
+        }
+    }
+
     pub fn stream(&self) -> &'a [u8] {
         self.stream
     }
@@ -151,7 +162,10 @@ fn kind_of(id: u16, rest: &[u8]) -> Result<Kind, u32> {
         1022 => {
             let fixed: &[u8; IMAGE_HEADER + 8] = rest.first_chunk().ok_or(3_u32)?;
             let header = fixed.first_chunk().expect("an image header");
-            headers::image(header, u64_at(fixed, IMAGE_HEADER))
+            let attribute_length = u64_at(fixed, IMAGE_HEADER);
+            let kind = headers::image(header, attribute_length)?;
+            headers::says_length(header, attribute_length)?;
+            Ok(kind)
         }
         1026 => headers::waveform(rest.first_chunk().ok_or(3_u32)?),
         _ => {

@@ -1,7 +1,7 @@
-//! The writer of one message: checks 2 to 10, 18 and 14 in that order, then the copies.
+//! The writer of one message: checks 2 to 8, 10, 18 and 14 in that order, then the copies.
 
 use super::headers::{self, Kind};
-use super::{LARGEST_MESSAGE, NAME_FIELD};
+use super::{LARGEST_MESSAGE, NAME_FIELD, STATED_LENGTH};
 
 /// One message with its parts apart; those that its kind lacks are empty.
 #[derive(Clone, Copy, Debug, Default)]
@@ -36,7 +36,7 @@ impl Message<'_> {
         Ok(position + size as usize)
     }
 
-    /// Checks 2 to 9.
+    /// Checks 2 to 8.
     fn kind(&self) -> Result<Kind, u32> {
         match self.id {
             1008 => headers::acquisition(self.header.try_into().map_err(|_| 3_u32)?),
@@ -105,8 +105,11 @@ impl Message<'_> {
                 put(rest, self.samples);
             }
             1022 => {
-                let rest = put(rest, self.header);
-                let rest = put(rest, &(self.attributes.len() as u64).to_le_bytes());
+                // Whatever the header says of its attributes, their length is put in both places.
+                let length = self.attributes.len();
+                let rest = put(rest, &self.header[..STATED_LENGTH]);
+                let rest = put(rest, &(length as u32).to_le_bytes());
+                let rest = put(rest, &(length as u64).to_le_bytes());
                 let rest = put(rest, self.attributes);
                 put(rest, self.pixels);
             }

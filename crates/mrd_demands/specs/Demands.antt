@@ -4,16 +4,19 @@
 -- Assumes nothing.
 use Prim.Native.Nat.{ℕ, _+_}
 use mathlib.Core.Path.{_≡_, sym, ap, _∙_}
-use mathlib.Core.Logic.{_↔_}
+use mathlib.Core.Logic.{_↔_, _⊎_}
 use mathlib.Core.List.{List, map}
 use lib.ListN.{length, take, drop}
-use Rattle.mrd_numbers.specs.Little.{Bytes}
+use Rattle.mrd_numbers.specs.Little.{num, Bytes}
+use Rattle.mrd_numbers.specs.Stored.{stored}
 use Rattle.mrd_logic.specs.Lists.{Nth}
-use Rattle.mrd_logic.specs.Answer.{accepted, refused, Answer, answered, andThen}
-use Rattle.mrd_format.specs.Parts.{Contents}
+use Rattle.mrd_logic.specs.Answer.{accepted, refused, Answer, answered, number, andThen}
+use Rattle.mrd_format.specs.Parts.{Parts, Contents}
 use Rattle.mrd_format.specs.Content.{Record, bytesOf}
-use Rattle.mrd_format.specs.declared.kind.Kind.the-variants.{Acquisition}
-use Rattle.mrd_format.specs.Acquisition.{numbers}
+use Rattle.mrd_format.specs.declared.kind.Kind.the-variants.{Acquisition, Image}
+use Rattle.mrd_format.specs.Acquisition as acquisition
+use Rattle.mrd_format.specs.Image as image
+use Rattle.mrd_format.specs.Message.{numbersOf}
 use Rattle.mrd_cursor.specs.declared.cursor.Cursor.{Cursor}
 use Rattle.mrd_cursor.specs.Cursors.{beginning}
 use Rattle.mrd_stream.specs.Walk.{answer, trace}
@@ -43,14 +46,18 @@ use Rattle.mrd_ask.specs.ShownLaws.{asked-fits, indexed-fits}
 use Rattle.mrd_ask.specs.Belief.{Believed}
 use Rattle.mrd_ask.specs.BeliefLaws.{ask-believed}
 use Rattle.mrd_writer.specs.Write.{writeAnswer, writeOutput}
+use Rattle.mrd_writer.specs.WriteLaws.{never-9}
+use Rattle.mrd_writer.specs.HeaderNumber.{given, number-disregarded}
 use Rattle.mrd_writer.specs.ReadBack.{ReadsBack}
 use Rattle.mrd_writer.specs.ReadBack as writer
 use Rattle.mrd_demands.specs.Refusals.{Refusal, output-kept, written-kept}
 use Rattle.mrd_demands.specs.RecordViews.{ViewsOf, EachPart}
 use Rattle.mrd_demands.specs.RecordViews as views
 use Rattle.mrd_demands.specs.Messages.{recordsIn}
-use Rattle.mrd_demands.specs.Replaced.{replaced}
+use Rattle.mrd_demands.specs.Told.{numbers-told}
 use Rattle.mrd_demands.specs.Masks as masks
+use Rattle.mrd_demands.specs.AttributeLengths.{SameMeaning}
+use Rattle.mrd_demands.specs.AttributeLengths as attribute-lengths
 use Rattle.mrd_demands.specs.NormalStreams.{accepted-again, normal-long, normal-records, normal-own, normal-written, records-cut}
 
 -- Demand 1: a refusal changes no output byte
@@ -154,10 +161,36 @@ normal-accepted s n e =
 
 -- no mask is refused: whatever 128 bytes are put in the place of the mask of an acquisition, the stream is accepted as before
 pub any-mask-accepted : (s : List ℕ) (n : ℕ) → answer s ≡ accepted n → (i : ℕ) {l : Located} → place s i ≡ answered l → l .kind ≡ Acquisition →
-    (w : List ℕ) → length w ≡ 128 → answer (replaced s (l .start + 42) w) ≡ accepted n
+    (w : List ℕ) → length w ≡ 128 → answer (stored (l .start + 42) w s) ≡ accepted n
 any-mask-accepted s n = masks.any-mask-accepted s
 
 -- an acquisition's kind carries its mask's answer: the numbers that are handed out are `numbers` of the header, the 340 bytes after the id
 pub masks-are-told : (s : List ℕ) (i : ℕ) {l : Located} → place s i ≡ answered l → l .kind ≡ Acquisition →
-    l .numbers ≡ numbers (take 340 (drop (l .start + 2) s))
-masks-are-told = masks.acquisition-told
+    l .numbers ≡ acquisition.numbers (take 340 (drop (l .start + 2) s))
+unfolding numbersOf
+masks-are-told s i p k = rw k at (numbers-told s i p)
+
+-- Request E1: attribute length left at zero
+
+-- an image's header may hold 0 or the true length, the 8-byte number after it: whichever of the two is put there, the stream is accepted as before,
+-- with the same record list and the same normal form
+pub either-number-means-the-same : (s : List ℕ) (n : ℕ) → answer s ≡ accepted n → (i : ℕ) {l : Located} → place s i ≡ answered l →
+    l .kind ≡ Image → (w : List ℕ) → length w ≡ 4 → (num 4 w 0 ≡ 0) ⊎ (num 4 w 0 ≡ num 8 s (l .start + 200)) →
+    SameMeaning s (stored (l .start + 196) w s) n
+either-number-means-the-same s n = attribute-lengths.either-number s
+
+-- the 8-byte number decides: the numbers that an image's kind carries are `numbers` of the 206 bytes after the id, and go by it
+pub true-lengths-are-told : (s : List ℕ) (i : ℕ) {l : Located} → place s i ≡ answered l → l .kind ≡ Image →
+    l .numbers ≡ image.numbers (take 206 (drop (l .start + 2) s))
+unfolding numbersOf
+true-lengths-are-told s i p k = rw k at (numbers-told s i p)
+
+-- the writer disregards what a given image header holds there: headers of one length that agree in all bytes before it get the same answer, and the
+-- output is left the same
+pub given-number-disregarded : (g h : List ℕ) (ps : Parts) → length g ≡ length h → take 194 g ≡ take 194 h → (at : ℕ) (o : List ℕ) →
+    (writeAnswer 1022 (given g ps) at o ≡ writeAnswer 1022 (given h ps) at o) × (writeOutput 1022 (given g ps) at o ≡ writeOutput 1022 (given h ps) at o)
+given-number-disregarded = number-disregarded
+
+-- and gives no 9
+pub writer-gives-no-9 : (id : ℕ) (c : Contents) (at : ℕ) (o : List ℕ) → writeAnswer id c at o ≡ number 9 → ⊥
+writer-gives-no-9 = never-9

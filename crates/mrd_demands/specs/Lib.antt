@@ -4,6 +4,9 @@ pub mod NormalStreams
 pub mod Refusals
 pub mod RecordViews
 pub mod Replaced
+pub mod Told
 pub mod Masks
+pub mod AttributeLengths
 pub mod Demands
 pub mod FillerExample
+pub mod NumberExample

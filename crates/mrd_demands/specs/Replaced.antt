@@ -1,12 +1,13 @@
 -- Bytes of one message of a stream replaced by others: where that leaves a well-formed message with the same id, an accepted stream is accepted with
--- the same count.
+-- the same count; and where it leaves the same record or normal form, the stream's records or normal form are the same.
 -- Assumes nothing.
 use Prim.Native.Nat.{ℕ, zero, suc, _+_, _≤_}
 use native.Mathlib.Omega.{arith}
-use mathlib.Core.Path.{_≡_, refl, sym, ap, ap₂, _∙_}
+use mathlib.Core.Path.{_≡_, refl, sym, ap, ap₂, subst, _∙_}
 use mathlib.Core.List.{List, [], _∷_, _++_, append-assoc}
-use lib.ListN.{length, take, drop, length-append}
+use lib.ListN.{length}
 use lib.Seq.{take-append-le, drop-append-le, take-append-add, drop-append-add}
+use Rattle.mrd_numbers.specs.Stored.{stored}
 use Rattle.mrd_logic.specs.Every.{Every}
 use Rattle.mrd_logic.specs.Lists.{Nth}
 use Rattle.mrd_logic.specs.ListLaws.{nth-map}
@@ -14,26 +15,30 @@ use Rattle.mrd_logic.specs.Joined.{joined}
 use Rattle.mrd_logic.specs.Answer.{accepted, answered}
 use Rattle.mrd_format.specs.declared.kind.Kind.{Kind}
 use Rattle.mrd_format.specs.Message.{idAt, WellFormed}
+use Rattle.mrd_format.specs.Content.{recordOf, normalOf}
 use Rattle.mrd_cursor.specs.declared.cursor.Cursor.{Cursor}
 use Rattle.mrd_stream.specs.Walk.{Trace, trace, answer}
 use Rattle.mrd_stream.specs.Places.{Located, places, place}
-use Rattle.mrd_cut.specs.Cut.{kindsIn}
+use Rattle.mrd_stream.specs.Normal.{normal}
+use Rattle.mrd_cut.specs.Cut.{Cut, kindsIn}
 use Rattle.mrd_cut.specs.Walked.{Walks, ends, faults, meets, piecesOf, walks}
 use Rattle.mrd_cut.specs.Accepted.{Acceptable, accepted-cut, cut-accepted}
 use Rattle.mrd_cut.specs.CutPlaces.{partAt, places-pieces}
 use Rattle.mrd_cut.specs.Inside.{place-nth}
+use Rattle.mrd_demands.specs.Records.{records}
+use Rattle.mrd_demands.specs.Messages.{eachIn}
+use Rattle.mrd_demands.specs.NormalStreams.{records-cut, normal-cut}
 
--- s with w in place of as many bytes from k on
-abbrev pub replaced : List ℕ → ℕ → List ℕ → List ℕ
-replaced s k w = take k s ++ (w ++ drop (k + length w) s)
-
-replaced-front : (m t : List ℕ) (k : ℕ) (w : List ℕ) → k + length w ≤ length m → replaced (m ++ t) k w ≡ replaced m k w ++ t
-replaced-front m t k w fits =
+-- bytes stored in the first of two lists, and in the second
+stored-front : (m t : List ℕ) (k : ℕ) (w : List ℕ) → k + length w ≤ length m → stored k w (m ++ t) ≡ stored k w m ++ t
+unfolding stored
+stored-front m t k w fits =
     let less : k ≤ length m = omega arith in
     rw (take-append-le, drop-append-le, append-assoc, append-assoc)
 
-replaced-back : (m t : List ℕ) (k : ℕ) (w : List ℕ) → replaced (m ++ t) (length m + k) w ≡ m ++ replaced t k w
-replaced-back m t k w =
+stored-back : (m t : List ℕ) (k : ℕ) (w : List ℕ) → stored (length m + k) w (m ++ t) ≡ m ++ stored k w t
+unfolding stored
+stored-back m t k w =
     let far : length m + k + length w ≡ length m + (k + length w) = omega arith in
     rw (far, take-append-add, drop-append-add, append-assoc)
 
@@ -68,15 +73,25 @@ put-kinds zero n m (x ∷ ms) v w e h =
     ap (λ (k : Kind). k ∷ kindsIn ms (w .1)) same
 put-kinds (suc i) n m (x ∷ ms) v w e h = ap (λ (ks : List Kind). w .0 .kind ∷ ks) (put-kinds i n m ms v (w .1) e h)
 
+-- what is found in it as in message i is found in all of them
+put-each : {A : Type 0} (f : Kind → List ℕ → A) (i : ℕ) (n m : List ℕ) (ms : List (List ℕ)) (v : WellFormed n) (w : Every WellFormed ms) →
+    ((u : WellFormed m) → f (v .kind) n ≡ f (u .kind) m) → Nth ms i m → eachIn f (put i n ms) (put-well i n ms v w) ≡ eachIn f ms w
+put-each f i n m [] v w e h = absurd h
+put-each f zero n m (x ∷ ms) v w e h =
+    let u : WellFormed m = subst WellFormed h (w .0) in
+    let same : f (u .kind) m ≡ f (w .0 .kind) x = cc (u .known, w .0 .known, ap idAt h, h) in
+    ap (λ a. a ∷ eachIn f ms (w .1)) (e u ∙ same)
+put-each f (suc i) n m (x ∷ ms) v w e h = ap (λ found. f (w .0 .kind) x ∷ found) (put-each f i n m ms v (w .1) e h)
+
 put-joined : (i : ℕ) (m : List ℕ) (ms : List (List ℕ)) (k : ℕ) (w : List ℕ) → k + length w ≤ length m → Nth ms i m →
-    joined (put i (replaced m k w) ms) ≡ replaced (joined ms) (startOf i ms + k) w
+    joined (put i (stored k w m) ms) ≡ stored (startOf i ms + k) w (joined ms)
 put-joined i m [] k w fits h = absurd h
 put-joined zero m (x ∷ ms) k w fits h =
     let none : 0 + k ≡ k = omega arith in
-    rw (h, none) (sym (replaced-front m (joined ms) k w fits))
+    rw (h, none) (sym (stored-front m (joined ms) k w fits))
 put-joined (suc i) m (x ∷ ms) k w fits h =
     let far : length x + startOf i ms + k ≡ length x + (startOf i ms + k) = omega arith in
-    rw (far, put-joined i m ms k w fits h) (sym (replaced-back x (joined ms) (startOf i ms + k) w))
+    rw (far, put-joined i m ms k w fits h) (sym (stored-back x (joined ms) (startOf i ms + k) w))
 
 -- the places of a walk start after the messages before them
 start-of : {c : Cursor} {s : List ℕ} {r : Trace} → Walks c s r → (i : ℕ) (l : Located) → Nth (places r) i l →
@@ -86,27 +101,51 @@ start-of (faults e) i l h = absurd h
 start-of (meets {c} {m} w a n v) zero l h = sym (ap (λ (k : Located). k .start) h) ∙ omega arith
 start-of (meets {c} {m} w a n v) (suc i) l h = omega (arith, start-of v i l h)
 
--- a record's message with other bytes in it, well formed and of the same id, leaves the stream accepted
-pub replaced-accepted : (s : List ℕ) {c : ℕ} → answer s ≡ accepted c → (i : ℕ) {l : Located} → place s i ≡ answered l →
-    (k : ℕ) (w : List ℕ) → k + length w ≤ length (partAt s l) → WellFormed (replaced (partAt s l) k w) →
-    idAt (replaced (partAt s l) k w) ≡ idAt (partAt s l) → answer (replaced s (l .start + k) w) ≡ accepted c
-replaced-accepted s e i {l} p k w fits v same =
-    let a = accepted-cut s e in
-    let its = a .0 .cut in
-    let m = partAt s l in
-    let at-place : Nth (piecesOf (trace s)) i m = rw (places-pieces (walks s) [] refl) at (nth-map (partAt s) (places (trace s)) i l (place-nth s i p)) in
-    let here : Nth (its .pieces) i m = rw (a .1) at-place in
-    let start : l .start ≡ startOf i (its .pieces) = rw (a .1) (omega (arith, start-of (walks s) i l (place-nth s i p))) in
-    let whole : joined (put i (replaced m k w) (its .pieces)) ≡ replaced s (l .start + k) w =
-    put-joined i m (its .pieces) k w fits here ∙ ap₂ (λ (t : List ℕ) (b : ℕ). replaced t (b + k) w) (its .whole) (sym start) in
-    let again : Acceptable (replaced s (l .start + k) w) = record {
-      cut = record {
-        pieces = put i (replaced m k w) (its .pieces);
-        well = put-well i (replaced m k w) (its .pieces) v (its .well);
-        whole = whole;
-      };
-      few = rw put-count (a .0 .few);
-      ordered = rw (put-kinds i (replaced m k w) m (its .pieces) v (its .well) same here) (a .0 .ordered);
-      closed = rw (put-kinds i (replaced m k w) m (its .pieces) v (its .well) same here) (a .0 .closed);
-    } in
-    cut-accepted (replaced s (l .start + k) w) again ∙ ap accepted (put-count i (replaced m k w) (its .pieces) ∙ a .2)
+-- record i's message, at l in the accepted stream s, with other bytes w from its byte k on, well formed and of the same id
+module _
+    (s : List ℕ) {c : ℕ} (e : answer s ≡ accepted c) (i : ℕ) {l : Located} (p : place s i ≡ answered l) (k : ℕ) (w : List ℕ)
+    (fits : k + length w ≤ length (partAt s l)) (v : WellFormed (stored k w (partAt s l)))
+    (same : idAt (stored k w (partAt s l)) ≡ idAt (partAt s l)) where
+  abbrev its : Cut s
+  its = accepted-cut s e .0 .cut
+
+  here : Nth (its .pieces) i (partAt s l)
+  here =
+      let at-place : Nth (piecesOf (trace s)) i (partAt s l) =
+      rw (places-pieces (walks s) [] refl) at (nth-map (partAt s) (places (trace s)) i l (place-nth s i p)) in
+      rw (accepted-cut s e .1) at-place
+
+  whole : joined (put i (stored k w (partAt s l)) (its .pieces)) ≡ stored (l .start + k) w s
+  whole =
+      let start : l .start ≡ startOf i (its .pieces) = rw (accepted-cut s e .1) (omega (arith, start-of (walks s) i l (place-nth s i p))) in
+      put-joined i (partAt s l) (its .pieces) k w fits here ∙ ap₂ (λ (t : List ℕ) (b : ℕ). stored (b + k) w t) (its .whole) (sym start)
+
+  -- its cut has that message in place of message i
+  abbrev replaced : Cut (stored (l .start + k) w s)
+  replaced = record {
+    pieces = put i (stored k w (partAt s l)) (its .pieces);
+    well = put-well i (stored k w (partAt s l)) (its .pieces) v (its .well);
+    whole = whole;
+  }
+
+  -- so the stream is accepted
+  pub replaced-accepted : answer (stored (l .start + k) w s) ≡ accepted c
+  replaced-accepted =
+      let a = accepted-cut s e in
+      let kinds = put-kinds i (stored k w (partAt s l)) (partAt s l) (its .pieces) v (its .well) same here in
+      let again : Acceptable (stored (l .start + k) w s) =
+      record { cut = replaced; few = rw put-count (a .0 .few); ordered = rw kinds (a .0 .ordered); closed = rw kinds (a .0 .closed) } in
+      cut-accepted (stored (l .start + k) w s) again ∙ ap accepted (put-count i (stored k w (partAt s l)) (its .pieces) ∙ a .2)
+
+  -- and where the message is the same record, and has the same normal form, so it is with the stream
+  pub replaced-records : ((u : WellFormed (partAt s l)) → recordOf (v .kind) (stored k w (partAt s l)) ≡ recordOf (u .kind) (partAt s l)) →
+      records (stored (l .start + k) w s) ≡ records s
+  replaced-records r =
+      records-cut (stored (l .start + k) w s) replaced-accepted replaced ∙
+      put-each recordOf i (stored k w (partAt s l)) (partAt s l) (its .pieces) v (its .well) r here ∙ sym (records-cut s e its)
+
+  pub replaced-normal : ((u : WellFormed (partAt s l)) → normalOf (v .kind) (stored k w (partAt s l)) ≡ normalOf (u .kind) (partAt s l)) →
+      normal (stored (l .start + k) w s) ≡ normal s
+  replaced-normal r =
+      normal-cut (stored (l .start + k) w s) replaced-accepted replaced ∙
+      ap joined (put-each normalOf i (stored k w (partAt s l)) (partAt s l) (its .pieces) v (its .well) r here) ∙ sym (normal-cut s e its)

@@ -10,6 +10,7 @@ use Rattle.mrd_logic.specs.Choice.{pick}
 use Rattle.mrd_numbers.specs.Little.{num}
 use Rattle.mrd_format.specs.declared.kind.Kind.{Kind}
 use Rattle.mrd_format.specs.Elements.{ElementType, u16, u32, u64, i32, f32, width, Run}
+use Rattle.mrd_format.specs.Headers.{runs}
 use Rattle.mrd_format.specs.Kinds.{formOf}
 use Rattle.mrd_counter_step.specs.Counters as counters
 
@@ -30,7 +31,7 @@ typeAt (r ∷ rs) at = pick (startsAmong (r .count) (width (r .type)) (r .offset
 
 -- the element of a kind's header that starts at `at`
 abbrev pub elementAt : Kind → ℕ → Start
-elementAt k at = typeAt (formOf k .table) at
+elementAt k at = typeAt (runs (formOf k .cells)) at
 
 -- what a field holds: 'a whole number, a signed number or a 32-bit float', the float by its bits
 pub data FieldValue : Type 0 where

@@ -11,6 +11,7 @@ use Rattle.mrd_logic.specs.Choice.{pick}
 use Rattle.mrd_numbers.specs.Little.{num}
 use Rattle.mrd_format.specs.declared.kind.Kind.{Kind}
 use Rattle.mrd_format.specs.declared.kind.Kind
+use Rattle.mrd_format.specs.Headers.{runs}
 use Rattle.mrd_format.specs.Kinds.{formOf, fixedSize}
 use Rattle.mrd_format.specs.Elements.{ElementType, u16, u32, u64, i32, f32, width}
 use Rattle.mrd_element.specs.Element.{Start, starts, none, typeAt, elementAt, valueOf, readAt, elementOf}
@@ -37,7 +38,7 @@ start-by-letter : (s t : Start) → letterOf s ≡ letterOf t → s ≡ t
 start-by-letter s t e = sym (meant-letter s) ∙ ap meant e ∙ meant-letter t
 
 -- every element of a kind's header ends within the fixed part
-table-within : (k : Kind) → T (within (fixedSize k) (formOf k .table))
+table-within : (k : Kind) → T (within (fixedSize k) (runs (formOf k .cells)))
 table-within Kind.ConfigurationName = tt
 table-within Kind.ConfigurationText = tt
 table-within Kind.HeaderText = tt
@@ -58,7 +59,7 @@ pub found-by-letter :
 unfolding elementOf
 found-by-letter k h at e whole letter =
     let start : elementAt k at ≡ starts e = start-by-letter (elementAt k at) (starts e) letter in
-    record { inside = omega (arith, starts-inside (fixedSize k) (formOf k .table) at e (table-within k) start); value = ap (λ (s : Start). readAt s h at) start }
+    record { inside = omega (arith, starts-inside (fixedSize k) (runs (formOf k .cells)) at e (table-within k) start); value = ap (λ (s : Start). readAt s h at) start }
 
 -- no element starts at the offset
 pub absent-by-letter : (k : Kind) (h : List ℕ) (at : ℕ) → meant (letterOf (elementAt k at)) ≡ none → elementOf k h at ≡ number 20

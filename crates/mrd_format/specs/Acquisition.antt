@@ -6,6 +6,7 @@ use mathlib.Core.List.{List, [], _∷_, map}
 use lib.Dec.{eqb, ltb}
 use lib.Count.{ones}
 use Rattle.mrd_format.specs.Elements.{Run, one, many, element, elements, u16, u32, u64, i32, f32}
+use Rattle.mrd_format.specs.Headers.{Cell, field, runs}
 use Rattle.mrd_logic.specs.Choice.{pick}
 use Rattle.mrd_logic.specs.Checks.{Check, _when_}
 use Rattle.mrd_format.specs.declared.mask.Mask.{Mask}
@@ -56,8 +57,12 @@ header =
     sample-time-us ∷ position ∷ read-dir ∷ phase-dir ∷ slice-dir ∷ patient-table-position ∷
     counters ∷ user-int ∷ user-float ∷ []
 
+-- every one of them is a field of the record
+abbrev pub cells : List Cell
+cells = map (λ (f : Field). field (layout f)) header
+
 abbrev pub table : List Run
-table = map layout header
+table = runs cells
 
 -- the number in a field that has one element
 abbrev pub get : Field → List ℕ → ℕ
@@ -134,7 +139,7 @@ numbers h =
 abbrev pub form : Form
 form =
     record {
-      table = table;
+      cells = cells;
       fixedSegments = fixed 340 ∷ [];
       bodySegments = body;
       checks = checks;

@@ -1,28 +1,22 @@
 -- The parts of a message adjoin, from its first byte to its last; joined, they are the message.
 -- Assumes nothing.
 use Prim.Native.Nat.{ℕ, zero, suc, _+_, _*_, _≤_}
-use native.Mathlib.Nat.{zero-add, add-zero, add-assoc, add-comm, zero-mul, suc-mul}
+use native.Mathlib.Nat.{zero-add, add-zero, add-assoc, zero-mul, suc-mul}
 use native.Mathlib.Omega.{arith}
-use mathlib.Core.Path.{_≡_, refl, sym}
-use mathlib.Core.Bool.{Bool, true, false, not, _&&_}
+use mathlib.Core.Path.{_≡_, refl, sym, _∙_}
+use mathlib.Core.Bool.{Bool, true, false, not, _||_, _&&_}
 use mathlib.Core.List.{List, [], _∷_, _++_, map, append-nil, map-append}
 use borrow.Author.Tests.{not-true}
 use lib.ListN.{take, drop}
-use lib.Seq.{take-add, drop-drop}
+use lib.Seq.{take-take}
 use Rattle.mrd_logic.specs.Every.{Every}
-use Rattle.mrd_logic.specs.Choice.{both}
+use Rattle.mrd_logic.specs.Choice.{both, neither}
 use Rattle.mrd_logic.specs.Joined.{joined, joined-append}
-use Rattle.mrd_format.specs.Parts.{filler, same, Extent}
+use Rattle.mrd_format.specs.Headers.{Cell, settled}
+use Rattle.mrd_format.specs.HeaderLaws.{allFields, packed, all-settled, take-next, take-parts}
+use Rattle.mrd_format.specs.Parts.{Part, header, filler, same, Extent}
 use Rattle.mrd_format.specs.Segments.{Segment, fixed, counted, padded, sized, channels, sizeIn, total, nameLength, PlacedPart, channelsFrom, segmentParts, segmentsParts}
 use Rattle.mrd_format.specs.Content.{normalPart}
-
--- the bytes of two parts, the second after the first
-pub take-next : (a b at : ℕ) (m : List ℕ) → take (a + b) (drop at m) ≡ take a (drop at m) ++ take b (drop (at + a) m)
-take-next a b at m = rw (take-add, drop-drop)
-
--- the bytes of n parts of w bytes each are those of the first, and then those of the others
-pub take-parts : (n w at : ℕ) (m : List ℕ) → take (suc n * w) (drop at m) ≡ take w (drop at m) ++ take (n * w) (drop (at + w) m)
-take-parts n w at m = rw (suc-mul n w, add-comm (n * w) w) (take-next w (n * w) at m)
 
 pub total-append : (ss ts : List Segment) → total (ss ++ ts) ≡ total ss + total ts
 total-append [] ts = sym (zero-add (total ts))
@@ -30,38 +24,44 @@ total-append (s ∷ []) [] = sym (add-zero (sizeIn s))
 total-append (s ∷ []) (t ∷ ts) = refl
 total-append (s ∷ (u ∷ ss)) ts = rw (total-append (u ∷ ss) ts) (sym (add-assoc (sizeIn s) (total (u ∷ ss)) (total ts)))
 
--- whether a segment's parts are kept by the normal form
-abbrev pub plain : Segment → Bool
-plain (fixed n) = true
-plain (counted w p) = true
-plain (padded n) = false
-plain (sized p n) = not (same p filler)
-plain (channels c n) = true
+-- whether a segment's parts are kept by the normal form, in a message whose header is built of cs
+abbrev pub plain : List Cell → Segment → Bool
+plain cs (fixed n) = allFields cs && packed 0 n cs
+plain cs (counted w p) = true
+plain cs (padded n) = false
+plain cs (sized p n) = not (same p filler || same p header)
+plain cs (channels c n) = true
 
-abbrev pub allPlain : List Segment → Bool
-allPlain [] = true
-allPlain (s ∷ ss) = plain s && allPlain ss
+abbrev pub allPlain : List Cell → List Segment → Bool
+allPlain cs [] = true
+allPlain cs (s ∷ ss) = plain cs s && allPlain cs ss
 
--- the bytes of a message's channels
-pub joined-channels : (m : List ℕ) (n c at z : ℕ) → joined (map (normalPart m) (channelsFrom n c at z)) ≡ take (n * z) (drop at m)
-joined-channels m zero c at z = rw zero-mul
-joined-channels m (suc n) c at z = rw (take-parts n z at m, joined-channels m n (suc c) (at + z) z)
+module _ (l : Part → ℕ) (cs : List Cell) (m : List ℕ) where
+  -- the bytes of a message's channels
+  pub joined-channels : (n c at z : ℕ) → joined (map (normalPart l cs m) (channelsFrom n c at z)) ≡ take (n * z) (drop at m)
+  joined-channels zero c at z = rw zero-mul
+  joined-channels (suc n) c at z = rw (take-parts n z at m, joined-channels n (suc c) (at + z) z)
 
-module _ (m h : List ℕ) where
-  segment-joined : (at : ℕ) (s : Segment) → plain s ≡ true → joined (map (normalPart m) (segmentParts h at s)) ≡ take (sizeIn s) (drop at m)
-  segment-joined at (fixed n) e = append-nil (take n (drop at m))
+module _ (l : Part → ℕ) (cs : List Cell) (m h : List ℕ) where
+  segment-joined : (at : ℕ) (s : Segment) → plain cs s ≡ true → joined (map (normalPart l cs m) (segmentParts h at s)) ≡ take (sizeIn s) (drop at m)
+  segment-joined at (fixed n) e =
+      let tests = both (allFields cs) (packed 0 n cs) e in
+      append-nil (settled l cs (take n (drop at m))) ∙ all-settled l n cs (take n (drop at m)) (tests .0) (tests .1) ∙
+      take-take n n (drop at m) (omega arith)
   segment-joined at (counted w p) e = append-nil (take w (drop at m))
-  segment-joined at (sized p n) e = rw (not-true (same p filler) e) (append-nil (take n (drop at m)))
-  segment-joined at (channels c n) e = joined-channels m c 0 at n
+  segment-joined at (sized p n) e =
+      let tests = neither (same p filler) (same p header) (not-true (same p filler || same p header) e) in
+      rw (tests .0, tests .1) (append-nil (take n (drop at m)))
+  segment-joined at (channels c n) e = joined-channels l cs m c 0 at n
   segment-joined at (padded n) e = absurd (let z : _≡_ {A = ℕ} 0 1 = cc in omega arith)
 
   -- the parts of such segments, joined, are the bytes that the segments take
-  pub segments-joined : (at : ℕ) (ss : List Segment) → allPlain ss ≡ true →
-      joined (map (normalPart m) (segmentsParts h at ss)) ≡ take (total ss) (drop at m)
+  pub segments-joined : (at : ℕ) (ss : List Segment) → allPlain cs ss ≡ true →
+      joined (map (normalPart l cs m) (segmentsParts h at ss)) ≡ take (total ss) (drop at m)
   segments-joined at [] e = refl
-  segments-joined at (s ∷ []) e = segment-joined at s (both (plain s) true e .0)
+  segments-joined at (s ∷ []) e = segment-joined at s (both (plain cs s) true e .0)
   segments-joined at (s ∷ (t ∷ ss)) e =
-      let p = both (plain s) (allPlain (t ∷ ss)) e in
+      let p = both (plain cs s) (allPlain cs (t ∷ ss)) e in
       rw (
         map-append,
         joined-append,

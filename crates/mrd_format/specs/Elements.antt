@@ -1,9 +1,8 @@
--- Header elements: where each stands in its header, and how it is kept. A header's table is a list of these.
+-- Header elements: where each stands in its header, and how it is kept.
 -- Assumes nothing.
 use Prim.Native.Nat.{ℕ, zero, suc, _+_, _*_}
-use mathlib.Core.List.{List, [], _∷_, _++_}
-use lib.ListN.{replicate}
-use Rattle.mrd_numbers.specs.Little.{num, toBytes}
+use mathlib.Core.List.{List, [], _∷_}
+use Rattle.mrd_numbers.specs.Little.{num}
 
 -- a whole number of 2, 4 or 8 bytes, a signed number in two's complement, or an IEEE 754 float
 pub data ElementType : Type 0 where
@@ -41,19 +40,3 @@ elementsFrom (suc n) w at h = num w h at ∷ elementsFrom n w (at + w) h
 -- a run's elements
 abbrev pub elements : Run → List ℕ → List ℕ
 elements r h = elementsFrom (r .count) (width (r .type)) (r .offset) h
-
--- 'every field of a fixed header': all elements of a table
-abbrev pub values : List Run → List ℕ → List ℕ
-values [] h = []
-values (r ∷ rs) h = elements r h ++ values rs h
-
--- the widths of all elements of a table, in order
-abbrev pub widths : List Run → List ℕ
-widths [] = []
-widths (r ∷ rs) = replicate (r .count) (width (r .type)) ++ widths rs
-
--- numbers written one after the other, each at its width
-abbrev pub written : List ℕ → List ℕ → List ℕ
-written [] vs = []
-written (w ∷ ws) [] = []
-written (w ∷ ws) (v ∷ vs) = toBytes w v ++ written ws vs

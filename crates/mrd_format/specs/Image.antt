@@ -2,11 +2,12 @@
 -- Assumes nothing.
 use Prim.Native.Nat.{ℕ, _*_}
 use mathlib.Core.Bool.{Bool, not, _||_}
-use mathlib.Core.List.{List, [], _∷_, map}
+use mathlib.Core.List.{List, [], _∷_, _++_, map}
 use lib.Dec.{eqb, ltb}
 use lib.ListN.{getD}
 use Rattle.mrd_numbers.specs.Little.{num}
 use Rattle.mrd_format.specs.Elements.{Run, one, many, element, u16, u32, u64, i32, f32}
+use Rattle.mrd_format.specs.Headers.{Cell, field, lengthOf, runs}
 use Rattle.mrd_logic.specs.Checks.{Check, _when_}
 use Rattle.mrd_format.specs.Parts.{attributes, pixels}
 use Rattle.mrd_format.specs.Segments.{Segment, fixed, counted, sized, total, Form}
@@ -46,16 +47,20 @@ layout user-int = many 130 8 i32
 layout user-float = many 162 8 f32
 layout attribute-string-len = one 194 u32
 
--- the header, in the order of its bytes
-abbrev pub header : List Field
-header =
+-- the fields of the record, in the order of their bytes
+abbrev pub fields : List Field
+fields =
     version ∷ data-type ∷ flags ∷ measurement-uid ∷ matrix-size ∷ field-of-view ∷ channels ∷
     position ∷ read-dir ∷ phase-dir ∷ slice-dir ∷ patient-table-position ∷
     average ∷ slice ∷ contrast ∷ phase ∷ repetition ∷ set ∷ acquisition-time-stamp ∷ physiology-time-stamp ∷
-    image-type ∷ image-index ∷ image-series-index ∷ user-int ∷ user-float ∷ attribute-string-len ∷ []
+    image-type ∷ image-index ∷ image-series-index ∷ user-int ∷ user-float ∷ []
+
+-- the header: those fields, and then the attributes' length, which is none of them
+abbrev pub cells : List Cell
+cells = map (λ (f : Field). field (layout f)) fields ++ (lengthOf attributes (layout attribute-string-len) ∷ [])
 
 abbrev pub table : List Run
-table = map layout header
+table = runs cells
 
 -- the number in a field's element i
 abbrev pub getAt : Field → ℕ → List ℕ → ℕ
@@ -77,13 +82,17 @@ elementSize t = getD (0 ∷ 2 ∷ 2 ∷ 4 ∷ 4 ∷ 4 ∷ 8 ∷ 8 ∷ 16 ∷ [])
 abbrev pub typeUnknown : List ℕ → Bool
 typeUnknown h = eqb (get data-type h) 0 || ltb 8 (get data-type h)
 
--- 'the two attribute lengths differ'
+-- 'The header's number may be that length or 0'
 abbrev pub lengthsDiffer : List ℕ → Bool
-lengthsDiffer h = not (eqb (get attribute-string-len h) (attributeLength h))
+lengthsDiffer h = not (eqb (get attribute-string-len h) 0 || eqb (get attribute-string-len h) (attributeLength h))
 
--- checks 4, 8 and 9
+-- checks 4 and 8, of a header h with or without the length after it
+unfoldable pub headerChecks : List ℕ → List Check
+headerChecks h = (4 when not (eqb (get version h) 1)) ∷ (8 when typeUnknown h) ∷ []
+
+-- and check 9
 unfoldable pub checks : List ℕ → List Check
-checks h = (4 when not (eqb (get version h) 1)) ∷ (8 when typeUnknown h) ∷ (9 when lengthsDiffer h) ∷ []
+checks h = headerChecks h ++ ((9 when lengthsDiffer h) ∷ [])
 
 -- 'the three matrix sizes times channels'
 unfoldable pub pixelCount : List ℕ → ℕ
@@ -109,7 +118,7 @@ numbers h =
 abbrev pub form : Form
 form =
     record {
-      table = table;
+      cells = cells;
       fixedSegments = fixed 198 ∷ counted 8 attributes ∷ [];
       bodySegments = body;
       checks = checks;

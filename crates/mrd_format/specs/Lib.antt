@@ -1,5 +1,6 @@
 pub mod Elements
 pub mod Parts
+pub mod Headers
 pub mod Segments
 pub mod Texts
 pub mod Kinds
@@ -15,11 +16,12 @@ pub mod Sizes
 pub mod SizeLaws
 pub mod Shapes
 pub mod Content
+pub mod HeaderLaws
 pub mod AdjoinLaws
 pub mod ReachLaws
 pub mod ExtentLaws
+pub mod ImageLaws
 pub mod NormalLaws
-pub mod HeaderLaws
 pub mod Made
 pub mod Rewritten
 pub mod IdLaws

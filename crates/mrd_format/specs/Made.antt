@@ -18,14 +18,17 @@ use Rattle.mrd_logic.specs.Choice.{both}
 use Rattle.mrd_logic.specs.Every.{Every, every-split}
 use Rattle.mrd_format.specs.declared.kind.Kind.{Kind}
 use Rattle.mrd_format.specs.declared.kind.Kind.the-variants.{ConfigurationName, ConfigurationText, HeaderText, Close, Text, Acquisition, Image, Waveform}
+use Rattle.mrd_format.specs.Acquisition as acquisition
 use Rattle.mrd_format.specs.Image as image
-use Rattle.mrd_format.specs.Kinds.{idOf, formOf, fixedSize}
+use Rattle.mrd_format.specs.Waveform as waveform
+use Rattle.mrd_format.specs.Kinds.{idOf, formOf, fixedSize, headerSize}
 use Rattle.mrd_format.specs.Message.{sizeOf, fixedPart}
 use Rattle.mrd_format.specs.Parts as part
 use Rattle.mrd_format.specs.Parts.{Part, tag, same, isChannel, channelOf, Extent, Reach, lies, lacks, bytesAt, bytesIn, Parts, partIn, partsBy, recordParts, Contents, partLength}
 use Rattle.mrd_format.specs.Segments.{Segment, fixed, counted, padded, sized, channels, sizeIn, total, nameLength, reachIf, reachIn, reachFrom, reachSize, segmentBytes, segmentsBytes}
-use Rattle.mrd_format.specs.Content.{segmentsOf, extentOf, contentsOf, fieldsOf, recordOf, fixedOf, bodyOf, bytesAfterId, messageOf, contentsRecord}
-use Rattle.mrd_format.specs.HeaderLaws.{image-packed, values-append}
+use Rattle.mrd_format.specs.Content.{segmentsOf, extentOf, partSize, contentsOf, fieldsOf, recordOf, settledBy, fixedOf, bodyOf, bytesAfterId, messageOf, contentsRecord}
+use Rattle.mrd_format.specs.Headers.{Cell, values, settled}
+use Rattle.mrd_format.specs.HeaderLaws.{packed, acquisition-packed, image-packed, waveform-packed, values-same, settled-fields}
 use Rattle.mrd_format.specs.ReachLaws.{size-segments, reach-if, or-else, not-there}
 
 -- a segment's bytes, of the contents c, are as many as it says; h is the fixed part, which shows a name's length
@@ -106,40 +109,55 @@ none : (x : List ℕ) → 0 ≡ length x → [] ≡ x
 none [] e = refl
 none (b ∷ x) e = absurd (omega arith)
 
--- contents whose segments are as long as they say, and whose other parts are empty
+-- contents whose header has its kind's length, whose segments, the true lengths in the header, are as long as they say, and whose other parts are
+-- empty
 pub record Fitting (k : Kind) (c : Contents) : Type 0 where
-  pub holds : Every (Holds (fixedOf k c) c) (segmentsOf k (fixedOf k c))
-  pub sizes : map (λ (p : Part). reachSize (extentOf p k (fixedOf k c))) recordParts ≡ map (partLength c) recordParts
+  pub header : length (c .header) ≡ headerSize k
+  pub holds : Every (Holds (fixedOf k c) (settledBy k (partLength c) c)) (segmentsOf k (fixedOf k c))
+  pub sizes : map (partSize k (fixedOf k c)) recordParts ≡ map (partLength c) recordParts
+
+-- a header with the true lengths in it, alone, has the fields of the given one
+settled-values : (c : Contents) (n : ℕ) (cs : List Cell) → packed 0 n cs ≡ true → length (c .header) ≡ n →
+    values cs (settled (partLength c) cs (c .header)) ≡ values cs (c .header)
+settled-values c n cs p e =
+    let h = settled (partLength c) cs (c .header) in
+    values-same cs h (c .header)
+    (rw append-nil at (settled-fields (partLength c) n cs (c .header) [] p (le-of-eq (sym e))))
 
 -- the fields of the fixed part are those of the given header
-made-fields : (k : Kind) (c : Contents) → Fitting k c → fieldsOf k (fixedOf k c) ≡ fieldsOf k (c .header)
+made-fields : (k : Kind) (c : Contents) → length (c .header) ≡ headerSize k → fieldsOf k (fixedOf k c) ≡ fieldsOf k (c .header)
 unfolding fieldsOf fixedOf
-made-fields ConfigurationName c f = refl
-made-fields ConfigurationText c f = refl
-made-fields HeaderText c f = refl
-made-fields Close c f = refl
-made-fields Text c f = refl
-made-fields Acquisition c f = refl
-made-fields Image c f = values-append 0 198 image.table (c .header) _ image-packed (le-of-eq (sym (f .holds .0)))
-made-fields Waveform c f = refl
+made-fields ConfigurationName c e = refl
+made-fields ConfigurationText c e = refl
+made-fields HeaderText c e = refl
+made-fields Close c e = refl
+made-fields Text c e = refl
+made-fields Acquisition c e = settled-values c 340 acquisition.cells acquisition-packed e
+made-fields Image c e =
+    values-same image.cells _ (c .header) (settled-fields (partLength c) 198 image.cells (c .header) _ image-packed (le-of-eq (sym e)))
+made-fields Waveform c e = settled-values c 32 waveform.cells waveform-packed e
 
 module _ (k : Kind) (c : Contents) (f : Fitting k c) where
-  made-segments : messageOf k c ≡ toBytes 2 (idOf k) ++ segmentsBytes (partLength c) c (segmentsOf k (fixedOf k c))
+  abbrev settledOnes : Contents
+  settledOnes = settledBy k (partLength c) c
+
+  made-segments : messageOf k c ≡ toBytes 2 (idOf k) ++ segmentsBytes (partLength c) settledOnes (segmentsOf k (fixedOf k c))
   unfolding messageOf bytesAfterId fixedOf bodyOf
   made-segments =
-      ap (λ (x : List ℕ). toBytes 2 (idOf k) ++ x) (sym (segments-append (partLength c) c (formOf k .fixedSegments) (formOf k .bodySegments (fixedOf k c))))
+      ap (λ (x : List ℕ). toBytes 2 (idOf k) ++ x)
+      (sym (segments-append (partLength c) settledOnes (formOf k .fixedSegments) (formOf k .bodySegments (fixedOf k c))))
 
   pub made-length : length (messageOf k c) ≡ sizeOf k (fixedOf k c)
   made-length =
-      let long = segments-length (partLength c) (fixedOf k c) c (segmentsOf k (fixedOf k c)) (f .holds) in
+      let long = segments-length (partLength c) (fixedOf k c) settledOnes (segmentsOf k (fixedOf k c)) (f .holds) in
       rw (made-segments, size-segments k (fixedOf k c)) (omega (arith, long))
 
   -- the fixed part is the one that was made
   pub fixed-length : length (fixedOf k c) ≡ fixedSize k
   unfolding fixedOf
   fixed-length =
-      segments-length (partLength c) (fixedOf k c) c (formOf k .fixedSegments)
-      (every-split (Holds (fixedOf k c) c) (formOf k .fixedSegments) (formOf k .bodySegments (fixedOf k c)) (f .holds) .0)
+      segments-length (partLength c) (fixedOf k c) settledOnes (formOf k .fixedSegments)
+      (every-split (Holds (fixedOf k c) settledOnes) (formOf k .fixedSegments) (formOf k .bodySegments (fixedOf k c)) (f .holds) .0)
 
   pub made-fixed : fixedPart k (messageOf k c) ≡ fixedOf k c
   unfolding fixedPart messageOf bytesAfterId
@@ -156,7 +174,7 @@ module _ (k : Kind) (c : Contents) (f : Fitting k c) where
       by lacks q l = none (partIn (c .parts) p) l
       by (lies e) q l =
           ⊎-elim (λ a. absurd (absent 0 2 (r .0) a))
-          (λ b. rw made-segments (segments-part (partLength c) (fixedOf k c) c p r (toBytes 2 (idOf k)) (segmentsOf k (fixedOf k c)) (f .holds) b))
+          (λ b. rw made-segments (segments-part (partLength c) (fixedOf k c) settledOnes p r (toBytes 2 (idOf k)) (segmentsOf k (fixedOf k c)) (f .holds) b))
           (or-else (reachIf (same p part.id) 0 2) _ q)
 
   made-parts : partsBy (λ (p : Part). bytesIn (messageOf k c) (extentOf p k (fixedOf k c))) ≡ c .parts
@@ -176,6 +194,6 @@ module _ (k : Kind) (c : Contents) (f : Fitting k c) where
   unfolding recordOf contentsRecord contentsOf
   made-record =
       let m = messageOf k c in
-      let fields : fieldsOf k (fixedPart k m) ≡ fieldsOf k (c .header) = ap (fieldsOf k) made-fixed ∙ made-fields k c f in
+      let fields : fieldsOf k (fixedPart k m) ≡ fieldsOf k (c .header) = ap (fieldsOf k) made-fixed ∙ made-fields k c (f .header) in
       let parts : contentsOf k m .parts ≡ c .parts = ap (λ (h : List ℕ). partsBy (λ (p : Part). bytesIn m (extentOf p k h))) made-fixed ∙ made-parts in
       λ i. record { kind = k; fields = fields i; parts = parts i }

@@ -7,7 +7,8 @@ use mathlib.Core.Path.{_≡_, sym, ap, _∙_}
 use mathlib.Core.List.{List, _++_}
 use lib.ListN.{length, take, drop, length-drop, take-append-drop}
 use lib.Seq.{length-take-le, take-append-le, drop-append-le, take-append-seam}
-use Rattle.mrd_numbers.specs.Laws.{num-append}
+use Rattle.mrd_numbers.specs.Little.{num}
+use Rattle.mrd_numbers.specs.Laws.{num-append, num-take, num-drop}
 use Rattle.mrd_format.specs.declared.kind.Kind.{Kind}
 use Rattle.mrd_format.specs.declared.kind.Identified.the-variants.{Known}
 use Rattle.mrd_format.specs.Kinds.{fixedSize, identified}
@@ -24,6 +25,11 @@ fixed-append k m rest h =
     let id : 2 ≤ length m = omega arith in
     let fits : fixedSize k ≤ length (drop 2 m) = simp length-drop (omega arith) in
     rw (drop-append-le, take-append-le)
+
+-- a number of the fixed part stands in the message after the id
+pub num-fixed : (k : Kind) (t : List ℕ) (w i : ℕ) → i + w ≤ fixedSize k → num w (fixedPart k t) i ≡ num w t (2 + i)
+unfolding fixedPart
+num-fixed k t w i h = num-take w (fixedSize k) (drop 2 t) i h ∙ num-drop w 2 t i
 
 -- a message is no shorter than its id and fixed part
 pub size-least : (k : Kind) (h : List ℕ) → 2 + fixedSize k ≤ sizeOf k h

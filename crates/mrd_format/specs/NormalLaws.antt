@@ -1,23 +1,29 @@
 -- The normal form of one well-formed message: it is well formed, of the same kind and length, the same record, and its own normal form.
 -- Assumes nothing.
-use Prim.Native.Nat.{ℕ, suc, _+_, _-_, _<_}
+use Prim.Native.Nat.{ℕ, suc, _+_, _-_, _≤_, _<_}
 use native.Mathlib.Nat.{le-of-eq}
 use native.Mathlib.Omega.{arith}
 use mathlib.Core.Path.{_≡_, refl, sym, ap, ap₂, _∙_}
 use mathlib.Core.Bool.{Bool, true, false}
+use mathlib.Core.Logic.{inr}
 use mathlib.Core.List.{List, [], _∷_, _++_, append-nil, append-assoc}
 use borrow.Author.Tests.{eq-eqb, leb-false}
 use lib.Dec.{eqb}
 use lib.ListN.{length, take, drop, replicate, length-append, length-drop, length-replicate, take-append-drop}
 use lib.Seq.{length-take-le, take-take, take-all, take-at, drop-at, take-add}
 use Rattle.bytes.specs.Bytes.{indexOf, indexAfter}
+use Rattle.mrd_numbers.specs.Little.{toBytes, num}
+use Rattle.mrd_numbers.specs.ToBytesLaws.{length-toBytes}
+use Rattle.mrd_numbers.specs.Stored.{stored}
 use Rattle.mrd_format.specs.declared.kind.Kind.{Kind}
 use Rattle.mrd_format.specs.declared.kind.Kind.the-variants.{ConfigurationName, ConfigurationText, HeaderText, Close, Text, Acquisition, Image, Waveform}
 use Rattle.mrd_logic.specs.Checks.{first}
 use Rattle.mrd_logic.specs.CheckLaws.{first-passed}
-use Rattle.mrd_format.specs.Message.{idAt, fixedPart, nameLength, ownChecks, bodySize, sizeOf, WellFormed}
+use Rattle.mrd_format.specs.Message.{limit, idAt, fixedPart, nameLength, ownChecks, bodySize, sizeOf, WellFormed}
 use Rattle.mrd_format.specs.MessageLaws.{id-append}
 use Rattle.mrd_format.specs.Segments.{total}
+use Rattle.mrd_format.specs.Image.{attributeLength}
+use Rattle.mrd_format.specs.ImageLaws.{restated-long, restated-id, restated-size, restated-sound, restated-record, restated-normal, image-normal, true-length}
 use Rattle.mrd_format.specs.Kinds.{formOf}
 use Rattle.mrd_format.specs.Content.{segmentsOf, extentOf, contentsOf, fieldsOf, recordOf, normalOf}
 use Rattle.mrd_format.specs.AdjoinLaws.{allPlain, segments-joined, total-append}
@@ -58,14 +64,14 @@ module _ (h : List ℕ) (long : length h ≡ 1024) (short : nameLength h < 1024)
 pub record Normalised (k : Kind) (m : List ℕ) : Type 0 where
   pub long : length (normalOf k m) ≡ length m
   pub id : idAt (normalOf k m) ≡ idAt m
-  pub checks : ownChecks k (fixedPart k (normalOf k m)) ≡ ownChecks k (fixedPart k m)
+  pub sound : first (ownChecks k (fixedPart k (normalOf k m))) ≡ 0
   pub size : sizeOf k (fixedPart k (normalOf k m)) ≡ sizeOf k (fixedPart k m)
   pub same : recordOf k (normalOf k m) ≡ recordOf k m
   pub own : normalOf k (normalOf k m) ≡ normalOf k m
 
 -- a message that is its normal form
-unchanged : (k : Kind) (m : List ℕ) → normalOf k m ≡ m → Normalised k m
-unchanged k m e = record { long = rw e; id = rw e; checks = rw e; size = rw e; same = rw e; own = rw e e }
+unchanged : (k : Kind) (m : List ℕ) → first (ownChecks k (fixedPart k m)) ≡ 0 → normalOf k m ≡ m → Normalised k m
+unchanged k m sound e = record { long = rw e; id = rw e; sound = rw e sound; size = rw e; same = rw e; own = rw e e }
 
 -- a configuration name's 1,024 bytes
 abbrev pub nameBytes : List ℕ → List ℕ
@@ -142,42 +148,65 @@ name-own m whole short =
     ap₂ (λ (a b : List ℕ). a ++ b) (name-front m whole short) (ap filled (name-fixed m whole short) ∙ filled-twice m whole short) ∙
     sym (name-normal m whole short)
 
-name-normalised : (m : List ℕ) → length m ≡ 1026 → nameLength (nameBytes m) < 1024 → Normalised ConfigurationName m
+name-normalised : (m : List ℕ) → first (ownChecks ConfigurationName (nameBytes m)) ≡ 0 → length m ≡ 1026 → nameLength (nameBytes m) < 1024 →
+    Normalised ConfigurationName m
 unfolding ownChecks sizeOf bodySize recordOf fieldsOf contentsOf extentOf
-name-normalised m whole short =
+name-normalised m sound whole short =
     record {
       long = name-size m whole short ∙ sym whole;
       id = name-id m whole short;
-      checks = rw (name-length m whole short);
+      sound = rw (name-length m whole short) sound;
       size = refl;
       same = rw (name-part m whole short);
       own = name-own m whole short;
     }
 
 -- a message of its kind's size whose parts are all kept is its normal form
-pub kept : (k : Kind) (m : List ℕ) → allPlain (segmentsOf k (fixedPart k m)) ≡ true → sizeOf k (fixedPart k m) ≡ length m → normalOf k m ≡ m
+pub kept : (k : Kind) (m : List ℕ) → allPlain (formOf k .cells) (segmentsOf k (fixedPart k m)) ≡ true →
+    sizeOf k (fixedPart k m) ≡ length m → normalOf k m ≡ m
 unfolding normalOf sizeOf bodySize
 kept k m p whole =
     let h = fixedPart k m in
     let size = total-append (formOf k .fixedSegments) (formOf k .bodySegments h) in
-    rw (segments-joined m h 2 (segmentsOf k h) p, take-all (total (segmentsOf k h)) (drop 2 m) (simp length-drop (omega (arith, size, whole))))
+    rw (segments-joined _ (formOf k .cells) m h 2 (segmentsOf k h) p, take-all (total (segmentsOf k h)) (drop 2 m) (simp length-drop (omega (arith, size, whole))))
     (take-append-drop 2 m)
 
--- this holds of the normal form of every message of kind k that passes its own checks and has its size
-normalised : (k : Kind) (m : List ℕ) → first (ownChecks k (fixedPart k m)) ≡ 0 → sizeOf k (fixedPart k m) ≡ length m → Normalised k m
+-- an image's message within the limit: its normal form has the true length in its header
+image-normalised : (m : List ℕ) → first (ownChecks Image (fixedPart Image m)) ≡ 0 → sizeOf Image (fixedPart Image m) ≤ limit →
+    sizeOf Image (fixedPart Image m) ≡ length m → Normalised Image m
 unfolding sizeOf bodySize
-normalised ConfigurationName m sound whole = name-normalised m (sym whole) (name-short m sound)
-normalised ConfigurationText m sound whole = unchanged ConfigurationText m (kept ConfigurationText m refl whole)
-normalised HeaderText m sound whole = unchanged HeaderText m (kept HeaderText m refl whole)
-normalised Close m sound whole = unchanged Close m (kept Close m refl whole)
-normalised Text m sound whole = unchanged Text m (kept Text m refl whole)
-normalised Acquisition m sound whole = unchanged Acquisition m (kept Acquisition m refl whole)
-normalised Image m sound whole = unchanged Image m (kept Image m refl whole)
-normalised Waveform m sound whole = unchanged Waveform m (kept Waveform m refl whole)
+image-normalised m sound small whole =
+    let a = attributeLength (fixedPart Image m) in
+    let w = toBytes 4 a in
+    let size : length w ≡ 4 = length-toBytes 4 a in
+    let long : 208 ≤ length m = omega (arith, whole) in
+    let true-number : num 4 w 0 ≡ a = true-length a (omega (arith, small)) in
+    let e : normalOf Image m ≡ stored 196 w m = image-normal m whole in
+    record {
+      long = rw e (restated-long m w size long);
+      id = rw e (restated-id m w size long);
+      sound = rw e (restated-sound m w size long (inr true-number) sound);
+      size = rw e (restated-size m w size long);
+      same = rw e (restated-record m w size long);
+      own = ap (normalOf Image) e ∙ restated-normal m w size whole long;
+    }
+
+-- this holds of the normal form of every message of kind k that passes its own checks, is within the limit and has its size
+normalised : (k : Kind) (m : List ℕ) → first (ownChecks k (fixedPart k m)) ≡ 0 → sizeOf k (fixedPart k m) ≤ limit →
+    sizeOf k (fixedPart k m) ≡ length m → Normalised k m
+unfolding sizeOf bodySize
+normalised ConfigurationName m sound small whole = name-normalised m sound (sym whole) (name-short m sound)
+normalised ConfigurationText m sound small whole = unchanged ConfigurationText m sound (kept ConfigurationText m refl whole)
+normalised HeaderText m sound small whole = unchanged HeaderText m sound (kept HeaderText m refl whole)
+normalised Close m sound small whole = unchanged Close m sound (kept Close m refl whole)
+normalised Text m sound small whole = unchanged Text m sound (kept Text m refl whole)
+normalised Acquisition m sound small whole = unchanged Acquisition m sound (kept Acquisition m refl whole)
+normalised Image m sound small whole = image-normalised m sound small whole
+normalised Waveform m sound small whole = unchanged Waveform m sound (kept Waveform m refl whole)
 
 -- this holds of every well-formed message's normal form
 pub well-normalised : (m : List ℕ) (w : WellFormed m) → Normalised (w .kind) m
-well-normalised m w = normalised (w .kind) m (w .sound) (w .whole)
+well-normalised m w = normalised (w .kind) m (w .sound) (w .small) (w .whole)
 
 -- and it is well formed, of the same kind
 abbrev pub normal-well : (m : List ℕ) (w : WellFormed m) → WellFormed (normalOf (w .kind) m)
@@ -186,7 +215,7 @@ normal-well m w =
     record {
       kind = w .kind;
       known = rw (n .id) (w .known);
-      sound = rw (n .checks) (w .sound);
+      sound = n .sound;
       small = rw (n .size) (w .small);
       whole = n .size ∙ w .whole ∙ sym (n .long);
     }

@@ -14,7 +14,7 @@ use Rattle.mrd_format.specs.Waveform as waveform
 
 -- no check of a message has the number 0
 pub own-numbered : (k : Kind) (h : List ℕ) → numbered (ownChecks k h) ≡ true
-unfolding ownChecks acquisition.checks image.checks waveform.checks
+unfolding ownChecks acquisition.checks image.headerChecks image.checks waveform.checks
 own-numbered ConfigurationName h = refl
 own-numbered ConfigurationText h = refl
 own-numbered HeaderText h = refl

@@ -16,17 +16,19 @@ use Rattle.mrd_format.specs.declared.kind.Kind.{Kind}
 use Rattle.mrd_format.specs.declared.kind.Kind.the-variants.{ConfigurationName, ConfigurationText, HeaderText, Close, Text, Acquisition, Image, Waveform}
 use Rattle.mrd_format.specs.Kinds.{idOf, formOf, fixedSize}
 use Rattle.mrd_format.specs.IdLaws.{known-id}
-use Rattle.mrd_format.specs.Segments.{nameLength}
+use Rattle.mrd_format.specs.Segments.{nameLength, segmentsBytes}
 use Rattle.mrd_format.specs.Texts.{textLength}
 use Rattle.mrd_format.specs.Message.{idAt, fixedPart, ownChecks, bodySize, sizeOf, WellFormed}
 use Rattle.mrd_format.specs.MessageLaws.{well-least}
-use Rattle.mrd_format.specs.Content.{extentOf, contentsOf, fieldsOf, recordOf, normalOf, fixedOf, bodyOf, bytesAfterId, messageOf, bytesOf}
+use Rattle.mrd_format.specs.Content.{extentOf, partSize, contentsOf, fieldsOf, recordOf, normalOf, fixedOf, bodyOf, bytesAfterId, messageOf, bytesOf}
 use Rattle.mrd_format.specs.Acquisition as acquisition
 use Rattle.mrd_format.specs.Image as image
 use Rattle.mrd_format.specs.Waveform as waveform
-use Rattle.mrd_format.specs.Elements.{Run, values, widths, written}
+use Rattle.mrd_format.specs.Parts.{Part, attributes, Parts, Contents, partLength}
+use Rattle.mrd_format.specs.Headers.{Cell, values, settled, written}
 use Rattle.mrd_format.specs.AdjoinLaws.{joined-channels}
-use Rattle.mrd_format.specs.HeaderLaws.{packed, header-written, acquisition-packed, image-packed, waveform-packed}
+use Rattle.mrd_format.specs.HeaderLaws.{packed, acquisition-packed, image-packed, waveform-packed, SameFields, front-fields, settled-same, written-fields}
+use Rattle.mrd_format.specs.ImageLaws.{image-settled}
 use Rattle.mrd_format.specs.NormalLaws.{nameBytes, name-short}
 
 -- a part that lies in the message has its size
@@ -60,19 +62,20 @@ unfolding textLength
 text-content m b z e whole =
     then (count-written m b 4 4 0 (omega arith) (omega arith) (part-length m 6 z (le-of-eq whole) ∙ e)) (last (take z (drop 6 m)))
 
-image-content : (m : List ℕ) → Bytes m → (a p : ℕ) → a ≡ image.attributeLength (take 206 (drop 2 m)) → 208 + (a + p) ≡ length m →
+image-content : (y z : Part → ℕ) (m : List ℕ) → Bytes m → (a p : ℕ) → a ≡ image.attributeLength (take 206 (drop 2 m)) → 208 + (a + p) ≡ length m →
+    y attributes ≡ length (take a (drop 208 m)) → z attributes ≡ a →
     let header = take 198 (drop 2 m) in
     let attributes = take a (drop 208 m) in
     let pixels = take p (drop (208 + a) m) in
-    (header ++ toBytes 8 (length attributes)) ++ (attributes ++ pixels) ≡
-    header ++ (take 8 (drop 200 m) ++ (attributes ++ (pixels ++ [])))
-image-content m b a p e whole =
+    (settled y image.cells header ++ toBytes 8 (length attributes)) ++ (attributes ++ pixels) ≡
+    settled z image.cells header ++ (take 8 (drop 200 m) ++ (attributes ++ (pixels ++ [])))
+image-content y z m b a p e whole given meant =
     let header = take 198 (drop 2 m) in
     let attributes = take a (drop 208 m) in
     let pixels = take p (drop (208 + a) m) in
     let size : length attributes ≡ a = part-length m 208 a (omega arith) in
-    append-assoc header (toBytes 8 (length attributes)) (attributes ++ pixels) ∙
-    then {a = header} refl
+    append-assoc (settled y image.cells header) (toBytes 8 (length attributes)) (attributes ++ pixels) ∙
+    then (image-settled y header ∙ ap (λ (n : ℕ). take 194 header ++ toBytes 4 n) (given ∙ size ∙ sym meant) ∙ sym (image-settled z header))
     (then (count-written m b 206 8 198 (omega arith) (omega arith) (size ∙ e)) (then {a = attributes} refl (last pixels)))
 
 -- and of every kind
@@ -88,14 +91,14 @@ content Text m b sound whole = then {a = take 2 m} refl (text-content m b (textL
 content Acquisition m b sound whole =
     let h = take 340 (drop 2 m) in
     let t = acquisition.trajectorySize h in
-    let samples = joined-channels m (acquisition.get acquisition.active-channels h) 0 (342 + t) (acquisition.channelSize h) in
-    then {a = take 2 m} refl (then {a = h} refl (then {a = take t (drop 342 m)} refl (sym samples)))
+    let samples = joined-channels (partSize Acquisition h) acquisition.cells m (acquisition.get acquisition.active-channels h) 0 (342 + t) (acquisition.channelSize h) in
+    then {a = take 2 m} refl (then {a = settled (λ (p : Part). 0) acquisition.cells h} refl (then {a = take t (drop 342 m)} refl (sym samples)))
 content Image m b sound whole =
     let h = take 206 (drop 2 m) in
-    then {a = take 2 m} refl (image-content m b (image.attributeLength h) (image.pixelsSize h) refl whole)
+    then {a = take 2 m} refl (image-content (partLength (contentsOf Image m)) (partSize Image h) m b (image.attributeLength h) (image.pixelsSize h) refl whole refl refl)
 content Waveform m b sound whole =
     let h = take 32 (drop 2 m) in
-    then {a = take 2 m} refl (then {a = h} refl (last (take (waveform.bodySize h) (drop 34 m))))
+    then {a = take 2 m} refl (then {a = settled (λ (p : Part). 0) waveform.cells h} refl (last (take (waveform.bodySize h) (drop 34 m))))
 
 -- a message's id is its kind's
 id-bytes : (m : List ℕ) → Bytes m → (w : WellFormed m) → toBytes 2 (idOf (w .kind)) ≡ take 2 m
@@ -107,29 +110,46 @@ pub rewritten-normal : (m : List ℕ) → Bytes m → (w : WellFormed m) → mes
 unfolding messageOf
 rewritten-normal m b w = then (id-bytes m b w) refl ∙ content (w .kind) m b (w .sound) (w .whole)
 
--- a header is its fields, written one after the other: a packed table of n bytes, at the front of a fixed part of z
-fields-written : (m : List ℕ) → Bytes m → (n z : ℕ) (rs : List Run) → packed 0 n rs ≡ true → n ≤ z → 2 + z ≤ length m →
-    written (widths rs) (values rs (take z (drop 2 m))) ≡ take n (drop 2 m)
-fields-written m b n z rs p within long =
-    let size : length (take z (drop 2 m)) ≡ z = part-length m 2 z long in
-    header-written n rs (take z (drop 2 m)) p (bytes-take z (drop 2 m) (bytes-drop 2 m b)) (omega arith) ∙ take-take n z (drop 2 m) within
+-- a header is its fields, written, once the true lengths are put in: the cells of n bytes, at the front of a fixed part of z
+fields-written : (l : Part → ℕ) (m : List ℕ) → Bytes m → (n z : ℕ) (cs : List Cell) → packed 0 n cs ≡ true → n ≤ z → 2 + z ≤ length m →
+    settled l cs (written cs (values cs (take z (drop 2 m)))) ≡ settled l cs (take n (drop 2 m))
+fields-written l m b n z cs p within long =
+    let h = take z (drop 2 m) in
+    let size : length h ≡ z = part-length m 2 z long in
+    let front : SameFields cs h (take n (drop 2 m)) =
+    front-fields n cs h (take n (drop 2 m)) p (take-take n z (drop 2 m) within ∙ sym (take-take n n (drop 2 m) (omega arith))) in
+    settled-same l cs (written cs (values cs h)) h (written-fields n cs h p (bytes-take z (drop 2 m) (bytes-drop 2 m b)) (omega arith)) ∙
+    settled-same l cs h (take n (drop 2 m)) front
 
-header-again : (k : Kind) (m : List ℕ) → Bytes m → 2 + fixedSize k ≤ length m →
-    written (widths (formOf k .table)) (fieldsOf k (fixedPart k m)) ≡ contentsOf k m .header
+header-again : (l : Part → ℕ) (k : Kind) (m : List ℕ) → Bytes m → 2 + fixedSize k ≤ length m →
+    settled l (formOf k .cells) (written (formOf k .cells) (fieldsOf k (fixedPart k m))) ≡ settled l (formOf k .cells) (contentsOf k m .header)
 unfolding fieldsOf fixedPart contentsOf extentOf
-header-again ConfigurationName m b long = refl
-header-again ConfigurationText m b long = refl
-header-again HeaderText m b long = refl
-header-again Close m b long = refl
-header-again Text m b long = refl
-header-again Acquisition m b long = fields-written m b 340 340 acquisition.table acquisition-packed (omega arith) long
-header-again Image m b long = fields-written m b 198 206 image.table image-packed (omega arith) long
-header-again Waveform m b long = fields-written m b 32 32 waveform.table waveform-packed (omega arith) long
+header-again l ConfigurationName m b long = refl
+header-again l ConfigurationText m b long = refl
+header-again l HeaderText m b long = refl
+header-again l Close m b long = refl
+header-again l Text m b long = refl
+header-again l Acquisition m b long = fields-written l m b 340 340 acquisition.cells acquisition-packed (omega arith) long
+header-again l Image m b long = fields-written l m b 198 206 image.cells image-packed (omega arith) long
+header-again l Waveform m b long = fields-written l m b 32 32 waveform.cells waveform-packed (omega arith) long
+
+-- headers that are the same once the true lengths are put in make the same message of the same parts
+settled-message : (k : Kind) (g h : List ℕ) (ps : Parts) →
+    settled (partLength (record { header = g; parts = ps })) (formOf k .cells) g ≡ settled (partLength (record { header = g; parts = ps })) (formOf k .cells) h →
+    messageOf k (record { header = g; parts = ps }) ≡ messageOf k (record { header = h; parts = ps })
+unfolding messageOf bytesAfterId fixedOf bodyOf
+settled-message k g h ps e =
+    let z = partLength (record { header = g; parts = ps }) in
+    ap (λ (x : List ℕ).
+    let c : Contents = record { header = x; parts = ps } in
+    let fixed = segmentsBytes z c (formOf k .fixedSegments) in
+    toBytes 2 (idOf k) ++ (fixed ++ segmentsBytes z c (formOf k .bodySegments fixed))) e
 
 -- what its record is written as is its normal form too: records that are equal have one set of bytes
 pub record-writes : (m : List ℕ) → Bytes m → (w : WellFormed m) → bytesOf (recordOf (w .kind) m) ≡ normalOf (w .kind) m
 unfolding bytesOf recordOf
 record-writes m b w =
-    let parts = contentsOf (w .kind) m .parts in
-    ap (λ (h : List ℕ). messageOf (w .kind) (record { header = h; parts = parts })) (header-again (w .kind) m b (well-least m w)) ∙
+    let k = w .kind in
+    settled-message k (written (formOf k .cells) (fieldsOf k (fixedPart k m))) (contentsOf k m .header) (contentsOf k m .parts)
+    (header-again _ k m b (well-least m w)) ∙
     rewritten-normal m b w

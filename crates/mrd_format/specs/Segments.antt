@@ -8,7 +8,7 @@ use lib.ListN.{length, replicate}
 use Rattle.bytes.specs.Bytes.{indexOf}
 use Rattle.mrd_numbers.specs.Little.{toBytes}
 use Rattle.mrd_logic.specs.Checks.{Check}
-use Rattle.mrd_format.specs.Elements.{Run}
+use Rattle.mrd_format.specs.Headers.{Cell}
 use Rattle.mrd_format.specs.Parts.{Part, count, header, name, filler, samples, channel, same, isChannel, channelOf, Extent, extent, Reach, lies, lacks, Contents, partIn}
 
 pub data Segment : Type 0 where
@@ -115,8 +115,8 @@ segmentsBytes z c (s ∷ (t ∷ ss)) = segmentBytes z c s ++ segmentsBytes z c (
 
 -- the form of a message: what a row of the paper's table says of what follows the id
 pub record Form : Type 0 where
-  -- its header's elements
-  pub table : List Run
+  -- its header, in the order of its bytes
+  pub cells : List Cell
   -- the fixed part, and what then follows where the fixed part is h
   pub fixedSegments : List Segment
   pub bodySegments : List ℕ → List Segment

@@ -16,7 +16,7 @@ textLength h = num 4 h 0
 abbrev pub nameForm : Form
 nameForm =
     record {
-      table = [];
+      cells = [];
       fixedSegments = padded 1024 ∷ [];
       bodySegments = λ h. [];
       checks = λ h. (5 when leb 1024 (nameLength h)) ∷ [];
@@ -29,7 +29,7 @@ nameForm =
 abbrev pub textForm : Form
 textForm =
     record {
-      table = [];
+      cells = [];
       fixedSegments = counted 4 text ∷ [];
       bodySegments = λ h. sized text (textLength h) ∷ [];
       checks = λ h. [];
@@ -41,7 +41,7 @@ textForm =
 abbrev pub closeForm : Form
 closeForm =
     record {
-      table = [];
+      cells = [];
       fixedSegments = [];
       bodySegments = λ h. [];
       checks = λ h. [];

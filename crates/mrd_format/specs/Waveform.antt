@@ -5,6 +5,7 @@ use mathlib.Core.Bool.{not}
 use mathlib.Core.List.{List, [], _∷_, map}
 use lib.Dec.{eqb}
 use Rattle.mrd_format.specs.Elements.{Run, one, element, u16, u32, u64, f32}
+use Rattle.mrd_format.specs.Headers.{Cell, field, runs}
 use Rattle.mrd_logic.specs.Checks.{Check, _when_}
 use Rattle.mrd_format.specs.Parts.{waveform}
 use Rattle.mrd_format.specs.Segments.{Segment, fixed, sized, Form}
@@ -29,8 +30,12 @@ abbrev pub header : List Field
 header =
     version ∷ flags ∷ measurement-uid ∷ scan-counter ∷ time-stamp ∷ number-of-samples ∷ channels ∷ sample-time-us ∷ waveform-id ∷ []
 
+-- every one of them is a field of the record
+abbrev pub cells : List Cell
+cells = map (λ (f : Field). field (layout f)) header
+
 abbrev pub table : List Run
-table = map layout header
+table = runs cells
 
 -- the number in a field
 abbrev pub get : Field → List ℕ → ℕ
@@ -54,7 +59,7 @@ numbers h = get number-of-samples h ∷ get channels h ∷ []
 abbrev pub form : Form
 form =
     record {
-      table = table;
+      cells = cells;
       fixedSegments = fixed 32 ∷ [];
       bodySegments = body;
       checks = checks;

@@ -56,6 +56,9 @@ impl Kind {
     // An image's header alone, without the 8-byte length that is in its fixed part.
     pub const IMAGE_HEADER: usize = 198;
 
+    // Where an image's header has its attributes' length, after all fields of the record.
+    pub const ATTRIBUTE_STRING_LEN: usize = 194;
+
     // The kind with this id.
     pub fn of_id(id: u16) -> Identified
         ensures { λ r. ⌜ r ≡ identified id ⌝ }

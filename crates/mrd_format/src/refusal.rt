@@ -25,7 +25,7 @@ pub const DISCARD: u8 = 7;
 // An image's data type is not 1 to 8.
 pub const DATA_TYPE: u8 = 8;
 
-// The two attribute lengths differ.
+// An image header's attribute length is neither 0 nor the 8-byte length after it.
 pub const ATTRIBUTE_LENGTH: u8 = 9;
 
 // The whole message, id included, is over 268,435,456 bytes.

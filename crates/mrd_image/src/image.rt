@@ -4,12 +4,12 @@ ghost use mathlib.Core.Path.{_≡_};
 ghost use Prim.Native.Nat.{_<_, _≤_, _^_};
 ghost use lib.ListN.{length};
 ghost use Rattle.mrd_logic.specs.Checks.{first};
-ghost use Rattle.mrd_format.specs.Image.{checks, typeUnknown, lengthsDiffer, attributeLength, elementSize, pixelCount, bodySize, numbers};
-ghost use Rattle.mrd_format.specs.Kinds.{fixedSize};
-ghost use Rattle.mrd_format.specs.declared.kind.Kind.«the-variants».{Image};
+ghost use Rattle.mrd_format.specs.Image.{headerChecks, checks, typeUnknown, lengthsDiffer, attributeLength, elementSize, pixelCount, pixelsSize, bodySize, numbers};
+ghost use Rattle.mrd_format.specs.Kinds.{fixedSize, headerSize};
 ghost use Rattle.mrd_format.specs.Sizes.{capped};
 ghost use Rattle.mrd_format.specs.Shapes.{imageNumbers};
 use mrd_format::ImageShape;
+use mrd_format::Kind;
 use mrd_format::refusal;
 use mrd_format::size::cap;
 use mrd_format::size::product;
@@ -29,7 +29,6 @@ const MATRIX_SIZE_Z: usize = 20;
 
 const CHANNELS: usize = 34;
 
-const ATTRIBUTE_STRING_LEN: usize = 194;
 // The 8-byte length stands after the header.
 const ATTRIBUTE_LENGTH: usize = 198;
 
@@ -38,14 +37,12 @@ const ELEMENT_SIZES: [u64; 9] = [0, 2, 2, 4, 4, 4, 8, 8, 16];
 
 // The number of the first of checks 4, 8 and 9 that refuses the fixed part, or 0.
 pub fn fault(h: &[u8]) -> u8
-    requires { ⌜ length (now h) ≡ fixedSize Image ⌝ }
+    requires { ⌜ length (now h) ≡ fixedSize Kind.Image ⌝ }
     ensures { λ r. ⌜ r ≡ first (checks (now (h .entry))) ⌝ }
 {
-    if read_u16(h, VERSION) != 1 {
-        return refusal::VERSION;
-    }
-    if type_unknown(h) {
-        return refusal::DATA_TYPE;
+    let header = header_fault(h);
+    if header != 0 {
+        return header;
     }
     if lengths_differ(h) {
         return refusal::ATTRIBUTE_LENGTH;
@@ -53,9 +50,23 @@ pub fn fault(h: &[u8]) -> u8
     0
 }
 
+// The number of the first of checks 4 and 8 that refuses the header at the front of h, or 0.
+pub fn header_fault(h: &[u8]) -> u8
+    requires { ⌜ headerSize Kind.Image ≤ length (now h) ⌝ }
+    ensures { λ r. ⌜ r ≡ first (headerChecks (now (h .entry))) ⌝ }
+{
+    if read_u16(h, VERSION) != 1 {
+        return refusal::VERSION;
+    }
+    if type_unknown(h) {
+        return refusal::DATA_TYPE;
+    }
+    0
+}
+
 // Whether the data type is not one of 1 to 8.
 fn type_unknown(h: &[u8]) -> bool
-    requires { ⌜ length (now h) ≡ fixedSize Image ⌝ }
+    requires { ⌜ headerSize Kind.Image ≤ length (now h) ⌝ }
     ensures { λ r. ⌜ r ≡ typeUnknown (now (h .entry)) ⌝ }
 {
     let data_type = read_u16(h, DATA_TYPE);
@@ -65,17 +76,21 @@ fn type_unknown(h: &[u8]) -> bool
     8 < data_type
 }
 
-// Whether the header's attribute length differs from the 8-byte one.
+// Whether the header's attribute length is neither 0 nor the 8-byte one.
 fn lengths_differ(h: &[u8]) -> bool
-    requires { ⌜ length (now h) ≡ fixedSize Image ⌝ }
+    requires { ⌜ length (now h) ≡ fixedSize Kind.Image ⌝ }
     ensures { λ r. ⌜ r ≡ lengthsDiffer (now (h .entry)) ⌝ }
 {
-    (read_u32(h, ATTRIBUTE_STRING_LEN) as u64) != attribute_length(h)
+    let number = read_u32(h, Kind::ATTRIBUTE_STRING_LEN) as u64;
+    if number == 0 {
+        return false;
+    }
+    number != attribute_length(h)
 }
 
 // The bytes of the attributes: the 8-byte length.
 pub fn attribute_length(h: &[u8]) -> u64
-    requires { ⌜ length (now h) ≡ fixedSize Image ⌝ }
+    requires { ⌜ length (now h) ≡ fixedSize Kind.Image ⌝ }
     ensures { λ r. ⌜ r ≡ attributeLength (now (h .entry)) ⌝ }
 {
     read_u64(h, ATTRIBUTE_LENGTH)
@@ -91,7 +106,7 @@ fn element_size(data_type: u16) -> u64
 
 // The number of pixels: four sizes of 16 bits each never pass 64 bits.
 fn pixel_count(h: &[u8]) -> u64
-    requires { ⌜ length (now h) ≡ fixedSize Image ⌝ }
+    requires { ⌜ headerSize Kind.Image ≤ length (now h) ⌝ }
     ensures { λ r. ⌜ r ≡ pixelCount (now (h .entry)) ⌝ }
 {
     let plane = product(read_u16(h, MATRIX_SIZE_X), read_u16(h, MATRIX_SIZE_Y));
@@ -99,20 +114,27 @@ fn pixel_count(h: &[u8]) -> u64
     plane * planes
 }
 
-// The bytes after the fixed part, attributes and pixels, where they are within the message limit,
-// and some number above it where they are not: the true one may pass 64 bits.
+// The bytes of the pixels, where they are within the message limit, and some number above it where
+// they are not: the true one may pass 64 bits.
+pub fn pixels_size(h: &[u8]) -> u64
+    requires { ⌜ headerSize Kind.Image ≤ length (now h) ⌝ }
+    ensures { λ r. ⌜ (capped r ≡ capped (pixelsSize (now (h .entry)))) × (r < 2 ^ 33) ⌝ }
+{
+    cap(pixel_count(h)) * element_size(read_u16(h, DATA_TYPE))
+}
+
+// The bytes after the fixed part, attributes and pixels, in the same way.
 pub fn body_size(h: &[u8]) -> usize
-    requires { ⌜ length (now h) ≡ fixedSize Image ⌝ }
+    requires { ⌜ length (now h) ≡ fixedSize Kind.Image ⌝ }
     ensures { λ r. ⌜ (capped r ≡ capped (bodySize (now (h .entry)))) × (r < 2 ^ 40) ⌝ }
 {
     let attributes = cap(attribute_length(h));
-    let pixels = cap(pixel_count(h)) * element_size(read_u16(h, DATA_TYPE));
-    (attributes + pixels) as usize
+    (attributes + pixels_size(h)) as usize
 }
 
 // The fixed part's own numbers.
 pub fn shape(h: &[u8]) -> ImageShape
-    requires { ⌜ length (now h) ≡ fixedSize Image ⌝ }
+    requires { ⌜ length (now h) ≡ fixedSize Kind.Image ⌝ }
     ensures { λ r. ⌜ imageNumbers r ≡ numbers (now (h .entry)) ⌝ }
 {
     ImageShape {

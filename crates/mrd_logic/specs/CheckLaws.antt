@@ -3,10 +3,13 @@
 use Prim.Native.Nat.{ℕ, zero, suc}
 use native.Mathlib.Nat.{suc-ne-zero}
 use mathlib.Core.Path.{_≡_, refl, sym, ap, _∙_}
-use mathlib.Core.Bool.{Bool, true, false, true≢false, false≢true}
+use mathlib.Core.Bool.{Bool, true, false, not, _&&_, true≢false, false≢true}
 use mathlib.Core.List.{List, [], _∷_, _++_, append-nil}
+use lib.Dec.{eqb}
 use Rattle.mrd_logic.specs.Every.{Every, every-split}
-use Rattle.mrd_logic.specs.Checks.{Check, _when_, first, unless, Passed, FirstFault}
+use borrow.Author.Tests.{eq-eqb}
+use Rattle.mrd_logic.specs.Choice.{pick, both}
+use Rattle.mrd_logic.specs.Checks.{Check, _when_, first, unless, without, Passed, FirstFault}
 
 -- whether no check has the number 0, which stands for 'no refusal'
 abbrev pub numbered : List Check → Bool
@@ -51,6 +54,41 @@ numbered-append [] ds n o = o
 numbered-append ((zero when b) ∷ cs) ds n o = n
 numbered-append ((suc f when b) ∷ cs) ds n o = numbered-append cs ds n o
 
+pub numbered-without : (n : ℕ) (cs : List Check) → numbered cs ≡ true → numbered (without n cs) ≡ true
+numbered-without n [] e = refl
+numbered-without n ((zero when b) ∷ cs) e = absurd (false≢true e)
+numbered-without n ((suc f when b) ∷ cs) e = by-test (eqb (suc f) n) (numbered-without n cs e)
+  where
+    by-test : (t : Bool) → numbered (without n cs) ≡ true → numbered (pick t (without n cs) ((suc f when b) ∷ without n cs)) ≡ true
+    by-test true later = later
+    by-test false later = later
+
+-- whether no check has the number n
+abbrev pub lacking : ℕ → List Check → Bool
+lacking n [] = true
+lacking n ((f when b) ∷ cs) = not (eqb f n) && lacking n cs
+
+pub lacking-without : (n : ℕ) (cs : List Check) → lacking n (without n cs) ≡ true
+lacking-without n [] = refl
+lacking-without n ((f when b) ∷ cs) = by-test (eqb f n) refl (lacking-without n cs)
+  where
+    by-test : (t : Bool) → eqb f n ≡ t → lacking n (without n cs) ≡ true → lacking n (pick t (without n cs) ((f when b) ∷ without n cs)) ≡ true
+    by-test true e later = later
+    by-test false e later = rw e later
+
+pub lacking-append : (n : ℕ) (cs ds : List Check) → lacking n cs ≡ true → lacking n ds ≡ true → lacking n (cs ++ ds) ≡ true
+lacking-append n [] ds a b = b
+lacking-append n ((f when t) ∷ cs) ds a b =
+    let tests = both (not (eqb f n)) (lacking n cs) a in
+    rw (tests .0) (lacking-append n cs ds (tests .1) b)
+
+-- so none of them refuses with it
+pub lacking-never : (n : ℕ) (cs : List Check) → lacking n cs ≡ true → first cs ≡ n → n ≡ 0
+lacking-never n [] a e = sym e
+lacking-never n ((f when true) ∷ cs) a e =
+    absurd (true≢false (sym (both (not (eqb f n)) (lacking n cs) a .0) ∙ ap not (eq-eqb f n e)))
+lacking-never n ((f when false) ∷ cs) a e = lacking-never n cs (both (not (eqb f n)) (lacking n cs) a .1) e
+
 -- a fault's number is not 0
 pub fault-not-zero : (cs : List Check) {f : ℕ} → numbered cs ≡ true → FirstFault f cs → f ≡ 0 → ⊥
 fault-not-zero cs {f} n r z =
@@ -62,6 +100,10 @@ pub first-stops : (cs ds : List Check) {f : ℕ} → first cs ≡ suc f → firs
 first-stops [] ds {f} e = absurd (suc-ne-zero f (sym e))
 first-stops ((g when true) ∷ cs) ds e = e
 first-stops ((g when false) ∷ cs) ds e = first-stops cs ds e
+
+pub first-decides : (cs ds : List Check) {f : ℕ} → first cs ≡ f → (f ≡ 0 → ⊥) → first (cs ++ ds) ≡ f
+first-decides cs ds {f = zero} e n = absurd (n refl)
+first-decides cs ds {f = suc f} e n = first-stops cs ds e
 
 -- and where all of them pass, the next do
 pub first-next : (cs ds : List Check) → numbered cs ≡ true → first cs ≡ 0 → first (cs ++ ds) ≡ first ds

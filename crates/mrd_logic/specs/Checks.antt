@@ -4,6 +4,8 @@ use Prim.Native.Nat.{ℕ, zero, suc}
 use mathlib.Core.Path.{_≡_}
 use mathlib.Core.Bool.{Bool, true, false}
 use mathlib.Core.List.{List, [], _∷_, _++_}
+use lib.Dec.{eqb}
+use Rattle.mrd_logic.specs.Choice.{pick}
 use Rattle.mrd_logic.specs.Every.{Every}
 
 infix 20 _when_
@@ -21,6 +23,11 @@ first ((n when false) ∷ cs) = first cs
 abbrev pub unless : {A : Type 0} → ℕ → (ℕ → A) → A → A
 unless zero refusal a = a
 unless (suc f) refusal a = refusal (suc f)
+
+-- the checks with another number than n
+abbrev pub without : ℕ → List Check → List Check
+without n [] = []
+without n ((f when b) ∷ cs) = pick (eqb f n) (without n cs) ((f when b) ∷ without n cs)
 
 -- a check that does not refuse
 abbrev pub Passed : Check → Type 0

@@ -1,4 +1,4 @@
 pub mod NormalOutput
-pub mod Filler
-pub mod Clearing
+pub mod MessageOf
+pub mod Putting
 pub mod NormalOutputLaws

@@ -1,9 +1,10 @@
 // The normal form of an accepted stream, written to the front of an output.
 //
 // No public function here has a `requires`: any bytes and any output get an answer. The stream is checked
-// first, and a refusal writes no byte. Then the stream is copied whole, and one walk over its messages makes
-// the filler after each configuration name zero. Assumes nothing.
-mod filler;
+// first, and a refusal writes no byte. Then a second walk copies each message and cleans it where it stands:
+// the filler after a configuration name is made zero, and an image's header gets its attributes' length.
+// Assumes nothing.
+mod messages;
 
 ghost use mathlib.Core.Path.{_≡_};
 ghost use Prim.Native.Nat.{ℕ};
@@ -40,7 +41,6 @@ fn write(s: &[u8], out: &mut [u8]) -> Written
     if out.len() < s.len() {
         return Written::Refused(refusal::OUTPUT_SHORT);
     }
-    let length = bytes::copy(s, out);
-    filler::clear_fillers(s, out);
-    Written::Length(length)
+    messages::put_messages(s, out);
+    Written::Length(s.len())
 }

@@ -4,10 +4,10 @@
 use Prim.Native.Nat.{ℕ, _+_, _-_, _≤_}
 use native.Mathlib.Nat.{zero-add, add-assoc, le-of-eq}
 use native.Mathlib.Omega.{arith}
-use mathlib.Core.Path.{_≡_, ap, _∙_}
+use mathlib.Core.Path.{_≡_, ap, ap₂, _∙_}
 use mathlib.Core.List.{List, [], _++_, append-assoc, append-nil}
 use lib.ListN.{length, take, drop, length-append, length-drop, drop-of-length-le}
-use lib.Seq.{length-take-le, take-all, drop-drop, take-at, drop-at}
+use lib.Seq.{length-take-le, take-append-le, take-take, take-all, drop-drop, take-at, drop-at}
 
 -- the output o with the bytes m in it from `at` on
 unfoldable pub stored : ℕ → List ℕ → List ℕ → List ℕ
@@ -27,6 +27,31 @@ unfolding stored
 length-stored at m o h =
     let before : length (take at o) ≡ at = length-take-le at o (omega arith) in
     simp (length-append, length-drop, before) (omega arith)
+
+-- what lies before the bytes that are stored stays, and so does what lies after them
+pub take-stored : (n at : ℕ) (m o : List ℕ) → n ≤ at → at ≤ length o → take n (stored at m o) ≡ take n o
+unfolding stored
+take-stored n at m o h fits =
+    let before : length (take at o) ≡ at = length-take-le at o fits in
+    let less : n ≤ length (take at o) = omega arith in
+    rw take-append-le (take-take n at o h)
+
+pub drop-stored : (n at : ℕ) (m o : List ℕ) → at + length m ≤ n → at ≤ length o → drop n (stored at m o) ≡ drop n o
+unfolding stored
+drop-stored n at m o h fits =
+    let end = at + length m in
+    let before : length (take at o) ≡ at = length-take-le at o fits in
+    let front : length (take at o ++ m) ≡ end = simp (length-append, before) in
+    let far : n ≡ end + (n - end) = omega arith in
+    rw (← append-assoc (take at o) m (drop end o), far, ← drop-drop (n - end) end, drop-at (take at o ++ m) (drop end o) end front)
+    (drop-drop (n - end) end o)
+
+-- bytes stored over as many others leave nothing of them
+pub stored-over : (at : ℕ) (m n o : List ℕ) → length n ≡ length m → at ≤ length o → stored at m (stored at n o) ≡ stored at m o
+unfolding stored
+stored-over at m n o e fits =
+    let same : at + length n ≤ at + length m = omega arith in
+    ap₂ (λ (a b : List ℕ). a ++ (m ++ b)) (take-stored at at n o (omega arith) fits) (drop-stored (at + length m) at n o same fits)
 
 -- bytes stored right after others are stored with them
 pub stored-next : (at : ℕ) (m n o : List ℕ) → at + length m ≤ length o → stored (at + length m) n (stored at m o) ≡ stored at (m ++ n) o

@@ -3,10 +3,11 @@
 ghost use mathlib.Core.Path.{_≡_};
 ghost use Prim.Native.Nat.{_+_, _-_, _≤_, _<_, _^_};
 ghost use mathlib.Core.List.{_++_};
-ghost use lib.ListN.{length, replicate};
+ghost use lib.ListN.{length, take, replicate};
 ghost use Rattle.mrd_numbers.specs.Little.{toBytes};
 ghost use Rattle.mrd_numbers.specs.Stored.{front};
 ghost use Rattle.mrd_format.specs.Kinds.{fixedSize, headerSize};
+ghost use Rattle.mrd_format.specs.Image.{layout, «attribute-string-len»};
 ghost use Rattle.mrd_format.specs.Parts.{contents};
 ghost use Rattle.mrd_format.specs.Content.{bytesAfterId};
 ghost use Rattle.mrd_put.specs.Room.{Roomy};
@@ -75,16 +76,20 @@ fn put_acquisition(header: &[u8], trajectory: &[u8], samples: &[u8], out: &mut [
     put_joined(trajectory, samples, &mut out[body..]);
 }
 
-// An image's header with the attributes' length after it, its attributes and its pixels.
+// An image's header with the attributes' length in its last four bytes, whatever was given there, and in
+// the eight after it; its attributes and its pixels.
 fn put_image(header: &[u8], attributes: &[u8], pixels: &[u8], out: &mut [u8])
-    requires { ⌜ (length (now header) ≡ headerSize Kind.Image) × (fixedSize Kind.Image + (length (now attributes) + length (now pixels)) ≤ length (now out)) ⌝ }
+    requires { ⌜ (length (now header) ≡ headerSize Kind.Image) × (length (now attributes) < 2 ^ 32) ×
+        (fixedSize Kind.Image + (length (now attributes) + length (now pixels)) ≤ length (now out)) ⌝ }
     ensures { λ _. ⌜ now (out .exit) ≡ front
-        ((now (header .entry) ++ toBytes 8 (length (now (attributes .entry)))) ++ (now (attributes .entry) ++ now (pixels .entry)))
+        (((take (layout «attribute-string-len» .offset) (now (header .entry)) ++ toBytes 4 (length (now (attributes .entry))))
+        ++ toBytes 8 (length (now (attributes .entry)))) ++ (now (attributes .entry) ++ now (pixels .entry)))
         (now (out .entry)) ⌝ }
 {
-    let end = header.len();
-    bytes::copy(header, &mut out[0..]);
-    put_u64(&mut out[end..], attributes.len() as u64);
+    let length = attributes.len();
+    bytes::copy(&header[0..Kind::ATTRIBUTE_STRING_LEN], &mut out[0..]);
+    put_u32(&mut out[Kind::ATTRIBUTE_STRING_LEN..], length as u32);
+    put_u64(&mut out[Kind::IMAGE_HEADER..], length as u64);
     put_joined(attributes, pixels, &mut out[Kind::IMAGE_FIXED..]);
 }
 

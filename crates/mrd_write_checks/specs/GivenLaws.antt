@@ -7,24 +7,28 @@ use mathlib.Core.Bool.{true, false, not}
 use mathlib.Core.List.{List, [], _∷_, _++_}
 use lib.Dec.{ltb}
 use lib.ListN.{length}
+use Rattle.mrd_numbers.specs.Little.{toBytes}
 use borrow.Author.Tests.{lt-ltb, le-ltb, eq-eqb, ne-eqb}
 use Rattle.mrd_format.specs.declared.kind.Kind.{Kind}
 use Rattle.mrd_format.specs.declared.kind.Kind.the-variants.{ConfigurationText, HeaderText, Close, Text, Acquisition, Image, Waveform}
 use Rattle.mrd_logic.specs.Answer.{answered, number}
 use Rattle.mrd_logic.specs.AnswerLaws.{answered-not-number}
-use Rattle.mrd_logic.specs.Checks.{Check, _when_, first, unless}
-use Rattle.mrd_logic.specs.CheckLaws.{numbered, numbered-append, first-next, unless-stops, unless-passed, unless-fault}
+use Rattle.mrd_logic.specs.Checks.{Check, _when_, first, unless, without}
+use Rattle.mrd_logic.specs.CheckLaws.{numbered, numbered-append, numbered-without, first-next, unless-stops, unless-passed, unless-fault}
 use Rattle.mrd_format.specs.OwnCheckLaws.{own-numbered}
 use Rattle.mrd_format.specs.Acquisition as acquisition
 use Rattle.mrd_format.specs.Image as image
 use Rattle.mrd_format.specs.Waveform as waveform
 use Rattle.mrd_format.specs.Kinds.{formOf, headerSize}
 use Rattle.mrd_format.specs.Parts as part
+use Rattle.mrd_format.specs.HeaderLaws.{whole-settled, acquisition-packed, waveform-packed}
+use Rattle.mrd_format.specs.Headers.{settled}
+use Rattle.mrd_format.specs.ImageLaws.{agree-checks, made-agrees}
 use Rattle.mrd_format.specs.Sizes.{capped}
 use Rattle.mrd_format.specs.Message.{limit, ownChecks, bodySize, sizeOf}
 use Rattle.mrd_write_checks.specs.declared.lengths.Lengths.{Lengths}
-use Rattle.mrd_write_checks.specs.Sized.{sizedAnswer, textSized, sizedBy}
-use Rattle.mrd_write_checks.specs.WriteChecks.{counts, givenFixed, givenOwnChecks, givenSize, partLengths, dueLengths, sameLengths, sizedChecks, givenChecks, judged}
+use Rattle.mrd_write_checks.specs.Sized.{sizedAnswer, textSized, sizedBy, imageSize}
+use Rattle.mrd_write_checks.specs.WriteChecks.{lengthIn, counts, givenFixed, givenOwnChecks, givenSize, partLengths, dueLengths, sameLengths, sizedChecks, givenChecks, judged}
 
 -- where a number is answered, no check refused
 pub unless-answered : (f z : ℕ) {y : ℕ} → unless f number (answered z) ≡ answered y → (f ≡ 0) × (z ≡ y)
@@ -42,7 +46,9 @@ unless-number cs ds y z e =
 -- no check has the number 0
 sized-numbered : (k : Kind) (h name : List ℕ) (n : Lengths) → numbered (sizedChecks k h name n) ≡ true
 unfolding sizedChecks givenOwnChecks
-sized-numbered k h name n = numbered-append (ownChecks k (givenFixed k h name n)) _ (own-numbered k (givenFixed k h name n)) refl
+sized-numbered k h name n =
+    let own = ownChecks k (givenFixed k h name n) in
+    numbered-append (without 9 own) _ (numbered-without 9 own (own-numbered k (givenFixed k h name n))) refl
 
 pub given-numbered : (k : Kind) (h name : List ℕ) (n : Lengths) → numbered (givenChecks k h name n) ≡ true
 unfolding givenChecks
@@ -86,22 +92,22 @@ pub text-sound : (z : ℕ) → z ≤ 268435450 → textSized z ≡ answered (6 +
 unfolding textSized
 text-sound z l = let within : 6 + z ≤ limit = omega arith in rw (le-ltb limit (6 + z) within)
 
--- a fixed part: one of checks 4 to 9 refuses, or check 10 decides
-module _ (k : Kind) (f : List ℕ) where
-  pub fixed-own : (x : ℕ) → first (ownChecks k f) ≡ x → (x ≡ 0 → ⊥) → sizedBy k f ≡ number x
+-- a message of y bytes with the own checks cs: one of them refuses, or check 10 decides
+module _ (cs : List Check) (y : ℕ) where
+  pub own-decides : (x : ℕ) → first cs ≡ x → (x ≡ 0 → ⊥) → sizedBy cs y ≡ number x
   unfolding sizedBy
-  fixed-own x e n = unless-stops (ownChecks k f) _ number (answered (sizeOf k f)) e n
+  own-decides x e n = unless-stops cs _ number (answered y) e n
 
-  module _ (own : first (ownChecks k f) ≡ 0) where
-    limited : sizedBy k f ≡ unless (first ((10 when ltb limit (sizeOf k f)) ∷ [])) number (answered (sizeOf k f))
+  module _ (counted : numbered cs ≡ true) (own : first cs ≡ 0) where
+    limited : sizedBy cs y ≡ unless (first ((10 when ltb limit y) ∷ [])) number (answered y)
     unfolding sizedBy
-    limited = rw (first-next (ownChecks k f) _ (own-numbered k f) own)
+    limited = rw (first-next cs _ counted own)
 
-    pub fixed-limit : (z : ℕ) → z ≡ capped (sizeOf k f) → limit < z → sizedBy k f ≡ number 10
-    fixed-limit z e h = let over : limit < sizeOf k f = omega arith in limited ∙ rw (lt-ltb _ _ over)
+    pub over-limit : (z : ℕ) → capped z ≡ capped y → limit < z → sizedBy cs y ≡ number 10
+    over-limit z e h = let over : limit < y = omega arith in limited ∙ rw (lt-ltb _ _ over)
 
-    pub fixed-whole : (z : ℕ) → z ≡ capped (sizeOf k f) → z ≤ limit → sizedBy k f ≡ answered z
-    fixed-whole z e h = let same : sizeOf k f ≡ z = omega arith in limited ∙ rw (same, le-ltb _ _ h)
+    pub within-limit : (z : ℕ) → capped z ≡ capped y → z ≤ limit → sizedBy cs y ≡ answered z
+    within-limit z e h = let same : y ≡ z = omega arith in limited ∙ rw (same, le-ltb _ _ h)
 
 -- what the kinds share: a message that goes by its text, by nothing, and by its fixed part, which has no name
 pub sized-text : (h name : List ℕ) (n : Lengths) →
@@ -117,16 +123,31 @@ pub sized-close : (h name : List ℕ) (n : Lengths) → sizedAnswer Close h name
 unfolding sizedAnswer sizedChecks givenOwnChecks ownChecks givenSize dueLengths
 sized-close h name n = refl
 
-pub sized-fixed : (k : Kind) (h name : List ℕ) (n : Lengths) → counts part.name (formOf k .fixedSegments) ≡ false →
-    givenSize k h n ≡ sizeOf k (givenFixed k h name n) → sizedAnswer k h name n ≡ sizedBy k (givenFixed k h name n)
+pub sized-fixed : (k : Kind) (h name : List ℕ) (n : Lengths) {cs : List Check} {z : ℕ} → counts part.name (formOf k .fixedSegments) ≡ false →
+    without 9 (ownChecks k (givenFixed k h name n)) ≡ cs → givenSize k h n ≡ z → sizedAnswer k h name n ≡ sizedBy cs z
 unfolding sizedAnswer sizedChecks givenOwnChecks sizedBy
-sized-fixed k h name n nameless size = rw (nameless, size)
+sized-fixed k h name n nameless own size = rw (nameless, own, size)
 
-pub sized-header : (h name : List ℕ) (n : Lengths) →
-    (sizedAnswer Acquisition h name n ≡ sizedBy Acquisition h) × ((sizedAnswer Waveform h name n ≡ sizedBy Waveform h) × Unit {0})
-unfolding givenFixed givenSize dueLengths sizeOf bodySize
-sized-header h name n =
-    (sized-fixed Acquisition h name n refl (omega arith), (sized-fixed Waveform h name n refl (omega arith), tt))
+pub sized-acquisition : (h name : List ℕ) (n : Lengths) → length h ≡ headerSize Acquisition →
+    sizedAnswer Acquisition h name n ≡ sizedBy (ownChecks Acquisition h) (sizeOf Acquisition h)
+unfolding givenFixed givenSize dueLengths sizeOf bodySize ownChecks acquisition.checks
+sized-acquisition h name n e =
+    let same = whole-settled (lengthIn n) 340 acquisition.cells h refl acquisition-packed e in
+    sized-fixed Acquisition h name n refl (ap acquisition.checks same) (omega arith)
+
+pub sized-waveform : (h name : List ℕ) (n : Lengths) → length h ≡ headerSize Waveform →
+    sizedAnswer Waveform h name n ≡ sizedBy (ownChecks Waveform h) (sizeOf Waveform h)
+unfolding givenFixed givenSize dueLengths sizeOf bodySize ownChecks waveform.checks
+sized-waveform h name n e =
+    let same = whole-settled (lengthIn n) 32 waveform.cells h refl waveform-packed e in
+    sized-fixed Waveform h name n refl (ap waveform.checks same) (omega arith)
+
+pub sized-image : (h name : List ℕ) (n : Lengths) → length h ≡ headerSize Image →
+    sizedAnswer Image h name n ≡ sizedBy (image.headerChecks h) (imageSize h (n .attributes))
+unfolding givenFixed givenSize dueLengths ownChecks image.checks image.headerChecks
+sized-image h name n e =
+    let x = toBytes 8 (n .attributes) in
+    sized-fixed Image h name n refl (agree-checks (settled (lengthIn n) image.cells h ++ x) h (made-agrees (lengthIn n) h x e)) (omega arith)
 
 -- the lengths that are due, by the size z of the message
 module _ (k : Kind) (h : List ℕ) (n : Lengths) {z : ℕ} (whole : z ≡ givenSize k h n) where

@@ -2,4 +2,3 @@ pub mod WriteChecks
 pub mod Sized
 pub mod GivenLaws
 pub mod NameLaws
-pub mod ImageLaws

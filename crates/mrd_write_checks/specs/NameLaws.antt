@@ -12,7 +12,7 @@ use borrow.Author.Tests.{lt-ltb, le-ltb, lt-leb, ltb-false}
 use Rattle.bytes.specs.Bytes.{indexOf, indexAfter}
 use Rattle.mrd_logic.specs.Answer.{answered, number}
 use Rattle.mrd_logic.specs.Choice.{neither}
-use Rattle.mrd_logic.specs.Checks.{Check, _when_, first, unless}
+use Rattle.mrd_logic.specs.Checks.{Check, _when_, first, unless, without}
 use Rattle.mrd_logic.specs.CheckLaws.{first-next}
 use Rattle.mrd_format.specs.declared.kind.Kind.the-variants.{ConfigurationName}
 use Rattle.mrd_format.specs.Segments.{nameLength}
@@ -74,10 +74,18 @@ name-passes h name n e =
     let short : length name < 1024 = omega (arith, name-bounds name e) in
     rw (name-ends h name n e, lt-leb 1024 (length name) short)
 
+-- check 9 is none of its checks
+name-own : (f : List ℕ) → without 9 (ownChecks ConfigurationName f) ≡ ownChecks ConfigurationName f
+unfolding ownChecks
+name-own f = refl
+
 -- and checks 4 to 10 go by the name alone
 pub sized-name : (h name : List ℕ) (n : Lengths) → sizedAnswer ConfigurationName h name n ≡ nameSized name
 unfolding sizedAnswer sizedChecks givenOwnChecks givenSize dueLengths nameSized
-sized-name h name n = ap (λ (f : ℕ). unless f number (answered 1026)) (by-test (nameUnfit name) refl)
+sized-name h name n =
+    ap (λ (cs : List Check). unless (first ((5 when nameUnfit name) ∷ (cs ++ ((10 when ltb limit 1026) ∷ [])))) number (answered 1026))
+    (name-own (givenFixed ConfigurationName h name n)) ∙
+    ap (λ (f : ℕ). unless f number (answered 1026)) (by-test (nameUnfit name) refl)
   where
     own : List Check
     own = ownChecks ConfigurationName (givenFixed ConfigurationName h name n)

@@ -14,7 +14,7 @@ use Rattle.mrd_format.specs.Parts.{Part, same, byPart, Contents, partLength, co
 use Rattle.mrd_format.specs.Segments.{Segment, fixed, counted, padded, sized, channels, reachSize, reachFrom}
 use Rattle.mrd_logic.specs.Choice.{pick}
 use Rattle.mrd_logic.specs.Lists.{equal}
-use Rattle.mrd_logic.specs.Checks.{Check, _when_, first, unless}
+use Rattle.mrd_logic.specs.Checks.{Check, _when_, first, unless, without}
 use Rattle.mrd_logic.specs.Answer.{Answer, answered, number}
 use Rattle.mrd_format.specs.Message.{limit, ownChecks}
 use Rattle.mrd_format.specs.Content.{fixedBy}
@@ -68,10 +68,11 @@ dueLengths k h n = lengthsBy (λ (p : Part). dueLength k h p (lengthIn n p))
 unfoldable pub givenFixed : Kind → (h name : List ℕ) → Lengths → List ℕ
 givenFixed k h name n = fixedBy k (lengthIn n) (contents h name [] [] [] [] [] [])
 
--- checks 4 to 9 'in number order where they apply': those of that fixed part, and beside them the writer's own of a name
+-- checks 4 to 8 'in number order where they apply': those of that fixed part, and beside them the writer's own of a name. The fixed part has the
+-- true length in an image's header: 'the writer disregards what the header holds there and gives no 9'
 unfoldable pub givenOwnChecks : Kind → (h name : List ℕ) → Lengths → List Check
 givenOwnChecks k h name n =
-    (5 when (counts part.name (formOf k .fixedSegments) && nameUnfit name)) ∷ ownChecks k (givenFixed k h name n)
+    (5 when (counts part.name (formOf k .fixedSegments) && nameUnfit name)) ∷ without 9 (ownChecks k (givenFixed k h name n))
 
 -- the parts after a fixed part, together
 abbrev pub bodyLength : Lengths → ℕ

@@ -1,18 +1,18 @@
 // What is given for one message, judged: check 3, checks 4 to 10 by what the kind has, and check 18
 // by the lengths that are then due.
 ghost use mathlib.Core.Path.{_≡_};
-ghost use mathlib.Core.List.{_++_};
 ghost use lib.ListN.{length};
-ghost use Rattle.mrd_numbers.specs.Little.{toBytes};
 ghost use Rattle.mrd_format.specs.Kinds.{fixedSize, headerSize};
+ghost use Rattle.mrd_format.specs.Message.{ownChecks, sizeOf};
+ghost use Rattle.mrd_format.specs.Image.{headerChecks};
 ghost use Rattle.mrd_write_checks.specs.WriteChecks.{judgedMeaning, givenSize, dueLengths, sameLengths, judged};
-ghost use Rattle.mrd_write_checks.specs.Sized.{sizedAnswer, sizedBy, nameSized, textSized};
+ghost use Rattle.mrd_write_checks.specs.Sized.{sizedAnswer, sizedBy, imageSize, nameSized, textSized};
 use crate::lengths::Lengths;
 use mrd_acquisition::trajectory_size;
 use mrd_format::Kind;
 use mrd_format::refusal;
 use mrd_format::size::MAX_MESSAGE_SIZE;
-use mrd_numbers::put_u64;
+use mrd_format::size::cap;
 
 pub enum ContentsJudged {
     // The size of the message, id included.
@@ -55,7 +55,7 @@ fn checked_size(kind: Kind, header: &[u8], name: &[u8], given: Lengths) -> Conte
         Kind::Close => ContentsJudged::Size(Kind::ID_SIZE),
         Kind::Text => checked_text(given.text),
         Kind::Acquisition => checked_fixed(Kind::Acquisition, header),
-        Kind::Image => checked_fixed(Kind::Image, &image_fixed(header, given.attributes)),
+        Kind::Image => checked_image(header, given.attributes),
         Kind::Waveform => checked_fixed(Kind::Waveform, header),
     }
 }
@@ -87,7 +87,7 @@ fn checked_text(text: usize) -> ContentsJudged
 // A message with the fixed part h.
 fn checked_fixed(kind: Kind, h: &[u8]) -> ContentsJudged
     requires { ⌜ length (now h) ≡ fixedSize kind ⌝ }
-    ensures { λ r. ⌜ judgedMeaning r ≡ sizedBy kind (now (h .entry)) ⌝ }
+    ensures { λ r. ⌜ judgedMeaning r ≡ sizedBy (ownChecks kind (now (h .entry))) (sizeOf kind (now (h .entry))) ⌝ }
 {
     let fault = mrd_message::fault(kind, h);
     if fault != 0 {
@@ -100,15 +100,22 @@ fn checked_fixed(kind: Kind, h: &[u8]) -> ContentsJudged
     ContentsJudged::Size(size)
 }
 
-// An image's fixed part: the header, and the attributes' length after it.
-fn image_fixed(header: &[u8], attributes: usize) -> [u8; Kind::IMAGE_FIXED]
+// An image with this header and so many bytes of attributes. What the header holds of their length is
+// not looked at.
+fn checked_image(header: &[u8], attributes: usize) -> ContentsJudged
     requires { ⌜ length (now header) ≡ headerSize Kind.Image ⌝ }
-    ensures { λ r. ⌜ r ≡ now (header .entry) ++ toBytes 8 attributes ⌝ }
+    ensures { λ r. ⌜ judgedMeaning r ≡ sizedBy (headerChecks (now (header .entry))) (imageSize (now (header .entry)) attributes) ⌝ }
 {
-    let mut fixed = [0u8; Kind::IMAGE_FIXED];
-    bytes::copy(header, &mut fixed);
-    put_u64(&mut fixed[Kind::IMAGE_HEADER..], attributes as u64);
-    fixed
+    let fault = mrd_image::header_fault(header);
+    if fault != 0 {
+        return ContentsJudged::Refused(fault);
+    }
+    let head = (Kind::ID_SIZE + Kind::IMAGE_FIXED) as u64;
+    let size = head + (cap(attributes as u64) + mrd_image::pixels_size(header));
+    if MAX_MESSAGE_SIZE < size {
+        return ContentsJudged::Refused(refusal::TOO_LARGE);
+    }
+    ContentsJudged::Size(size as usize)
 }
 
 // Whether the parts of a message of this size have the lengths that they must have: what the header says,

@@ -4,3 +4,4 @@ pub mod Written
 pub mod WriteLaws
 pub mod ReadBack
 pub mod OwnContents
+pub mod HeaderNumber

@@ -13,8 +13,8 @@ use lib.Seq.{take-take, take-all}
 use Rattle.bytes.specs.Bytes.{indexOf, indexAfter}
 use Rattle.mrd_numbers.specs.Little.{toBytes, Bytes}
 use Rattle.mrd_numbers.specs.ByteLaws.{bytes-take, bytes-drop, write-num}
-use Rattle.mrd_logic.specs.Every.{Every}
-use Rattle.mrd_logic.specs.Checks.{first, Passed}
+use Rattle.mrd_logic.specs.Every.{Every, every-split}
+use Rattle.mrd_logic.specs.Checks.{_when_, first, Passed}
 use Rattle.mrd_logic.specs.CheckLaws.{first-passed}
 use Rattle.mrd_format.specs.OwnCheckLaws.{own-numbered}
 use Rattle.mrd_format.specs.declared.kind.Kind.{Kind}
@@ -25,12 +25,15 @@ use Rattle.mrd_format.specs.Message.{limit, fixedPart, ownChecks, bodySize, siz
 use Rattle.mrd_format.specs.Content.{extentOf, contentsOf, normalOf, messageOf}
 use Rattle.mrd_format.specs.NormalLaws.{nameBytes, name-short}
 use Rattle.mrd_format.specs.Rewritten.{part-length, rewritten-normal}
+use Rattle.mrd_format.specs.Parts.{Part, partLength}
+use Rattle.mrd_format.specs.Headers.{settled}
+use Rattle.mrd_format.specs.HeaderLaws.{whole-settled, acquisition-packed, waveform-packed}
+use Rattle.mrd_format.specs.ImageLaws.{Agree, agree-checks, agree-pixels, agree-header, made-agrees}
 use Rattle.mrd_format.specs.Acquisition as acquisition
 use Rattle.mrd_format.specs.Image as image
 use Rattle.mrd_format.specs.Waveform as waveform
 use Rattle.mrd_write_checks.specs.WriteChecks.{nameUnfit, givenFixed, givenOwnChecks, givenSize, partLengths, lengthsOf, dueLengths}
 use Rattle.mrd_write_checks.specs.NameLaws.{name-passes}
-use Rattle.mrd_write_checks.specs.ImageLaws.{pixels-size}
 use Rattle.mrd_writer.specs.Sound.{Sound}
 
 -- bytes up to the first zero hold none
@@ -55,39 +58,27 @@ name-fit m whole short =
     let free : length (take n (drop 2 m)) ≤ indexOf 0 (take n (drop 2 m)) = rw same at (index-taken h) in
     rw (le-ltb 1023 (length (take n (drop 2 m))) long, le-ltb (indexOf 0 (take n (drop 2 m))) (length (take n (drop 2 m))) free)
 
--- an image, of its kind's size: a is its attributes' length, and f its fixed part
-module _ (m : List ℕ) (bytes : Bytes m) (a p : ℕ) (whole : 208 + (a + p) ≡ length m) (counted : a ≡ image.attributeLength (take 206 (drop 2 m)))
-    (pixels : p ≡ image.pixelsSize (take 206 (drop 2 m))) (small : length m ≤ limit) where
+-- an image, of its kind's size: a is its attributes' length, and p its pixels' size
+module _ (m : List ℕ) (a p : ℕ) (whole : 208 + (a + p) ≡ length m) where
   abbrev header : List ℕ
   header = take 198 (drop 2 m)
-
-  abbrev attributes : List ℕ
-  attributes = take a (drop 208 m)
 
   header-long : length header ≡ 198
   header-long = part-length m 2 198 (omega arith)
 
-  attributes-long : length attributes ≡ a
-  attributes-long = part-length m 208 a (omega arith)
+  -- the header alone agrees with the fixed part
+  header-agrees : Agree header (take 206 (drop 2 m))
+  header-agrees = rw (take-take 198 206 (drop 2 m) (omega arith)) at (agree-header (take 206 (drop 2 m)))
 
-  attributes-fit : length attributes < 256 ^ 8
-  attributes-fit = omega (arith, attributes-long)
+  pixels-due : p ≡ image.pixelsSize (take 206 (drop 2 m)) → length (take p (drop (208 + a) m)) ≡ image.pixelsSize header
+  pixels-due pixels =
+      part-length m (208 + a) p (omega arith) ∙ pixels ∙ sym (agree-pixels header (take 206 (drop 2 m)) header-agrees)
 
-  -- the length that is worked out is the one that it has
-  image-fixed : header ++ toBytes 8 (length attributes) ≡ take 206 (drop 2 m)
-  image-fixed =
-      let f = take 206 (drop 2 m) in
-      let long : length f ≡ 206 = part-length m 2 206 (omega arith) in
-      let front : header ≡ take 198 f = sym (take-take 198 206 (drop 2 m) (omega arith)) in
-      let count : toBytes 8 (length attributes) ≡ drop 198 f = ap (toBytes 8) (attributes-long ∙ counted) ∙
-      write-num 8 f 198 (bytes-take 206 (drop 2 m) (bytes-drop 2 m bytes)) (omega arith) ∙
-      take-all 8 (drop 198 f) (simp length-drop (omega arith)) in
-      ap₂ (λ (x y : List ℕ). x ++ y) front count ∙ take-append-drop 198 f
-
-  pixels-due : length (take p (drop (208 + a) m)) ≡ image.pixelsSize header
-  pixels-due =
-      part-length m (208 + a) p (omega arith) ∙ pixels ∙ ap image.pixelsSize (sym image-fixed) ∙
-      pixels-size header (length attributes) header-long attributes-fit
+  -- what is made of it passes the checks of its header
+  header-passes : (z : Part → ℕ) (x : List ℕ) → Every Passed (image.headerChecks (take 206 (drop 2 m))) →
+      Every Passed (image.headerChecks (settled z image.cells header ++ x))
+  header-passes z x passed =
+      rw (agree-checks _ header (made-agrees z header x header-long), agree-checks header (take 206 (drop 2 m)) header-agrees) passed
 
 -- a fixed part with no fault passes each of its checks
 passes : (k : Kind) (f : List ℕ) → first (ownChecks k f) ≡ 0 → Every Passed (ownChecks k f)
@@ -96,7 +87,7 @@ passes k f = first-passed (ownChecks k f) (own-numbered k f)
 -- what every well-formed message is made of passes every check
 own-sound : (k : Kind) (m : List ℕ) → Bytes m → first (ownChecks k (fixedPart k m)) ≡ 0 → sizeOf k (fixedPart k m) ≤ limit →
     sizeOf k (fixedPart k m) ≡ length m → Sound k (contentsOf k m)
-unfolding contentsOf extentOf fixedPart givenFixed givenOwnChecks givenSize dueLengths ownChecks sizeOf bodySize
+unfolding contentsOf extentOf fixedPart givenFixed givenOwnChecks givenSize dueLengths ownChecks acquisition.checks image.checks image.headerChecks waveform.checks sizeOf bodySize
 own-sound ConfigurationName m bytes sound small whole =
     let fit = name-fit m (sym whole) (name-short m sound) in
     let fixed = name-passes [] _ (lengthsOf (contentsOf ConfigurationName m)) fit in
@@ -110,13 +101,14 @@ own-sound Text m bytes sound small whole =
     record { header = refl; own = (refl, tt); small = omega (arith, part-length m 6 (textLength (take 4 (drop 2 m))) (le-of-eq whole)); lengths = refl }
 own-sound Acquisition m bytes sound small whole =
     let f = take 340 (drop 2 m) in
+    let long = part-length m 2 340 (omega (arith, whole)) in
     let t = acquisition.trajectorySize f in
     let z = acquisition.get acquisition.active-channels f * acquisition.channelSize f in
     let trajectory = part-length m 342 t (omega (arith, whole)) in
     let samples = part-length m (342 + t) z (omega (arith, whole)) in
     record {
-      header = part-length m 2 340 (omega (arith, whole));
-      own = (refl, passes Acquisition f sound);
+      header = long;
+      own = (refl, rw (whole-settled _ 340 acquisition.cells f refl acquisition-packed long) (passes Acquisition f sound));
       small = omega (arith, small);
       lengths = ap₂ (λ (j s : ℕ). partLengths 0 0 j s 0 0 0) trajectory samples;
     }
@@ -124,19 +116,20 @@ own-sound Image m bytes sound small whole =
     let f = take 206 (drop 2 m) in
     let a = image.attributeLength f in
     let p = image.pixelsSize f in
-    let within : length m ≤ limit = omega (arith, small, whole) in
-    let fixed = image-fixed m bytes a p whole refl refl within in
+    let passed = every-split Passed (image.headerChecks f) ((9 when image.lengthsDiffer f) ∷ []) (passes Image f sound) .0 in
+    let pixels = pixels-due m a p whole refl in
     record {
-      header = header-long m bytes a p whole refl refl within;
-      own = (refl, rw fixed (passes Image f sound));
-      small = omega (arith, whole, small, attributes-long m bytes a p whole refl refl within, pixels-due m bytes a p whole refl refl within, part-length m (208 + a) p (omega (arith, whole)));
-      lengths = ap (λ (n : ℕ). partLengths 0 0 0 0 (length (take a (drop 208 m))) n 0) (pixels-due m bytes a p whole refl refl within);
+      header = header-long m a p whole;
+      own = (refl, header-passes m a p whole (partLength (contentsOf Image m)) (toBytes 8 (length (take a (drop 208 m)))) passed);
+      small = omega (arith, whole, small, part-length m 208 a (omega (arith, whole)), pixels, part-length m (208 + a) p (omega (arith, whole)));
+      lengths = ap (λ (n : ℕ). partLengths 0 0 0 0 (length (take a (drop 208 m))) n 0) pixels;
     }
 own-sound Waveform m bytes sound small whole =
     let f = take 32 (drop 2 m) in
+    let long = part-length m 2 32 (omega (arith, whole)) in
     record {
-      header = part-length m 2 32 (omega (arith, whole));
-      own = (refl, passes Waveform f sound);
+      header = long;
+      own = (refl, rw (whole-settled _ 32 waveform.cells f refl waveform-packed long) (passes Waveform f sound));
       small = omega (arith, small);
       lengths = ap (λ (n : ℕ). partLengths 0 0 0 0 0 0 n) (part-length m 34 (waveform.bodySize f) (le-of-eq whole));
     }

@@ -1,6 +1,6 @@
 -- What is given passes every check but 14: what that says of its parts.
 -- Assumes nothing.
-use Prim.Native.Nat.{ℕ, _^_, _≤_, _<_}
+use Prim.Native.Nat.{ℕ, _≤_}
 use native.Mathlib.Omega.{arith}
 use mathlib.Core.Path.{_≡_, ap}
 use mathlib.Core.Bool.{true}
@@ -64,5 +64,5 @@ parts-small k c s = omega (arith, s .small, ap bodyLength (s .lengths))
 pub text-small : (k : Kind) (c : Contents) → Sound k c → length (c .parts .text) ≤ limit
 text-small k c s = omega (arith, parts-small k c s)
 
-pub attributes-small : (k : Kind) (c : Contents) → Sound k c → length (c .parts .attributes) < 256 ^ 8
+pub attributes-small : (k : Kind) (c : Contents) → Sound k c → length (c .parts .attributes) ≤ limit
 attributes-small k c s = omega (arith, parts-small k c s)

@@ -2,7 +2,8 @@
 -- Assumes nothing.
 use Prim.Native.Nat.{ℕ, _+_, _≤_, _<_}
 use native.Mathlib.Omega.{arith}
-use mathlib.Core.Path.{_≡_, sym, ap, _∙_}
+use mathlib.Core.Path.{_≡_, refl, sym, ap, _∙_}
+use mathlib.Core.Bool.{true}
 use mathlib.Core.List.{List, [], _∷_, _++_}
 use lib.Dec.{ltb}
 use lib.ListN.{length, drop}
@@ -10,14 +11,17 @@ use borrow.Author.Tests.{lt-ltb, le-ltb}
 use Rattle.mrd_numbers.specs.Little.{toBytes}
 use Rattle.mrd_numbers.specs.Stored.{stored, front, partFrom, returned, stored-next, stored-part}
 use Rattle.mrd_logic.specs.Answer.{Answer, answered, number}
-use Rattle.mrd_logic.specs.Checks.{Check, _when_, first, unless}
-use Rattle.mrd_logic.specs.CheckLaws.{first-next}
+use Rattle.mrd_logic.specs.AnswerLaws.{answered-not-number}
+use Rattle.mrd_logic.specs.Checks.{Check, _when_, first, unless, without}
+use Rattle.mrd_logic.specs.CheckLaws.{first-next, unless-fault, lacking, lacking-append, lacking-without, lacking-never}
 use Rattle.mrd_format.specs.declared.kind.Kind.{Kind}
+use Rattle.mrd_format.specs.declared.kind.Identified.{Identified}
 use Rattle.mrd_format.specs.declared.kind.Identified.the-variants.{Known, Unknown}
 use Rattle.mrd_format.specs.Kinds.{idOf, identified}
 use Rattle.mrd_format.specs.Parts.{Contents}
+use Rattle.mrd_format.specs.Message.{ownChecks}
 use Rattle.mrd_format.specs.Content.{bytesAfterId, messageOf}
-use Rattle.mrd_write_checks.specs.WriteChecks.{lengthsOf, judged}
+use Rattle.mrd_write_checks.specs.WriteChecks.{lengthsOf, givenFixed, givenOwnChecks, sizedChecks, givenChecks, judged}
 use Rattle.mrd_write_checks.specs.GivenLaws.{unless-number, given-numbered}
 use Rattle.mrd_put.specs.Room.{Ready}
 use Rattle.mrd_writer.specs.Write.{judgedContents, contentsSize, contentsChecks, writeChecks, answerAs, outputAs, writeAnswer, writeOutput}
@@ -86,3 +90,25 @@ pub write-unknown : (id : ℕ) (c : Contents) (at : ℕ) (o : List ℕ) → iden
     (number 2 ≡ writeAnswer id c at o) × (o ≡ writeOutput id c at o)
 unfolding writeAnswer writeOutput answerAs outputAs
 write-unknown id c at o e = (rw e, rw e)
+
+-- the writer gives no 9: no check of what is given has that number
+no-9 : (k : Kind) (c : Contents) (at : ℕ) (o : List ℕ) → lacking 9 (writeChecks k c at o) ≡ true
+unfolding writeChecks givenChecks sizedChecks givenOwnChecks
+no-9 k c at o =
+    let own = ownChecks k (givenFixed k (c .header) (c .parts .name) (lengthsOf c)) in
+    lacking-append 9 (contentsChecks k c) _
+    (lacking-append 9 (sizedChecks k (c .header) (c .parts .name) (lengthsOf c)) _ (lacking-append 9 (without 9 own) _ (lacking-without 9 own) refl) refl)
+    refl
+
+pub never-9 : (id : ℕ) (c : Contents) (at : ℕ) (o : List ℕ) → writeAnswer id c at o ≡ number 9 → ⊥
+unfolding writeAnswer answerAs
+never-9 id c at o e = by-id (identified id) e
+  where
+    by-id : (i : Identified) → answerAs i c at o ≡ number 9 → ⊥
+    by-id Unknown e = let z : _≡_ {A = ℕ} 2 9 = cc in omega arith
+    by-id (Known k) e =
+        let f = first (writeChecks k c at o) in
+        let p = unless-fault f number (answered (at + contentsSize k c)) answered-not-number e in
+        let nine : f ≡ 9 = cc (p .0) in
+        let none : _≡_ {A = ℕ} 9 0 = lacking-never 9 (writeChecks k c at o) (no-9 k c at o) nine in
+        omega arith

@@ -1,10 +1,11 @@
-//! The lines of document 01 that are not marked P, and the limits of 1,000,000 messages: on both readers, with
-//! the paper's answer.
+//! The lines of document 01 that are not marked P, both sides of check 9 as document 02 has it, and the limits of
+//! 1,000,000 messages: on both readers, with the paper's answer.
 
 use crate::answers;
 use crate::stream;
 use crate::tally::{Difference, Outcome, Tally};
 use cotterleaf::{Message, Stream};
+use second_reader::message::STATED_LENGTH;
 use second_reader::{self as second, Refusal, Refused};
 use streams::{huge_images, messages, too_many, Rng};
 
@@ -37,28 +38,33 @@ fn set_text(bytes: &mut [u8], length: usize) -> &[u8] {
     &bytes[..8 + length]
 }
 
+/// Both writers refuse the message with this number, into an output without room: 14 says that check 10 is passed.
+fn write_refused(tally: &Tally, line: &str, message: &Message, number: u32) -> Outcome {
+    let library = message.write(&mut [], 0).map_err(|refusal| refusal.number);
+    let library = library.map(|end| end as u64);
+    let parts = second::Parts {
+        text: message.text,
+        attributes: message.attributes,
+        ..second::Parts::default()
+    };
+    let second = second::write(message.id, message.header, &parts, &mut [], 0);
+    let question = || format!("{line} written, where the paper says {number}");
+    tally.same_value(question, library, second)?;
+    tally.same_value(question, library, Err(number))
+}
+
 fn longest_text(tally: &Tally) -> Outcome {
     let mut bytes = vec![0; LONGEST_TEXT + 1 + 8];
     let passes = set_text(&mut bytes, LONGEST_TEXT);
     paper(tally, "text of 268,435,450 bytes", passes, Ok(2))?;
-    // In an output without room the writer's 14 says that check 10 is passed.
-    let question = |length: usize| move || format!("text of {length} bytes written");
     for (length, number) in [(LONGEST_TEXT, 14), (LONGEST_TEXT + 1, 10)] {
-        let text = &bytes[..length];
         let message = Message {
             id: 5,
-            text,
+            text: &bytes[..length],
             ..Message::default()
         };
-        let library = message.write(&mut [], 0).map_err(|refusal| refusal.number);
-        let parts = second::Parts {
-            text,
-            ..second::Parts::default()
-        };
-        let second = second::write(5, &[], &parts, &mut [], 0).map_err(u64::from);
-        let library = library.map(|end| end as u64).map_err(u64::from);
-        tally.same_value(question(length), library, second)?;
-        tally.same_value(question(length), library, Err(number))?;
+        let line = format!("text of {length} bytes");
+        write_refused(tally, &line, &message, number)?;
     }
     let one_more = set_text(&mut bytes, LONGEST_TEXT + 1);
     paper(tally, "one more byte of text", one_more, refused(10, 0, 0))
@@ -74,6 +80,82 @@ fn largest_image(tally: &Tally, rng: &mut Rng) -> Outcome {
     let bytes = [vec![3, 0, 0, 0, 0, 0], image.bytes(), vec![4, 0]].concat();
     let line = "image with all four sizes 65,535 and type 8";
     paper(tally, line, &bytes, refused(10, 1, 6))
+}
+
+/// An image header of no pixels that says this number of its attributes.
+fn header_saying(stated: u64) -> Vec<u8> {
+    let mut image = streams::Message::empty(1022);
+    image.header = vec![0; 198];
+    image.set("version", 0, 1);
+    image.set("data_type", 0, 1);
+    image.set(STATED_LENGTH, 0, stated);
+    image.header
+}
+
+const U32_MAX: u64 = u32::MAX as u64;
+
+/// What a header says, the 8-byte length, and the number of refusal, 0 where there is none.
+const LENGTHS: [(u64, u64, u32); 18] = [
+    (3, 3, 0),
+    (0, 3, 0),
+    (2, 3, 9),
+    (4, 3, 9),
+    (1, 1, 0),
+    (0, 1, 0),
+    (0, 0, 0),
+    (1, 0, 9),
+    (U32_MAX, 0, 9),
+    (0, U32_MAX, 10),
+    (U32_MAX, U32_MAX, 10),
+    (0, U32_MAX + 1, 10),
+    (1, U32_MAX + 1, 9),
+    (0, U32_MAX + 6, 10),
+    (5, U32_MAX + 6, 9),
+    (1, U32_MAX + 6, 9),
+    (0, u64::MAX, 10),
+    (U32_MAX, u64::MAX, 9),
+];
+
+/// Both sides of check 9.
+fn attribute_lengths(tally: &Tally) -> Outcome {
+    for (stated, length, number) in LENGTHS {
+        let front = [&[3, 0, 0, 0, 0, 0, 0xFE, 3], &header_saying(stated)[..]].concat();
+        // Of the longer attributes none are there.
+        let attributes = b"abc".get(..length as usize).unwrap_or_default();
+        let bytes = [&front, &length.to_le_bytes()[..], attributes, &[4, 0]].concat();
+        let line = format!("{length} bytes of attributes of which the header says {stated}");
+        let answer = match number {
+            0 => Ok(3),
+            _ => refused(number, 1, 6),
+        };
+        paper(tally, &line, &bytes, answer)?;
+    }
+    Ok(())
+}
+
+/// The writer goes by the given attributes alone: never 9, and 10 also where their length has a small low word.
+fn longest_attributes(tally: &Tally) -> Outcome {
+    // No reader looks into them, so that their pages are never touched.
+    let attributes = vec![0; (1 << 32) + 5];
+    let lengths: [(usize, u32); 4] = [
+        (268_435_248, 14),
+        (268_435_249, 10),
+        (1 << 32, 10),
+        ((1 << 32) + 5, 10),
+    ];
+    for (length, number) in lengths {
+        for stated in [0, 5, length as u64, U32_MAX] {
+            let message = Message {
+                id: 1022,
+                header: &header_saying(stated),
+                attributes: &attributes[..length],
+                ..Message::default()
+            };
+            let line = format!("{length} bytes of attributes of which the header says {stated}");
+            write_refused(tally, &line, &message, number)?;
+        }
+    }
+    Ok(())
 }
 
 /// The checks of 1,000,000 messages, and every family of calls on both sides of the limit.
@@ -104,6 +186,8 @@ pub fn limits(tally: &mut Tally, rng: &mut Rng) -> Result<(), (Vec<u8>, Differen
     let without_bytes = |difference| (vec![], difference);
     longest_text(tally).map_err(without_bytes)?;
     largest_image(tally, rng).map_err(without_bytes)?;
+    attribute_lengths(tally).map_err(without_bytes)?;
+    longest_attributes(tally).map_err(without_bytes)?;
     most_messages(tally, rng).map_err(without_bytes)?;
     for bytes in huge_images(rng, 40_000) {
         stream::ask(tally, rng, &bytes).map_err(|difference| (bytes, difference))?;

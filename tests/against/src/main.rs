@@ -9,6 +9,7 @@
 mod answers;
 mod asked;
 mod at_cursor;
+mod attribute_length;
 mod limits;
 mod plain;
 mod scalars;

@@ -4,7 +4,7 @@
 use crate::asked::{Asked, GivenIndex};
 use crate::tally::{Family, Outcome, Tally};
 use crate::walk::{self, Read};
-use crate::{at_cursor, plain, written};
+use crate::{at_cursor, attribute_length, plain, written};
 use cotterleaf::Part;
 use second_reader::{Detail, Table, Type};
 use streams::{counters, field_offset, given_columns, given_files, record_number};
@@ -16,6 +16,10 @@ pub fn ask(tally: &mut Tally, rng: &mut Rng, bytes: &[u8]) -> Outcome {
     let read = Read::of(bytes);
     walk::walk(tally, rng, bytes, &read)?;
     each_family(tally, rng, bytes, &read)?;
+    match read.answer {
+        Ok(_) => attribute_length::either_number(tally, rng, bytes, &read.records)?,
+        Err(refusal) => attribute_length::note_refused(tally, bytes, refusal),
+    }
     walk::made_up_cursor(tally, rng, bytes, &read)?;
     let (view, field) = (drawn_view(rng, &read), drawn_field(rng, &read));
     at_cursor::asked_at(tally, bytes, &read, view, field)?;

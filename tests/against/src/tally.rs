@@ -97,7 +97,7 @@ const VIEWS: &[&str] = &[
 ];
 
 /// Everything but answers that a run must meet, by group.
-const GROUPS: [(&str, &[&str]); 13] = [
+const GROUPS: [(&str, &[&str]); 17] = [
     ("view shown", VIEWS),
     ("view where a walk stands", VIEWS),
     (
@@ -117,6 +117,28 @@ const GROUPS: [(&str, &[&str]); 13] = [
     (
         "mask, more channels active",
         &["not stated", "differs", "all ones"],
+    ),
+    (
+        "image header says",
+        &["0 with attributes", "their length", "0 without attributes"],
+    ),
+    (
+        "image header in a normal form",
+        &["0 made the length", "the length kept", "0 kept"],
+    ),
+    (
+        "image header given to the writer",
+        &["the length", "0 with attributes", "another number"],
+    ),
+    (
+        "attributes of 2^32 bytes or more",
+        &[
+            "10 with 0 in the header",
+            "10 with 0 as low word",
+            "10 with a size past 64 bits",
+            "9 with the low word",
+            "9 with another number",
+        ],
     ),
     ("element", &["whole", "signed", "float", "NaN"]),
     (

@@ -1,6 +1,7 @@
 //! The check and the walk: every step over a stream, the answer from each cursor on, and made-up cursors.
 
 use crate::answers::{self, Answer};
+use crate::attribute_length;
 use crate::tally::{Difference, Family, Outcome, Tally};
 use cotterleaf::{Cursor, Step, Stream};
 use second_reader::{self as second, Kind, Record, Refusal, Refused, MOST_MESSAGES};
@@ -109,6 +110,7 @@ pub fn walk(tally: &mut Tally, rng: &mut Rng, bytes: &[u8], read: &Read) -> Outc
         let next = same_step(tally, &stream, cursor, Met::Record(*record))?;
         cursor = next.expect("a record comes with the cursor after it");
         tally.note_kind(record.detail);
+        attribute_length::note(tally, bytes, record);
         if rng.one_in(4 + read.count() / 4) {
             same_rest(tally, &stream, cursor, answer)?;
         }

@@ -3,6 +3,7 @@
 use crate::answers;
 use crate::tally::{Family, Outcome, Tally};
 use cotterleaf::{Part, Stream};
+use second_reader::message::STATED_LENGTH;
 use second_reader::{self as second, Kind, Refused};
 use streams::{writer_input, writer_input_refused, Message, Rng, WriterInput, WRITER_REFUSALS};
 
@@ -46,12 +47,29 @@ pub fn message_written(tally: &mut Tally, rng: &mut Rng, number: u64) -> Outcome
     tally.same(Family::Write, question, answers::number(answer), expected)?;
     tally.same_buffer(question, &library, &second)?;
     match expected {
-        Ok(end) => read_back(tally, &message, &library[position as usize..end as usize]),
+        Ok(end) => {
+            note_stated_length(tally, &message);
+            read_back(tally, &message, &library[position as usize..end as usize])
+        }
         Err(_) => Ok(()),
     }
 }
 
-/// The written message between what the order asks for is accepted, and its views and header are what was given.
+/// Notes what a given image header says of the attributes that are written.
+fn note_stated_length(tally: &mut Tally, message: &Message) {
+    if message.kind() == Some(Kind::Image) {
+        let length = message.attributes.len() as u64;
+        let what = match message.get(STATED_LENGTH, 0) {
+            stated if stated == length => "the length",
+            0 => "0 with attributes",
+            _ => "another number",
+        };
+        tally.note("image header given to the writer", what);
+    }
+}
+
+/// The written message between what the order asks for is accepted, and its views and header are what was given, but
+/// for an image header's attribute length, which is the true one.
 fn read_back(tally: &Tally, message: &Message, written: &[u8]) -> Outcome {
     let kind = message.kind().expect("a written message has a kind");
     let front: &[u8] = if kind.is_data() {
@@ -67,7 +85,7 @@ fn read_back(tally: &Tally, message: &Message, written: &[u8]) -> Outcome {
     let question = |what: &str| format!("{what} read back of {message:?}");
     tally.same_value(|| question("count"), stream.check(), Ok(count))?;
     let header = &bytes[front.len() + 2..][..message.header.len()];
-    tally.same_buffer(|| question("header"), header, &message.header)?;
+    tally.same_buffer(|| question("header"), header, &message.header_written())?;
     let parts = [
         (Part::Name, &message.name),
         (Part::Text, &message.text),

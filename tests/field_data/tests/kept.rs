@@ -162,7 +162,8 @@ fn the_library_writes_the_same_bytes_again() {
     }
     assert_eq!(position, bytes.len());
     assert!(out == bytes);
-    // It has no configuration name, so that it is its own normal form.
+    // It has no configuration name, and its image headers say their attribute lengths, so that it is its own normal
+    // form.
     out.fill(0xAA);
     assert_eq!(stream.normal_form(&mut out), Ok(bytes.len()));
     assert!(out == bytes);

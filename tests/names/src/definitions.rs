@@ -405,12 +405,21 @@ pub fn own_checks(sources: &Sources, kind: &str) -> Vec<usize> {
         &format!("formOf {kind}"),
     );
     match form.ends_with(".form") {
-        true => checks_in(sources.text(&header_file(kind)), "\nchecks h =", "\n\n"),
+        true => header_checks(sources.text(&header_file(kind))),
         false => checks_in(
             sources.text("mrd_format/specs/Texts.antt"),
             &format!("\n{form} ="),
             "\n\n",
         ),
+    }
+}
+
+/// The checks of a header's file: those that its `checks` names, after those of the header alone where it has them.
+fn header_checks(text: &str) -> Vec<usize> {
+    let own = checks_in(text, "\nchecks h =", "\n\n");
+    match text.contains("\nchecks h = headerChecks h ++") {
+        true => [checks_in(text, "\nheaderChecks h =", "\n\n"), own].concat(),
+        false => own,
     }
 }
 

@@ -172,7 +172,7 @@ fn header(header: &Header) -> String {
         ]
     });
     table(&["offset", "type", "name"], rows.collect())
-        + &carried(&["layout", "header"], &header_file(&header.kind))
+        + &carried(&["layout", "cells"], &header_file(&header.kind))
 }
 
 fn counters(format: &Format) -> String {
@@ -213,7 +213,8 @@ fn flags(format: &Format) -> String {
 fn points(number: usize) -> &'static str {
     match number {
         13 => "record count, stream length",
-        1 | 11 | 12 | 19 => "the message: its record number, its first byte",
+        // 9 too: the writer does not give it.
+        1 | 9 | 11 | 12 | 19 => "the message: its record number, its first byte",
         2..=10 => "the message: its record number, its first byte; of the writer the number alone",
         _ => "the number alone",
     }

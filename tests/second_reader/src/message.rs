@@ -1,6 +1,6 @@
 //! One message: its own numbers, the lengths of its parts, and checks 3 to 11.
 
-use crate::headers::Table;
+use crate::headers::{Table, IMAGE};
 use crate::kinds::Kind;
 use crate::mask::{mask, Mask};
 use crate::numbers;
@@ -189,6 +189,24 @@ fn acquisition_fault(table: &Table, header: &[u8]) -> Option<u32> {
     None
 }
 
+/// The entry of an image header that one scanner family leaves at 0 (document 02, E1). The eight
+/// bytes after the header decide.
+pub const STATED_LENGTH: &str = "attribute_string_len";
+
+/// Check 9: the header's number is neither the length in the eight bytes nor 0.
+fn lengths_differ(header: &[u8], attribute_length: u64) -> bool {
+    let stated = IMAGE.whole(header, STATED_LENGTH, 0);
+    stated != 0 && stated != attribute_length
+}
+
+/// Puts the true attribute length into the header of an image message, given from its id on. It
+/// fits in four bytes, as a longer message is over the limit.
+pub fn put_stated_length(message: &mut [u8], attribute_length: u64) {
+    let entry = IMAGE.entry(STATED_LENGTH).expect("an entry of an image");
+    let at = 2 + entry.offset;
+    numbers::put(message, at, entry.element.size(), attribute_length);
+}
+
 /// The own numbers of a message that has a fixed header.
 pub fn header_detail(kind: Kind, header: &[u8], attribute_length: u64) -> Detail {
     let table = kind.table().expect("a kind with a fixed header");
@@ -274,8 +292,7 @@ fn fixed_detail(kind: Kind, fixed: &[u8]) -> Result<Detail, u32> {
                 return Err(number);
             }
             let attribute_length = numbers::read(fixed, kind.header_size(), 8);
-            let table = kind.table().expect("an image has a fixed header");
-            if attribute_length != table.whole(header, "attribute_string_len", 0) {
+            if lengths_differ(header, attribute_length) {
                 return Err(9);
             }
             Ok(header_detail(kind, header, attribute_length))

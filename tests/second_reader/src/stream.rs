@@ -2,7 +2,7 @@
 
 use crate::headers::{read_element, Field};
 use crate::kinds::Kind;
-use crate::message::{judge, Detail, PartName};
+use crate::message::{judge, Detail, PartName, STATED_LENGTH};
 use crate::numbers;
 use crate::refusal::Refusal;
 use crate::MOST_MESSAGES;
@@ -115,7 +115,8 @@ fn next(number: u64, left: &[u8], seen: Seen) -> Result<Detail, u32> {
 #[derive(Clone, Debug, PartialEq, Eq)]
 pub struct Content {
     pub kind: Kind,
-    /// Every element of the fixed header, in the table's order.
+    /// Every element of the fixed header, in the table's order. An image's attribute length is
+    /// none of them (document 02, E1): the attributes themselves have it.
     pub fields: Vec<Field>,
     pub parts: Vec<(PartName, Vec<u8>)>,
 }
@@ -134,8 +135,11 @@ fn content(stream: &[u8], record: &Record) -> Content {
     let kind = record.detail.kind();
     let mut fields = Vec::new();
     if let Some(table) = kind.table() {
+        let left_out = table.entry(STATED_LENGTH).map(|entry| entry.offset);
         for (offset, element) in table.elements() {
-            fields.push(read_element(&message[2..], offset, element));
+            if Some(offset) != left_out {
+                fields.push(read_element(&message[2..], offset, element));
+            }
         }
     }
     let mut parts = Vec::new();

@@ -1,7 +1,8 @@
 //! The writer of one message. It judges one message, not the order of several.
 
 use crate::kinds::Kind;
-use crate::message::{header_detail, header_fault, text_detail, Detail, PartName};
+use crate::message::{header_detail, header_fault, text_detail};
+use crate::message::{put_stated_length, Detail, PartName};
 use crate::numbers;
 use crate::{LARGEST_MESSAGE, NAME_FIELD};
 
@@ -32,7 +33,8 @@ impl<'a> Parts<'a> {
 }
 
 /// Puts one message into `output` from `position` on and gives the position after it. Refusals
-/// are 2 to 10 in order, then 18, then 14; a refusal writes no byte.
+/// are 2 to 8 and 10 in order, then 18, then 14; a refusal writes no byte. There is no 9: what an
+/// image header holds as attribute length is not looked at, and the true one is put there.
 pub fn write(
     id: u16,
     header: &[u8],
@@ -57,7 +59,7 @@ pub fn write(
     Ok(end as u64)
 }
 
-/// Checks 3 to 9, and the message's own numbers: an image's attribute length and a text's length
+/// Checks 3 to 8, and the message's own numbers: an image's attribute length and a text's length
 /// are those of the given bytes.
 fn judge_given(kind: Kind, header: &[u8], parts: &Parts) -> Result<Detail, u32> {
     if header.len() != kind.header_size() {
@@ -79,15 +81,11 @@ fn judge_given(kind: Kind, header: &[u8], parts: &Parts) -> Result<Detail, u32> 
         Kind::ConfigurationText | Kind::HeaderText | Kind::Text => {
             Ok(text_detail(kind, parts.text.len() as u64))
         }
-        Kind::Image => {
-            let table = kind.table().expect("an image has a fixed header");
-            let given = parts.attributes.len() as u64;
-            if table.whole(header, "attribute_string_len", 0) != given {
-                return Err(9);
-            }
-            Ok(header_detail(kind, header, given))
+        Kind::Acquisition | Kind::Image | Kind::Waveform => {
+            // Of use to an image alone.
+            let attribute_length = parts.attributes.len() as u64;
+            Ok(header_detail(kind, header, attribute_length))
         }
-        Kind::Acquisition | Kind::Waveform => Ok(header_detail(kind, header, 0)),
     }
 }
 
@@ -108,12 +106,9 @@ fn message_bytes(detail: &Detail, header: &[u8], parts: &Parts) -> Vec<u8> {
         numbers::put(&mut message, 2, 4, parts.text.len() as u64);
     }
     if kind == Kind::Image {
-        numbers::put(
-            &mut message,
-            2 + header.len(),
-            8,
-            parts.attributes.len() as u64,
-        );
+        let length = parts.attributes.len() as u64;
+        put_stated_length(&mut message, length);
+        numbers::put(&mut message, 2 + header.len(), 8, length);
     }
     for name in PartName::ALL {
         if let Some((start, length)) = detail.part(name) {

@@ -151,6 +151,52 @@ fn check_9_compares_all_eight_bytes() {
 }
 
 #[test]
+fn check_9_takes_the_true_length_or_zero_in_the_header() {
+    let judged = |stated: u32, attributes: &[u8]| {
+        let header = image_header([2, 1, 1], 1, 1, stated);
+        number(&whole(&[&image(&header, attributes, &[7; 4])]))
+    };
+    assert_eq!(judged(5, b"attrs"), 0);
+    assert_eq!(judged(0, b"attrs"), 0);
+    for stated in [1, 4, 6, 5 << 8, 5 << 24, u32::MAX] {
+        assert_eq!(judged(stated, b"attrs"), 9, "{stated}");
+    }
+    // Without attributes the true length is 0 itself.
+    assert_eq!(judged(0, b""), 0);
+    for stated in [1, 2, 256, 1 << 31, u32::MAX] {
+        assert_eq!(judged(stated, b""), 9, "{stated}");
+    }
+    // Of the 32 numbers that one bit makes of 4, 0 alone passes.
+    assert_eq!(judged(4, b"attr"), 0);
+    for bit in 0..32 {
+        let expected = if bit == 2 { 0 } else { 9 };
+        assert_eq!(judged(4 ^ 1 << bit, b"attr"), expected, "bit {bit}");
+    }
+}
+
+#[test]
+fn check_9_takes_no_low_word_of_a_longer_length() {
+    let judged = |stated: u32, length: u64| {
+        let header = image_header([0; 3], 0, 1, stated);
+        number(&whole(&[&message(1022, &[&header, &length.to_le_bytes()])]))
+    };
+    let past = 1_u64 << 32;
+    // With 0 in the header the length decides, and is over the limit.
+    for length in [past, past + 5, past << 31, u64::MAX] {
+        assert_eq!(judged(0, length), 10, "{length}");
+    }
+    assert_eq!(judged(5, past + 5), 9);
+    assert_eq!(judged(1, past + 5), 9);
+    assert_eq!(judged(1, past), 9);
+    assert_eq!(judged(u32::MAX, past), 9);
+    assert_eq!(judged(u32::MAX, u64::MAX), 9);
+    // The longest that the header can state.
+    assert_eq!(judged(u32::MAX, past - 1), 10);
+    assert_eq!(judged(0, past - 1), 10);
+    assert_eq!(judged(u32::MAX - 1, past - 1), 9);
+}
+
+#[test]
 fn check_10_at_the_limit_of_each_kind_with_a_body() {
     let first_after =
         |header: Vec<u8>, id: u16, rest: &[u8]| number(&headed(&[&message(id, &[&header, rest])]));
@@ -180,6 +226,12 @@ fn check_10_at_the_limit_of_each_kind_with_a_body() {
         first_after(header, 1022, &u64::from(limit - 1).to_le_bytes()),
         10
     );
+    // The same where the header says 0.
+    for (length, expected) in [(limit, 11), (limit + 1, 10)] {
+        let length = u64::from(length).to_le_bytes();
+        let header = image_header([0; 3], 7, 8, 0);
+        assert_eq!(first_after(header, 1022, &length), expected);
+    }
 }
 
 #[test]
@@ -223,6 +275,7 @@ fn check_11_wants_every_byte_of_the_message() {
         text_message(5, b"text"),
         acquisition(&acquisition_header(2, 2, 1)),
         image(&image_header([2, 1, 1], 1, 1, 3), b"att", &[0; 4]),
+        image(&image_header([2, 1, 1], 1, 1, 0), b"att", &[0; 4]),
         waveform_message(&waveform_header(2, 1), &[0; 8]),
     ];
     for bytes in &messages {

@@ -203,6 +203,43 @@ fn fields_by_offset() {
 }
 
 #[test]
+fn an_image_header_that_says_0_is_shown_as_it_is_and_its_eight_bytes_decide() {
+    let stating = |stated: u32| {
+        let header = image_header([2, 1, 1], 1, 1, stated);
+        whole(&[
+            &image(&header, b"abc", &[5, 6, 7, 8]),
+            &text_message(5, b"t"),
+        ])
+    };
+    let none = GivenIndex::NONE;
+    for stated in [0, 3] {
+        let stream = stating(stated);
+        let record = kind_and_place(&stream, none, 1).unwrap();
+        let image = Detail::Image {
+            matrix_size: [2, 1, 1],
+            channels: 1,
+            data_type: 1,
+            attribute_length: 3,
+        };
+        assert_eq!(
+            (record.start, record.size, record.detail),
+            (6, 208 + 3 + 4, image)
+        );
+        assert_eq!(at(attributes(&stream, none, 1)), (0, 6 + 208, 3));
+        assert_eq!(at(pixels(&stream, none, 1)), (0, 6 + 211, 4));
+        assert_eq!(at(text(&stream, none, 2)), (0, 6 + 215 + 6, 1));
+        let stored = Field::Whole(u64::from(stated));
+        assert_eq!(field(&stream, none, 1, 194), Ok(stored));
+        assert_eq!(field(&stream, none, 1, 198), Err(Refused::Other(20)));
+        let listed = "0 3 0 6\n1 1022 6 215\n2 5 221 7\n3 4 228 2\n";
+        assert!(listing(&stream).contains(listed));
+    }
+    // Neither form of the index has that number.
+    assert_eq!(index_bytes(&stating(0)), index_bytes(&stating(3)));
+    assert_eq!(own_columns(&stating(0)), own_columns(&stating(3)));
+}
+
+#[test]
 fn flags_outside_1_to_64_change_nothing() {
     for n in [0, 65, 66, 128, u64::MAX] {
         assert!(!flag_is_set(u64::MAX, n));

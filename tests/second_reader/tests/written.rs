@@ -103,7 +103,7 @@ fn refusal_5() {
 }
 
 #[test]
-fn refusals_6_to_9() {
+fn refusals_6_to_8() {
     let none = Parts::default();
     let mut header = acquisition_header(0, 1, 0);
     put16(&mut header, 168, 1);
@@ -126,15 +126,51 @@ fn refusals_6_to_9() {
         written(1022, &image_header([0; 3], 0, 9, 1), &attributes),
         Err(8)
     );
-    assert_eq!(
-        written(1022, &image_header([0; 3], 0, 8, 1), &attributes),
-        Err(9)
-    );
-    assert_eq!(
-        written(1022, &image_header([65_535; 3], 9, 8, 3), &attributes),
-        Err(9)
-    );
     assert!(written(1022, &image_header([0; 3], 0, 8, 2), &attributes).is_ok());
+}
+
+/// What an image header may hold as attribute length, right or not.
+const STATED: [u32; 8] = [0, 1, 2, 3, 4, 256, 1 << 31, u32::MAX];
+
+#[test]
+fn the_writer_puts_the_true_attribute_length_and_never_gives_9() {
+    for stated in STATED {
+        for attributes in [&b""[..], b"abc"] {
+            let header = image_header([2, 1, 1], 1, 1, stated);
+            let parts = Parts {
+                attributes,
+                pixels: &[1, 2, 3, 4],
+                ..Parts::default()
+            };
+            let true_header = image_header([2, 1, 1], 1, 1, attributes.len() as u32);
+            let expected = image(&true_header, attributes, parts.pixels);
+            assert_eq!(written(1022, &header, &parts), Ok(expected.clone()));
+            assert_eq!(check(&whole(&[&expected])), Ok(3));
+        }
+    }
+}
+
+#[test]
+fn no_other_refusal_of_the_writer_looks_at_the_stated_length() {
+    let parts = Parts {
+        attributes: b"abc",
+        ..Parts::default()
+    };
+    let judged = |header: &[u8]| written(1022, header, &parts);
+    for stated in STATED {
+        let mut header = image_header([1; 3], 1, 9, stated);
+        assert_eq!(judged(&header[..197]), Err(3));
+        assert_eq!(judged(&header), Err(8));
+        put16(&mut header, 0, 2);
+        assert_eq!(judged(&header), Err(4));
+        let header = image_header([65_535; 3], 9, 8, stated);
+        assert_eq!(judged(&header), Err(10));
+        let header = image_header([1; 3], 1, 8, stated);
+        assert_eq!(judged(&header), Err(18));
+        let header = image_header([0; 3], 1, 8, stated);
+        let mut short = [0; 210];
+        assert_eq!(write(1022, &header, &parts, &mut short, 0), Err(14));
+    }
 }
 
 #[test]
@@ -184,19 +220,19 @@ fn refusal_10_comes_before_18_and_14() {
         };
         assert_eq!(write(id, &[], &parts, &mut nothing, 0), Err(14));
     }
+    // An image's by the given attributes, whatever the header says of them.
     let most = 268_435_456 - 208;
-    let header = image_header([0; 3], 0, 1, most + 1);
-    let parts = Parts {
-        attributes: &long[..most as usize + 1],
-        ..none
-    };
-    assert_eq!(write(1022, &header, &parts, &mut nothing, 0), Err(10));
-    let header = image_header([0; 3], 0, 1, most);
-    let parts = Parts {
-        attributes: &long[..most as usize],
-        ..none
-    };
-    assert_eq!(write(1022, &header, &parts, &mut nothing, 0), Err(14));
+    for stated in [0, 7, most, most + 1] {
+        let header = image_header([0; 3], 0, 1, stated);
+        for (length, expected) in [(most + 1, 10), (most, 14)] {
+            let parts = Parts {
+                attributes: &long[..length as usize],
+                ..none
+            };
+            let answer = write(1022, &header, &parts, &mut nothing, 0);
+            assert_eq!(answer, Err(expected));
+        }
+    }
 }
 
 #[test]
@@ -230,7 +266,9 @@ fn refusal_18_for_each_part_of_each_kind() {
             let expected = match (id, name) {
                 (1, PartName::Name) => Ok(name_message(byte, 0)),
                 (2 | 3 | 5, PartName::Text) => Ok(text_message(*id, byte)),
-                (1022, PartName::Attributes) => Err(9),
+                (1022, PartName::Attributes) => {
+                    Ok(image(&image_header([0; 3], 0, 1, 1), byte, &[]))
+                }
                 _ => Err(18),
             };
             assert_eq!(part(name), expected, "id {id} {name:?}");
@@ -273,8 +311,60 @@ fn refusal_14_by_output_and_position() {
     assert_eq!(at(12, u64::MAX - 5), Err(14));
 }
 
+fn normal(stream: &[u8]) -> Vec<u8> {
+    let mut output = vec![0xAA; stream.len()];
+    assert_eq!(normal_form(stream, &mut output), Ok(stream.len() as u64));
+    output
+}
+
 #[test]
-fn normal_form_cleans_names_and_nothing_else() {
+fn normal_form_puts_the_true_length_into_every_image_header() {
+    // Two images with attributes and one without, and what each header says of them.
+    let stating = |first: u32, last: u32| {
+        let header = |stated| image_header([1; 3], 1, 1, stated);
+        whole(&[
+            &image(&header(first), b"abc", &[1, 2]),
+            &text_message(5, b"between"),
+            &image(&header(0), b"", &[3, 4]),
+            &image(&header(last), &[b'x'; 300], &[5, 6]),
+        ])
+    };
+    let expected = stating(3, 300);
+    for (first, last) in [(0, 0), (0, 300), (3, 0), (3, 300)] {
+        let stream = stating(first, last);
+        // One meaning, one set of bytes, and that is its own normal form.
+        assert_eq!(contents(&stream), contents(&expected));
+        assert_eq!(normal(&stream), expected);
+    }
+    assert_eq!(normal(&expected), expected);
+    // The four bytes of the number and no others were changed.
+    let zero = stating(0, 0);
+    let changed: Vec<usize> = (0..zero.len())
+        .filter(|&i| zero[i] != expected[i])
+        .collect();
+    let second = 6 + 213 + 13 + 210;
+    assert_eq!(changed, [6 + 196, second + 196, second + 197]);
+}
+
+#[test]
+fn normal_form_cleans_a_name_and_the_images_after_it() {
+    let made = |filler: u8, stated: u32| {
+        let header = image_header([0; 3], 0, 1, stated);
+        [
+            name_message(b"radial", filler),
+            text_message(3, b"h"),
+            image(&header, b"ab", &[]),
+            close(),
+        ]
+        .concat()
+    };
+    for (filler, stated) in [(0, 0), (0x5A, 0), (0x5A, 2), (0, 2)] {
+        assert_eq!(normal(&made(filler, stated)), made(0, 2));
+    }
+}
+
+#[test]
+fn normal_form_cleans_names_of_any_length() {
     let rest = [text_message(3, b"\0\x01"), close()].concat();
     for length in [0, 1, 500, 1_022, 1_023] {
         let name = vec![b'n'; length];
@@ -320,6 +410,22 @@ fn records_differ_by_kind_and_by_every_part() {
     let as_configuration = [text_message(2, b"same"), close()].concat();
     let as_text = [text_message(5, b"same"), close()].concat();
     assert_ne!(contents(&as_configuration), contents(&as_text));
+}
+
+#[test]
+fn records_of_images_differ_by_every_bit_but_those_of_the_stated_length() {
+    let of = |message: &[u8]| contents(&whole(&[message]));
+    let message = image(&image_header([1; 3], 1, 1, 4), b"attr", &[1, 2]);
+    let mine = of(&message);
+    assert!(mine.is_ok());
+    let same = |bit: &usize| {
+        let mut other = message.clone();
+        other[bit / 8] ^= 1 << (bit % 8);
+        of(&other) == mine
+    };
+    // Bit 2 of that number makes 0 of 4; any other change of it is refused.
+    let equal: Vec<usize> = (16..8 * message.len()).filter(same).collect();
+    assert_eq!(equal, [8 * 196 + 2]);
 }
 
 fn indexed() -> Vec<u8> {

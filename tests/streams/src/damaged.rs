@@ -2,8 +2,10 @@
 
 use crate::messages::{self, message, Message};
 use crate::rng::Rng;
+use crate::stated;
 use crate::well_formed::{joined, opening, well_formed};
 use crate::SHORT_REFUSALS;
+use second_reader::message::STATED_LENGTH;
 use second_reader::{numbers, Kind};
 
 const DATA: [Kind; 3] = [Kind::Acquisition, Kind::Image, Kind::Waveform];
@@ -50,7 +52,7 @@ pub fn refused_with(rng: &mut Rng, number: u32) -> Vec<u8> {
         6 => wrong_channels(rng),
         7 => wrong_discards(rng),
         8 => wrong_data_type(rng),
-        9 => different_attribute_lengths(rng),
+        9 => wrong_stated_length(rng),
         10 => too_large(rng, headed),
         11 => {
             stream.extend(short_body(rng, headed));
@@ -161,29 +163,20 @@ fn wrong_data_type(rng: &mut Rng) -> Vec<u8> {
     message.set("data_type", 0, data_type);
     if rng.one_in(2) {
         let length = rng.number();
-        message.set("attribute_string_len", 0, length);
+        message.set(STATED_LENGTH, 0, length);
     }
     message.bytes()
 }
 
-/// The byte in an image message where its 8-byte attribute length starts.
-const LONG_LENGTH: usize = 2 + 198;
-
-fn different_attribute_lengths(rng: &mut Rng) -> Vec<u8> {
+/// An image whose header says neither its attribute length nor 0.
+fn wrong_stated_length(rng: &mut Rng) -> Vec<u8> {
     let mut message = messages::image(rng, 600);
     if rng.one_in(3) {
         set_image_sizes(&mut message, [65_535; 4], 8);
     }
-    let short = message.get("attribute_string_len", 0);
+    let (stated, length) = stated::refused(rng, message.attributes.len() as u64);
     let mut bytes = message.bytes();
-    let long = match rng.below(4) {
-        // The low four bytes agree.
-        0 => short | 1 << (32 + rng.below(32)),
-        1 => short + 1,
-        2 => short ^ 1 << rng.below(64),
-        _ => !short,
-    };
-    numbers::put(&mut bytes, LONG_LENGTH, 8, long);
+    stated::put(&mut bytes, stated, length);
     bytes
 }
 
@@ -202,13 +195,27 @@ fn claiming_text(rng: &mut Rng, kind: Kind, length: u64) -> Vec<u8> {
     bytes
 }
 
-/// An image whose two attribute lengths agree on `length`, of which few bytes are there.
-fn claiming_image(rng: &mut Rng, length: u64) -> Vec<u8> {
-    let mut message = messages::image(rng, 40);
-    message.set("attribute_string_len", 0, length);
+/// An image that claims attributes of `length` bytes and has few.
+fn claiming_image(rng: &mut Rng, message: &Message, length: u64) -> Vec<u8> {
+    let stated = stated::sound(rng, length);
     let mut bytes = message.bytes();
-    numbers::put(&mut bytes, LONG_LENGTH, 8, length);
+    stated::put(&mut bytes, stated, length);
     bytes
+}
+
+/// Attribute lengths that no message has: over the limit, of 33 bits or more, and such that the whole size passes
+/// 64 bits and would be small if it wrapped.
+fn too_long_attributes(rng: &mut Rng) -> u64 {
+    let wrapping = u64::MAX - rng.below(300);
+    rng.pick(&[
+        268_435_249,
+        268_435_456,
+        u64::from(u32::MAX),
+        1 << 32,
+        (1 << 32) + 5,
+        1 << 63,
+        wrapping,
+    ])
 }
 
 fn too_large(rng: &mut Rng, headed: bool) -> Vec<u8> {
@@ -231,25 +238,7 @@ fn too_large(rng: &mut Rng, headed: bool) -> Vec<u8> {
             message.set("discard_post", 0, 0);
             message.bytes()
         }
-        Kind::Image if rng.one_in(3) => {
-            let length = rng.pick(&[268_435_249, 268_435_456, u64::from(u32::MAX)]);
-            claiming_image(rng, length)
-        }
-        Kind::Image => {
-            let mut message = messages::image(rng, 40);
-            let (sizes, data_type) = rng.pick(&[
-                ([65_535; 4], 8),
-                ([65_535; 4], 1),
-                // 2^64, 2^33 and 2^32 bytes.
-                ([32_768; 4], 8),
-                ([256; 4], 1),
-                ([65_535, 65_535, 1, 1], 1),
-                ([1, 1, 32_768, 32_768], 3),
-                ([1, 65_535, 257, 1], 8),
-            ]);
-            set_image_sizes(&mut message, sizes, data_type);
-            message.bytes()
-        }
+        Kind::Image => too_large_image(rng),
         Kind::Waveform => {
             let mut message = messages::waveform(rng, 40);
             let (samples, channels) = rng.pick(&[
@@ -272,6 +261,26 @@ fn too_large(rng: &mut Rng, headed: bool) -> Vec<u8> {
             claiming_text(rng, kind, length)
         }
     }
+}
+
+fn too_large_image(rng: &mut Rng) -> Vec<u8> {
+    let mut message = messages::image(rng, 40);
+    if rng.one_in(2) {
+        let length = too_long_attributes(rng);
+        return claiming_image(rng, &message, length);
+    }
+    let (sizes, data_type) = rng.pick(&[
+        ([65_535; 4], 8),
+        ([65_535; 4], 1),
+        // 2^64, 2^33 and 2^32 bytes.
+        ([32_768; 4], 8),
+        ([256; 4], 1),
+        ([65_535, 65_535, 1, 1], 1),
+        ([1, 1, 32_768, 32_768], 3),
+        ([1, 65_535, 257, 1], 8),
+    ]);
+    set_image_sizes(&mut message, sizes, data_type);
+    message.bytes()
 }
 
 fn short_body(rng: &mut Rng, headed: bool) -> Vec<u8> {
@@ -302,12 +311,9 @@ fn short_body(rng: &mut Rng, headed: bool) -> Vec<u8> {
 fn claiming_image_within(rng: &mut Rng) -> Vec<u8> {
     let mut message = messages::image(rng, 40);
     set_image_sizes(&mut message, [0; 4], 8);
-    message.set("attribute_string_len", 0, 268_435_248);
     message.attributes.clear();
     message.pixels.clear();
-    let mut bytes = message.bytes();
-    numbers::put(&mut bytes, LONG_LENGTH, 8, 268_435_248);
-    bytes
+    claiming_image(rng, &message, 268_435_248)
 }
 
 fn broken_order(rng: &mut Rng) -> Vec<u8> {
@@ -353,23 +359,44 @@ pub fn too_many(close: bool) -> Vec<u8> {
     stream
 }
 
-/// Streams of one image whose pixels pass 64 bits and would be few if the product wrapped: to 0
-/// bytes, to at most `most` bytes that are all there, and to some more that are not.
+/// Streams of one image whose pixels or attributes pass 64 bits and would be few if the size wrapped: to 0 bytes, to
+/// at most `most` bytes that are all there, and to some more that are not.
 pub fn huge_images(rng: &mut Rng, most: u64) -> Vec<Vec<u8>> {
     let mut streams = Vec::new();
     let mut add = |rng: &mut Rng, sizes: [u64; 4], wrapped: u64| {
         let mut message = messages::image(rng, 40);
         set_image_sizes(&mut message, sizes, 8);
         message.pixels = rng.bytes(wrapped as usize);
-        let mut stream = joined(&opening(rng, true));
-        stream.extend(message.bytes());
-        stream.extend_from_slice(&[4, 0]);
-        streams.push(stream);
+        streams.push(with_image(rng, &message.bytes()));
     };
     add(rng, [32_768; 4], 0);
     for limit in [most, 1 << 24] {
         let (sizes, wrapped) = wrapping_sizes(rng, limit);
         add(rng, sizes, if wrapped <= most { wrapped } else { 0 });
+    }
+    streams.extend(wrapping_attributes(rng));
+    streams
+}
+
+fn with_image(rng: &mut Rng, image: &[u8]) -> Vec<u8> {
+    let mut stream = joined(&opening(rng, true));
+    stream.extend_from_slice(image);
+    stream.extend_from_slice(&[4, 0]);
+    stream
+}
+
+/// Images of 64 bytes of pixels whose attribute length, which no header can say, brings the whole size to just below
+/// 2^64, to it, and past it by an id, by an image's fixed part and by all but one byte of the message.
+fn wrapping_attributes(rng: &mut Rng) -> Vec<Vec<u8>> {
+    let mut message = messages::image(rng, 40);
+    set_image_sizes(&mut message, [2, 2, 1, 1], 8);
+    message.pixels = rng.bytes(64);
+    message.attributes.clear();
+    let whole = message.bytes().len() as u64;
+    let mut streams = Vec::new();
+    for past in [0, 1, 1 + 2, 1 + 208, whole] {
+        let claiming = claiming_image(rng, &message, u64::MAX - whole + past);
+        streams.push(with_image(rng, &claiming));
     }
     streams
 }
@@ -395,7 +422,7 @@ fn wrapping_sizes(rng: &mut Rng, most: u64) -> ([u64; 4], u64) {
 }
 
 /// The kinds of damage that `damaged` does.
-pub const DAMAGES: [&str; 13] = [
+pub const DAMAGES: [&str; 14] = [
     "truncated",
     "one byte flipped",
     "header field at a boundary",
@@ -409,6 +436,7 @@ pub const DAMAGES: [&str; 13] = [
     "one byte put in",
     "any bytes",
     "two damages",
+    "attribute lengths of an image",
 ];
 
 /// A well-formed stream with the damage of that number in `DAMAGES`. Some damage leaves a stream
@@ -429,16 +457,13 @@ pub fn damaged(rng: &mut Rng, damage: usize, limit: usize) -> Vec<u8> {
             messages.pop();
             joined(&messages)
         }
-        8 => {
-            let at = rng.below(messages.len() as u64) as usize;
+        4 | 8 | 13 => {
             let mut pieces: Vec<Vec<u8>> = messages.iter().map(Message::bytes).collect();
-            let id = unknown_id(rng);
-            pieces[at][..2].copy_from_slice(&id.to_le_bytes());
-            pieces.concat()
-        }
-        4 => {
-            let mut pieces: Vec<Vec<u8>> = messages.iter().map(Message::bytes).collect();
-            set_text_length(rng, &messages, &mut pieces);
+            match damage {
+                4 => set_text_length(rng, &messages, &mut pieces),
+                8 => set_unknown_id(rng, &mut pieces),
+                _ => set_attribute_lengths(rng, &messages, &mut pieces),
+            }
             pieces.concat()
         }
         12 => {
@@ -562,22 +587,34 @@ fn set_boundaries(rng: &mut Rng, messages: &mut [Message], count: u64) {
     }
 }
 
-/// Sets a text's length, or both lengths of an image's attributes, to a boundary value.
-fn set_text_length(rng: &mut Rng, messages: &[Message], pieces: &mut [Vec<u8>]) {
-    let with_length: Vec<usize> = (0..messages.len())
-        .filter(|&i| {
-            messages[i]
-                .kind()
-                .is_some_and(|kind| kind.is_text() || kind == Kind::Image)
-        })
+fn set_unknown_id(rng: &mut Rng, pieces: &mut [Vec<u8>]) {
+    let at = rng.below(pieces.len() as u64) as usize;
+    let id = unknown_id(rng);
+    pieces[at][..2].copy_from_slice(&id.to_le_bytes());
+}
+
+/// The place of one of the messages whose kind is asked for, if there is one.
+fn message_of(rng: &mut Rng, messages: &[Message], asked: fn(Kind) -> bool) -> Option<usize> {
+    let places: Vec<usize> = (0..messages.len())
+        .filter(|&i| messages[i].kind().is_some_and(asked))
         .collect();
-    if with_length.is_empty() {
+    (!places.is_empty()).then(|| rng.pick(&places))
+}
+
+/// Sets a text's length, or an image's attribute length, to a boundary value. The image's header mostly says the
+/// same, else what it said.
+fn set_text_length(rng: &mut Rng, messages: &[Message], pieces: &mut [Vec<u8>]) {
+    let with_length = |kind: Kind| kind.is_text() || kind == Kind::Image;
+    let Some(at) = message_of(rng, messages, with_length) else {
         return;
-    }
-    let at = rng.pick(&with_length);
-    let image = messages[at].kind() == Some(Kind::Image);
-    let place = if image { 2 + 194 } else { 2 };
-    let now = numbers::read(&pieces[at], place, 4);
+    };
+    let (message, bytes) = (&messages[at], &mut pieces[at]);
+    let image = message.kind() == Some(Kind::Image);
+    let part = if image {
+        &message.attributes
+    } else {
+        &message.text
+    };
     let length = match rng.below(3) {
         0 => rng.pick(&[
             268_435_247,
@@ -586,11 +623,23 @@ fn set_text_length(rng: &mut Rng, messages: &[Message], pieces: &mut [Vec<u8>]) 
             268_435_450,
             268_435_451,
         ]),
-        _ => boundary(rng, 4, now),
+        _ => boundary(rng, 4, part.len() as u64),
     };
-    numbers::put(&mut pieces[at], place, 4, length);
-    if image {
-        numbers::put(&mut pieces[at], LONG_LENGTH, 8, length);
+    if !image {
+        numbers::put(bytes, 2, 4, length);
+    } else if rng.one_in(4) {
+        let (stated, _) = stated::both(bytes);
+        stated::put(bytes, stated, length);
+    } else {
+        stated::put(bytes, length, length);
+    }
+}
+
+/// Sets both attribute lengths of an image.
+fn set_attribute_lengths(rng: &mut Rng, messages: &[Message], pieces: &mut [Vec<u8>]) {
+    if let Some(at) = message_of(rng, messages, |kind| kind == Kind::Image) {
+        let (stated, length) = stated::drawn(rng, messages[at].attributes.len() as u64);
+        stated::put(&mut pieces[at], stated, length);
     }
 }
 

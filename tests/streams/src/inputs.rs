@@ -3,6 +3,7 @@
 use crate::damaged::unknown_id;
 use crate::messages::{self, message, Message};
 use crate::rng::Rng;
+use second_reader::message::STATED_LENGTH;
 use second_reader::questions::counters_of;
 use second_reader::{index_bytes, own_columns, records, Kind, PartName};
 
@@ -14,8 +15,8 @@ pub struct WriterInput {
     pub position: u64,
 }
 
-/// The numbers a writer can refuse with.
-pub const WRITER_REFUSALS: [u32; 11] = [2, 3, 4, 5, 6, 7, 8, 9, 10, 14, 18];
+/// The numbers a writer can refuse with; 9 is none of them.
+pub const WRITER_REFUSALS: [u32; 10] = [2, 3, 4, 5, 6, 7, 8, 10, 14, 18];
 
 /// An output of random bytes that holds the message from the position on.
 fn with_room(rng: &mut Rng, message: Message) -> WriterInput {
@@ -29,10 +30,27 @@ fn with_room(rng: &mut Rng, message: Message) -> WriterInput {
     }
 }
 
+/// A message as a writer is given it: an image's header says anything of its attributes.
+fn given(rng: &mut Rng, kind: Kind, most: u64) -> Message {
+    let mut message = message(rng, kind, most);
+    if kind == Kind::Image {
+        let length = message.attributes.len() as u64;
+        let stated = match rng.below(6) {
+            0 | 1 => length,
+            2 => 0,
+            3 => length + 1,
+            4 => length ^ 1 << rng.below(32),
+            _ => rng.number(),
+        };
+        message.set(STATED_LENGTH, 0, stated);
+    }
+    message
+}
+
 /// Inputs that the writer accepts.
 pub fn writer_input(rng: &mut Rng) -> WriterInput {
     let kind = rng.pick(&Kind::ALL);
-    let message = message(rng, kind, 2_000);
+    let message = given(rng, kind, 2_000);
     with_room(rng, message)
 }
 
@@ -115,15 +133,15 @@ fn wrong_part(rng: &mut Rng, message: &mut Message) {
     }
 }
 
-/// A message whose header or name a writer refuses with this number, one of 4 to 10.
+/// A message whose header or name a writer refuses with this number, one of 4 to 8 and 10.
 fn refused_message(rng: &mut Rng, number: u32) -> Message {
     let mut message = match number {
         5 => messages::name(rng),
         6 | 7 => messages::acquisition(rng, 400),
-        8 | 9 => messages::image(rng, 400),
+        8 => given(rng, Kind::Image, 400),
         _ => {
             let kind = rng.pick(&[Kind::Acquisition, Kind::Image, Kind::Waveform]);
-            message(rng, kind, 400)
+            given(rng, kind, 400)
         }
     };
     match number {
@@ -150,11 +168,6 @@ fn refused_message(rng: &mut Rng, number: u32) -> Message {
         8 => {
             let data_type = rng.pick(&[0, 9, 256, 65_535]);
             message.set("data_type", 0, data_type);
-        }
-        9 => {
-            let length = message.get("attribute_string_len", 0);
-            let other = rng.pick(&[length + 1, length ^ 1 << 31, length ^ 1]);
-            message.set("attribute_string_len", 0, other);
         }
         _ => make_too_large(&mut message),
     }

@@ -7,6 +7,7 @@ pub mod messages;
 pub mod program;
 pub mod rng;
 pub mod sample;
+pub mod stated;
 pub mod well_formed;
 
 pub use damaged::{damaged, drawn, huge_images, refused_with, too_many, DAMAGES};

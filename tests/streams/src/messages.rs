@@ -1,6 +1,8 @@
 //! Messages to make streams of, before they become bytes.
 
 use crate::rng::Rng;
+use crate::stated;
+use second_reader::message::STATED_LENGTH;
 use second_reader::{numbers, Detail, Kind, Mask, PartName, Parts};
 
 /// One message with its parts apart. Its bytes follow from them without any check, so that
@@ -111,6 +113,16 @@ impl Message {
         assert!(i < entry.count);
         let width = entry.element.size();
         numbers::put(&mut self.header, entry.offset + i * width, width, number);
+    }
+
+    /// The header as a writer puts it: an image's says the length of the attributes, whatever it said.
+    pub fn header_written(&self) -> Vec<u8> {
+        let mut written = Message::empty(self.id);
+        written.header = self.header.clone();
+        if self.kind() == Some(Kind::Image) {
+            written.set(STATED_LENGTH, 0, self.attributes.len() as u64);
+        }
+        written.header
     }
 
     /// The `i`th element of a named header entry.
@@ -281,7 +293,8 @@ pub fn image(rng: &mut Rng, most: u64) -> Message {
     message.set("channels", 0, sizes[3]);
     let attributes = rng.size(most.min(600));
     message.attributes = rng.bytes(attributes as usize);
-    message.set("attribute_string_len", 0, attributes);
+    let stated = stated::sound(rng, attributes);
+    message.set(STATED_LENGTH, 0, stated);
     fill_parts(rng, &mut message);
     message
 }

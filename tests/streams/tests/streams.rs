@@ -27,6 +27,56 @@ fn well_formed_streams_are_accepted_with_the_records_they_were_made_of() {
 }
 
 #[test]
+fn image_headers_say_their_attribute_length_or_every_third_0() {
+    let mut rng = Rng::new(12);
+    let (mut zero, mut length, mut none) = (0, 0, 0);
+    for _ in 0..600 {
+        let stream = joined(&well_formed(&mut rng, 20_000));
+        for (image, attributes) in stated::images(&records(&stream).unwrap()) {
+            match (stated::of(&stream, &image), attributes) {
+                (0, 0) => none += 1,
+                (0, _) => zero += 1,
+                (stated, _) => {
+                    assert_eq!(stated, attributes);
+                    length += 1;
+                }
+            }
+        }
+    }
+    assert!(none > 100 && zero > 100, "{zero} {length} {none}");
+    assert!(length > zero && length < 3 * zero, "{zero} {length} {none}");
+}
+
+#[test]
+fn attributes_past_32_bits_are_10_with_0_in_the_header_and_9_with_their_low_word() {
+    let mut rng = Rng::new(13);
+    let mut met = [0; 4];
+    for round in 0..3_000 {
+        let stream = match round % 3 {
+            0 => refused_with(&mut rng, 9),
+            1 => refused_with(&mut rng, 10),
+            _ => damaged(&mut rng, DAMAGES.len() - 1, 3_000),
+        };
+        let Err(refusal) = check(&stream) else {
+            continue;
+        };
+        let faulty = &stream[refusal.byte as usize..];
+        if !matches!(refusal.number, 9 | 10) || faulty[..2] != 1022_u16.to_le_bytes() {
+            continue;
+        }
+        let (stated, length) = stated::both(faulty);
+        let past = length > u64::from(u32::MAX);
+        let low_word = stated == length & u64::from(u32::MAX);
+        met[match (refusal.number, stated, past) {
+            (10, 0, true) => usize::from(low_word),
+            (9, _, true) if low_word => 2,
+            _ => 3,
+        }] += 1;
+    }
+    assert!(met.iter().all(|&times| times > 20), "{met:?}");
+}
+
+#[test]
 fn faulty_streams_get_the_number_they_are_made_for() {
     let mut rng = Rng::new(2);
     for number in SHORT_REFUSALS {
@@ -145,32 +195,68 @@ fn equal_records_and_equal_normal_forms_go_together() {
 }
 
 #[test]
-fn writer_inputs_get_the_number_they_are_made_for() {
+fn equal_records_and_equal_normal_forms_whatever_image_headers_say_of_their_length() {
+    let mut rng = Rng::new(14);
+    let mut changed = 0;
+    for _ in 0..300 {
+        let stream = joined(&well_formed(&mut rng, 3_000));
+        let mut other = stream.clone();
+        for (image, length) in stated::images(&records(&stream).unwrap()) {
+            let stated = rng.pick(&[0, length]);
+            stated::set(&mut other, &image, stated);
+        }
+        let mut normal = vec![1; stream.len()];
+        let mut others = vec![2; stream.len()];
+        normal_form(&stream, &mut normal).unwrap();
+        normal_form(&other, &mut others).unwrap();
+        assert_eq!(normal, others);
+        assert_eq!(contents(&stream), contents(&other));
+        changed += usize::from(stream != other);
+    }
+    assert!(changed > 50, "{changed}");
+}
+
+/// The bytes that the writer puts for a message: no filler but zeros, and the true attribute length.
+fn as_written(message: &Message) -> Vec<u8> {
+    let mut written = message.clone();
+    written.header = message.header_written();
+    written.filler.fill(0);
+    written.bytes()
+}
+
+#[test]
+fn accepted_writer_inputs_are_written_whatever_an_image_header_says_of_its_length() {
     let mut rng = Rng::new(7);
-    for _ in 0..400 {
+    let (mut right, mut another) = (0, 0);
+    for _ in 0..600 {
         let input = writer_input(&mut rng);
+        let (given, position) = (&input.message, input.position as usize);
+        let message = as_written(given);
+        let end = position + message.len();
         let mut output = input.output.clone();
-        let message = input.message.bytes();
-        let end = input.position + message.len() as u64;
-        let WriterInput {
-            message: given,
-            position,
-            ..
-        } = &input;
         let answer = write(
             given.id,
             &given.header,
             &given.parts(),
             &mut output,
-            *position,
+            input.position,
         );
-        assert_eq!(answer, Ok(end));
-        assert_eq!(
-            output[..*position as usize],
-            input.output[..*position as usize]
-        );
-        assert_eq!(output[end as usize..], input.output[end as usize..]);
+        assert_eq!(answer, Ok(end as u64));
+        assert_eq!(output[..position], input.output[..position]);
+        assert_eq!(output[position..end], message);
+        assert_eq!(output[end..], input.output[end..]);
+        if given.kind() == Some(Kind::Image) {
+            let same = given.header == given.header_written();
+            right += usize::from(same);
+            another += usize::from(!same);
+        }
     }
+    assert!(right > 10 && another > 10, "{right} {another}");
+}
+
+#[test]
+fn refused_writer_inputs_get_the_number_they_are_made_for() {
+    let mut rng = Rng::new(15);
     for number in WRITER_REFUSALS {
         for _ in 0..150 {
             let input = writer_input_refused(&mut rng, number);

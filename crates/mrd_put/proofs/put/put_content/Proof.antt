@@ -13,7 +13,7 @@ use Rattle.mrd_format.specs.Parts.{Contents, contents}
 use Rattle.mrd_format.specs.Content.{fixedOf, bodyOf, bytesAfterId}
 use Rattle.mrd_format.proofs.kind.Kind.{the-type}
 use Rattle.mrd_format.proofs.Arms.{arm-same}
-use Rattle.mrd_put.specs.PutLaws.{content-name, name-room, text-room, acquisition-room, image-room, waveform-room}
+use Rattle.mrd_put.specs.PutLaws.{content-name, content-image, acquisition-made, waveform-made, name-room, text-room, acquisition-room, image-room, waveform-room}
 use Rattle.mrd_put.proofs.put.put_content.Statement.{statement}
 use Rattle.mrd_put.proofs.put.put_content.Tie as tie
 
@@ -67,16 +67,19 @@ unfolding bytesAfterId fixedOf bodyOf
 returns-3 c = rw (c .enum-told2 .given .1)
 
 returns-4 : tie.Need-returns-4
-unfolding bytesAfterId fixedOf bodyOf
-returns-4 c = rw (c .before .before .before .before .enum-told3 .given .1) (c .before .before .put-acquisition .ensures)
+returns-4 c =
+    let is = c .before .before .before .before .enum-told3 .given .1 in
+    let s = c .before .before .before .before .before .before .before .before .before .before .before .before .before .before .before in
+    rw (is, acquisition-made (s .args .kind) (given s) (now (s .args .out)) (s .pre .0) (s .pre .1) is) (c .before .before .put-acquisition .ensures)
 
 returns-5 : tie.Need-returns-5
-unfolding bytesAfterId fixedOf bodyOf
-returns-5 c = rw (c .before .before .before .before .enum-told4 .given .1) (c .before .before .put-image .ensures)
+returns-5 c = rw (c .before .before .before .before .enum-told4 .given .1, content-image) (c .before .before .put-image .ensures)
 
 returns-6 : tie.Need-returns-6
-unfolding bytesAfterId fixedOf bodyOf
-returns-6 c = rw (c .before .before .before .before .enum-told5 .given .1) (c .before .before .put-joined .ensures)
+returns-6 c =
+    let is = c .before .before .before .before .enum-told5 .given .1 in
+    let s = c .before .before .before .before .before .before .before .before .before .before .before .before .before .before .before in
+    rw (is, waveform-made (s .args .kind) (given s) (now (s .args .out)) (s .pre .0) (s .pre .1) is) (c .before .before .put-joined .ensures)
 
 pub put-content-spec : {M : Type 1} → statement M
 put-content-spec =

@@ -1,25 +1,21 @@
 -- `mrd_write_checks::contents::checked_size` meets its contract: each kind goes by its name, its text, nothing, or its fixed part.
 -- Assumes nothing.
-use native.Mathlib.Omega.{arith}
-use mathlib.Core.Path.{sym, ap, _∙_}
+use mathlib.Core.Path.{sym, _∙_}
 use denote.Ref.{now}
 use borrow.Author.Needs.{needs}
-use Rattle.mrd_format.specs.declared.kind.Kind.the-variants.{Image}
-use Rattle.mrd_write_checks.specs.Sized.{sizedBy}
-use Rattle.mrd_write_checks.specs.GivenLaws.{sized-text, sized-close, sized-header}
+use Rattle.mrd_write_checks.specs.GivenLaws.{sized-text, sized-close, sized-acquisition, sized-image, sized-waveform}
 use Rattle.mrd_write_checks.specs.NameLaws.{sized-name}
-use Rattle.mrd_write_checks.specs.ImageLaws.{image-sized}
 use Rattle.mrd_write_checks.proofs.contents.checked_size.Statement.{statement}
 use Rattle.mrd_write_checks.proofs.contents.checked_size.Tie as tie
 
 checked-fixed-requires : tie.Need-checked-fixed-requires
 checked-fixed-requires c κs = rw (c .enum-told6 .given .1) at (c .before .before .before .before .pre)
 
-image-fixed-requires : tie.Need-image-fixed-requires
-image-fixed-requires c κs = rw (c .enum-told7 .given .1) at (c .before .before .before .before .pre)
+checked-image-requires : tie.Need-checked-image-requires
+checked-image-requires c κs = rw (c .enum-told7 .given .1) at (c .before .before .before .before .pre)
 
-checked-fixed-requires-3 : tie.Need-checked-fixed-requires-3
-checked-fixed-requires-3 c κs = rw (c .enum-told8 .given .1) at (c .before .before .before .before .pre)
+checked-fixed-requires-2 : tie.Need-checked-fixed-requires-2
+checked-fixed-requires-2 c κs = rw (c .enum-told8 .given .1) at (c .before .before .before .before .pre)
 
 returns : tie.Need-returns
 returns c = rw (c .before .enum-told .given .1) (c .checked-name .ensures ∙ sym (sized-name _ _ _))
@@ -37,19 +33,25 @@ returns-5 : tie.Need-returns-5
 returns-5 c = rw (c .before .enum-told5 .given .1) (c .checked-text3 .ensures ∙ sym (sized-text _ _ _ .1 .1 .0))
 
 returns-6 : tie.Need-returns-6
-returns-6 c = rw (c .before .enum-told6 .given .1) (c .checked-fixed .ensures ∙ sym (sized-header _ _ _ .0))
+returns-6 c =
+    let a = c .before .before .before .before .before .args in
+    let is = c .before .enum-told6 .given .1 in
+    let long = rw is at (c .before .before .before .before .before .pre) in
+    rw is (c .checked-fixed .ensures ∙ sym (sized-acquisition (now (a .header)) (now (a .name)) (a .given) long))
 
 returns-7 : tie.Need-returns-7
 returns-7 c =
-    let a = c .before .before .before .before .before .before .before .args in
-    let is = c .before .before .before .enum-told7 .given .1 in
-    let long = rw is at (c .before .before .before .before .before .before .before .pre) in
-    rw is
-    (c .checked-fixed2 .ensures ∙ ap (sizedBy Image) (c .before .before .image-fixed .ensures) ∙
-    sym (image-sized (now (a .header)) (now (a .name)) (a .given) long (omega arith)))
+    let a = c .before .before .before .before .before .args in
+    let is = c .before .enum-told7 .given .1 in
+    let long = rw is at (c .before .before .before .before .before .pre) in
+    rw is (c .checked-image .ensures ∙ sym (sized-image (now (a .header)) (now (a .name)) (a .given) long))
 
 returns-8 : tie.Need-returns-8
-returns-8 c = rw (c .before .enum-told8 .given .1) (c .checked-fixed3 .ensures ∙ sym (sized-header _ _ _ .1 .0))
+returns-8 c =
+    let a = c .before .before .before .before .before .args in
+    let is = c .before .enum-told8 .given .1 in
+    let long = rw is at (c .before .before .before .before .before .pre) in
+    rw is (c .checked-fixed2 .ensures ∙ sym (sized-waveform (now (a .header)) (now (a .name)) (a .given) long))
 
 pub checked-size-spec : {M : Type 1} → statement M
 checked-size-spec =
@@ -67,11 +69,9 @@ checked-size-spec =
     (λ c. search needs)
     checked-fixed-requires
     (λ c. search needs)
-    image-fixed-requires
+    checked-image-requires
     (λ c. search needs)
-    (λ c κs. search needs)
-    (λ c. search needs)
-    checked-fixed-requires-3
+    checked-fixed-requires-2
     returns
     returns-2
     returns-3

@@ -2,19 +2,18 @@
 -- Assumes nothing.
 use Prim.Native.Nat.{ℕ, _+_, _≤_}
 use native.Mathlib.Omega.{arith}
-use mathlib.Core.Path.{_≡_, sym, ap, _∙_}
+use mathlib.Core.Path.{_≡_, sym, _∙_}
 use mathlib.Core.Logic.{_⊎_, inl, inr, ⊎-elim}
 use mathlib.Core.List.{List}
-use lib.ListN.{length, take, drop}
+use lib.ListN.{length, drop}
 use Rattle.mrd_numbers.specs.Little.{num}
 use Rattle.mrd_numbers.specs.Laws.{num-take, num-drop}
 use Rattle.mrd_numbers.specs.Stored.{stored}
 use Rattle.mrd_logic.specs.Answer.{accepted, answered}
 use Rattle.mrd_format.specs.declared.kind.Kind.the-variants.{Image}
 use Rattle.mrd_format.specs.Image.{attributeLength}
-use Rattle.mrd_format.specs.Message.{idAt, fixedPart, sizeOf, WellFormed}
+use Rattle.mrd_format.specs.Message.{fixedPart, sizeOf, WellFormed}
 use Rattle.mrd_format.specs.MessageLaws.{num-fixed, well-least}
-use Rattle.mrd_format.specs.Content.{recordOf, normalOf}
 use Rattle.mrd_format.specs.ImageLaws.{restated-long, restated-id, restated-size, restated-sound, restated-record, restated-normal}
 use Rattle.mrd_stream.specs.Walk.{answer}
 use Rattle.mrd_stream.specs.Normal.{normal}

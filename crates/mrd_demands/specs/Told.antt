@@ -4,11 +4,10 @@ use Prim.Native.Nat.{ℕ, _+_, _≤_}
 use native.Mathlib.Omega.{arith}
 use mathlib.Core.Path.{_≡_, ap, _∙_}
 use mathlib.Core.List.{List}
-use lib.ListN.{length, take, drop}
+use lib.ListN.{take, drop}
 use lib.Seq.{drop-drop}
 use Rattle.mrd_numbers.specs.Laws.{part-take}
 use Rattle.mrd_logic.specs.Answer.{answered}
-use Rattle.mrd_format.specs.declared.kind.Kind.{Kind}
 use Rattle.mrd_format.specs.Kinds.{fixedSize}
 use Rattle.mrd_format.specs.Message.{fixedPart, numbersOf}
 use Rattle.mrd_format.specs.MessageLaws.{well-least}

@@ -11,7 +11,7 @@ use borrow.Author.Tests.{eqb-true}
 use lib.Dec.{eqb}
 use lib.ListN.{length, take, drop, length-append, length-drop}
 use lib.Seq.{length-take-le, take-add, take-all, take-at, drop-at, drop-drop}
-use Rattle.mrd_numbers.specs.Little.{toBytes, num, Bytes}
+use Rattle.mrd_numbers.specs.Little.{toBytes, Bytes}
 use Rattle.mrd_numbers.specs.Laws.{num-take, num-drop, part-take}
 use Rattle.mrd_numbers.specs.ByteLaws.{write-num}
 use Rattle.mrd_numbers.specs.ToBytesLaws.{length-toBytes}

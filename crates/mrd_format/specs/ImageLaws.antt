@@ -1,7 +1,7 @@
 -- An image's message with other bytes in the place of its header's attribute length: it is the same record and has the same normal form; and its
 -- normal form is such a message.
 -- Assumes nothing.
-use Prim.Native.Nat.{ℕ, _+_, _*_, _^_, _≤_, _<_}
+use Prim.Native.Nat.{ℕ, _+_, _^_, _≤_, _<_}
 use native.Mathlib.Nat.{le-of-eq}
 use native.Mathlib.Omega.{arith}
 use mathlib.Core.Path.{_≡_, refl, sym, ap, _∙_}
@@ -11,7 +11,7 @@ use mathlib.Core.List.{List, [], _∷_, _++_, map, append-nil, append-assoc}
 use borrow.Author.Tests.{eq-eqb, ne-eqb}
 use lib.Dec.{eqb}
 use lib.ListN.{length, take, drop, length-drop}
-use lib.Seq.{length-take-le, take-take, take-add, take-all, drop-at, drop-drop}
+use lib.Seq.{length-take-le, take-take, take-add, take-all, drop-at}
 use Rattle.mrd_numbers.specs.Little.{toBytes, num}
 use Rattle.mrd_numbers.specs.Laws.{num-append, num-take, num-drop, part-take}
 use Rattle.mrd_numbers.specs.ToBytesLaws.{length-toBytes}
@@ -24,7 +24,7 @@ use Rattle.mrd_format.specs.declared.kind.Kind.the-variants.{Image}
 use Rattle.mrd_format.specs.Parts as part
 use Rattle.mrd_format.specs.Parts.{Part}
 use Rattle.mrd_format.specs.Segments.{counted}
-use Rattle.mrd_format.specs.Headers.{field, lengthOf, values, settled}
+use Rattle.mrd_format.specs.Headers.{field, lengthOf, settled}
 use Rattle.mrd_format.specs.HeaderLaws.{image-packed, SameFields, front-fields, values-same, settled-long, front-settled}
 use Rattle.mrd_format.specs.AdjoinLaws.{segments-joined}
 use Rattle.mrd_format.specs.Image.{Field, layout, get, fields, cells, attribute-string-len, attributeLength, lengthsDiffer, headerChecks, checks, pixelCount, pixelsSize, body}

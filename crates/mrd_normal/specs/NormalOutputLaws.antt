@@ -1,7 +1,7 @@
 -- What each way through the code answers and leaves in the output.
 -- Assumes nothing.
 use Prim.Native.Nat.{ℕ, _≤_}
-use mathlib.Core.Path.{_≡_, ap, _∙_}
+use mathlib.Core.Path.{_≡_, _∙_}
 use mathlib.Core.List.{List, _++_}
 use lib.ListN.{length, drop}
 use Rattle.mrd_logic.specs.Answer.{accepted, answered}

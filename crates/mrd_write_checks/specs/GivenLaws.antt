@@ -13,7 +13,7 @@ use Rattle.mrd_format.specs.declared.kind.Kind.{Kind}
 use Rattle.mrd_format.specs.declared.kind.Kind.the-variants.{ConfigurationText, HeaderText, Close, Text, Acquisition, Image, Waveform}
 use Rattle.mrd_logic.specs.Answer.{answered, number}
 use Rattle.mrd_logic.specs.AnswerLaws.{answered-not-number}
-use Rattle.mrd_logic.specs.Checks.{Check, _when_, first, unless, without}
+use Rattle.mrd_logic.specs.Checks.{Check, _when_, first, unless}
 use Rattle.mrd_logic.specs.CheckLaws.{numbered, numbered-append, numbered-without, first-next, unless-stops, unless-passed, unless-fault}
 use Rattle.mrd_format.specs.OwnCheckLaws.{own-numbered}
 use Rattle.mrd_format.specs.Acquisition as acquisition
@@ -28,7 +28,7 @@ use Rattle.mrd_format.specs.Sizes.{capped}
 use Rattle.mrd_format.specs.Message.{limit, ownChecks, bodySize, sizeOf}
 use Rattle.mrd_write_checks.specs.declared.lengths.Lengths.{Lengths}
 use Rattle.mrd_write_checks.specs.Sized.{sizedAnswer, textSized, sizedBy, imageSize}
-use Rattle.mrd_write_checks.specs.WriteChecks.{lengthIn, counts, givenFixed, givenOwnChecks, givenSize, partLengths, dueLengths, sameLengths, sizedChecks, givenChecks, judged}
+use Rattle.mrd_write_checks.specs.WriteChecks.{lengthIn, counts, givenFixed, ofWriter, givenOwnChecks, givenSize, partLengths, dueLengths, sameLengths, sizedChecks, givenChecks, judged}
 
 -- where a number is answered, no check refused
 pub unless-answered : (f z : ℕ) {y : ℕ} → unless f number (answered z) ≡ answered y → (f ≡ 0) × (z ≡ y)
@@ -48,7 +48,7 @@ sized-numbered : (k : Kind) (h name : List ℕ) (n : Lengths) → numbered (size
 unfolding sizedChecks givenOwnChecks
 sized-numbered k h name n =
     let own = ownChecks k (givenFixed k h name n) in
-    numbered-append (without 9 own) _ (numbered-without 9 own (own-numbered k (givenFixed k h name n))) refl
+    numbered-append (ofWriter own) _ (numbered-without _ own (own-numbered k (givenFixed k h name n))) refl
 
 pub given-numbered : (k : Kind) (h name : List ℕ) (n : Lengths) → numbered (givenChecks k h name n) ≡ true
 unfolding givenChecks
@@ -124,7 +124,7 @@ unfolding sizedAnswer sizedChecks givenOwnChecks ownChecks givenSize dueLengths
 sized-close h name n = refl
 
 pub sized-fixed : (k : Kind) (h name : List ℕ) (n : Lengths) {cs : List Check} {z : ℕ} → counts part.name (formOf k .fixedSegments) ≡ false →
-    without 9 (ownChecks k (givenFixed k h name n)) ≡ cs → givenSize k h n ≡ z → sizedAnswer k h name n ≡ sizedBy cs z
+    ofWriter (ownChecks k (givenFixed k h name n)) ≡ cs → givenSize k h n ≡ z → sizedAnswer k h name n ≡ sizedBy cs z
 unfolding sizedAnswer sizedChecks givenOwnChecks sizedBy
 sized-fixed k h name n nameless own size = rw (nameless, own, size)
 

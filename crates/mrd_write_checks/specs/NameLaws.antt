@@ -12,14 +12,14 @@ use borrow.Author.Tests.{lt-ltb, le-ltb, lt-leb, ltb-false}
 use Rattle.bytes.specs.Bytes.{indexOf, indexAfter}
 use Rattle.mrd_logic.specs.Answer.{answered, number}
 use Rattle.mrd_logic.specs.Choice.{neither}
-use Rattle.mrd_logic.specs.Checks.{Check, _when_, first, unless, without}
+use Rattle.mrd_logic.specs.Checks.{Check, _when_, first, unless}
 use Rattle.mrd_logic.specs.CheckLaws.{first-next}
 use Rattle.mrd_format.specs.declared.kind.Kind.the-variants.{ConfigurationName}
 use Rattle.mrd_format.specs.Segments.{nameLength}
 use Rattle.mrd_format.specs.Message.{limit, ownChecks}
 use Rattle.mrd_format.specs.OwnCheckLaws.{own-numbered}
 use Rattle.mrd_write_checks.specs.declared.lengths.Lengths.{Lengths}
-use Rattle.mrd_write_checks.specs.WriteChecks.{nameUnfit, dueLengths, givenFixed, givenOwnChecks, givenSize, sizedChecks}
+use Rattle.mrd_write_checks.specs.WriteChecks.{nameUnfit, dueLengths, givenFixed, ofWriter, givenOwnChecks, givenSize, sizedChecks}
 use Rattle.mrd_write_checks.specs.Sized.{sizedAnswer, nameSized}
 
 -- a name that is too long, one that holds a zero, and one that is sound
@@ -75,7 +75,7 @@ name-passes h name n e =
     rw (name-ends h name n e, lt-leb 1024 (length name) short)
 
 -- check 9 is none of its checks
-name-own : (f : List ℕ) → without 9 (ownChecks ConfigurationName f) ≡ ownChecks ConfigurationName f
+name-own : (f : List ℕ) → ofWriter (ownChecks ConfigurationName f) ≡ ownChecks ConfigurationName f
 unfolding ownChecks
 name-own f = refl
 

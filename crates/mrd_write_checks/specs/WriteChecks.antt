@@ -68,11 +68,15 @@ dueLengths k h n = lengthsBy (λ (p : Part). dueLength k h p (lengthIn n p))
 unfoldable pub givenFixed : Kind → (h name : List ℕ) → Lengths → List ℕ
 givenFixed k h name n = fixedBy k (lengthIn n) (contents h name [] [] [] [] [] [])
 
--- checks 4 to 8 'in number order where they apply': those of that fixed part, and beside them the writer's own of a name. The fixed part has the
--- true length in an image's header: 'the writer disregards what the header holds there and gives no 9'
+-- the checks of a fixed part that the writer makes: it 'gives no 9'
+abbrev pub ofWriter : List Check → List Check
+ofWriter cs = without 9 cs
+
+-- checks 4 to 8 'in number order where they apply': those of that fixed part, which has the true length in an image's header ('the writer disregards
+-- what the header holds there'), and beside them the writer's own of a name
 unfoldable pub givenOwnChecks : Kind → (h name : List ℕ) → Lengths → List Check
 givenOwnChecks k h name n =
-    (5 when (counts part.name (formOf k .fixedSegments) && nameUnfit name)) ∷ without 9 (ownChecks k (givenFixed k h name n))
+    (5 when (counts part.name (formOf k .fixedSegments) && nameUnfit name)) ∷ ofWriter (ownChecks k (givenFixed k h name n))
 
 -- the parts after a fixed part, together
 abbrev pub bodyLength : Lengths → ℕ

@@ -1,14 +1,12 @@
 -- What a given image header holds of its attributes' length is disregarded: headers that agree in the fields of the record get the same answer and
 -- leave the same output.
 -- Assumes nothing.
-use Prim.Native.Nat.{ℕ, _+_, _≤_}
-use native.Mathlib.Omega.{arith}
+use Prim.Native.Nat.{ℕ}
 use mathlib.Core.Path.{_≡_, refl, sym, ap, _∙_}
-use mathlib.Core.List.{List, _++_, map}
+use mathlib.Core.List.{List, map}
 use lib.ListN.{length, take}
 use Rattle.mrd_numbers.specs.Little.{num}
 use Rattle.mrd_numbers.specs.Laws.{num-take}
-use Rattle.mrd_logic.specs.Answer.{Answer}
 use Rattle.mrd_format.specs.declared.kind.Kind.the-variants.{Image}
 use Rattle.mrd_format.specs.declared.kind.Identified.the-variants.{Known}
 use Rattle.mrd_format.specs.Kinds.{identified}
@@ -18,8 +16,8 @@ use Rattle.mrd_format.specs.HeaderLaws.{front-fields, settled-same}
 use Rattle.mrd_format.specs.Image as image
 use Rattle.mrd_format.specs.ImageLaws.{Agree, agree-pixels}
 use Rattle.mrd_format.specs.Content.{fixedOf, bodyOf, bytesAfterId, messageOf}
-use Rattle.mrd_write_checks.specs.WriteChecks.{lengthsOf, givenFixed, givenOwnChecks, givenSize, dueLengths, sizedChecks, givenChecks}
-use Rattle.mrd_writer.specs.Write.{contentsSize, contentsChecks, writeChecks, answerAs, storedBy, outputAs, writeAnswer, writeOutput}
+use Rattle.mrd_write_checks.specs.WriteChecks.{givenFixed, givenOwnChecks, givenSize, dueLengths, sizedChecks, givenChecks}
+use Rattle.mrd_writer.specs.Write.{contentsSize, contentsChecks, writeChecks, answerAs, outputAs, writeAnswer, writeOutput}
 
 -- what is given: this header, and these parts
 abbrev pub given : List ℕ → Parts → Contents

@@ -1,6 +1,6 @@
 -- The other way: the header and the parts of a well-formed message, given to the writer, are not refused, and make that message's normal form.
 -- Assumes nothing.
-use Prim.Native.Nat.{ℕ, _+_, _*_, _^_, _≤_, _<_}
+use Prim.Native.Nat.{ℕ, _+_, _*_, _≤_, _<_}
 use native.Mathlib.Nat.{le-of-eq}
 use native.Mathlib.Omega.{arith}
 use mathlib.Core.Path.{_≡_, refl, sym, ap, ap₂, _∙_}
@@ -8,11 +8,10 @@ use mathlib.Core.Bool.{Bool, true, false}
 use mathlib.Core.List.{List, [], _∷_, _++_}
 use borrow.Author.Tests.{le-ltb}
 use lib.Dec.{eqb}
-use lib.ListN.{length, take, drop, length-drop, take-append-drop}
-use lib.Seq.{take-take, take-all}
+use lib.ListN.{length, take, drop}
+use lib.Seq.{take-take}
 use Rattle.bytes.specs.Bytes.{indexOf, indexAfter}
 use Rattle.mrd_numbers.specs.Little.{toBytes, Bytes}
-use Rattle.mrd_numbers.specs.ByteLaws.{bytes-take, bytes-drop, write-num}
 use Rattle.mrd_logic.specs.Every.{Every, every-split}
 use Rattle.mrd_logic.specs.Checks.{_when_, first, Passed}
 use Rattle.mrd_logic.specs.CheckLaws.{first-passed}
@@ -85,21 +84,21 @@ passes : (k : Kind) (f : List ℕ) → first (ownChecks k f) ≡ 0 → Every Pas
 passes k f = first-passed (ownChecks k f) (own-numbered k f)
 
 -- what every well-formed message is made of passes every check
-own-sound : (k : Kind) (m : List ℕ) → Bytes m → first (ownChecks k (fixedPart k m)) ≡ 0 → sizeOf k (fixedPart k m) ≤ limit →
+own-sound : (k : Kind) (m : List ℕ) → first (ownChecks k (fixedPart k m)) ≡ 0 → sizeOf k (fixedPart k m) ≤ limit →
     sizeOf k (fixedPart k m) ≡ length m → Sound k (contentsOf k m)
 unfolding contentsOf extentOf fixedPart givenFixed givenOwnChecks givenSize dueLengths ownChecks acquisition.checks image.checks image.headerChecks waveform.checks sizeOf bodySize
-own-sound ConfigurationName m bytes sound small whole =
+own-sound ConfigurationName m sound small whole =
     let fit = name-fit m (sym whole) (name-short m sound) in
     let fixed = name-passes [] _ (lengthsOf (contentsOf ConfigurationName m)) fit in
     record { header = refl; own = (fit, passes ConfigurationName _ fixed); small = omega arith; lengths = refl }
-own-sound ConfigurationText m bytes sound small whole =
+own-sound ConfigurationText m sound small whole =
     record { header = refl; own = (refl, tt); small = omega (arith, part-length m 6 (textLength (take 4 (drop 2 m))) (le-of-eq whole)); lengths = refl }
-own-sound HeaderText m bytes sound small whole =
+own-sound HeaderText m sound small whole =
     record { header = refl; own = (refl, tt); small = omega (arith, part-length m 6 (textLength (take 4 (drop 2 m))) (le-of-eq whole)); lengths = refl }
-own-sound Close m bytes sound small whole = record { header = refl; own = (refl, tt); small = small; lengths = refl }
-own-sound Text m bytes sound small whole =
+own-sound Close m sound small whole = record { header = refl; own = (refl, tt); small = small; lengths = refl }
+own-sound Text m sound small whole =
     record { header = refl; own = (refl, tt); small = omega (arith, part-length m 6 (textLength (take 4 (drop 2 m))) (le-of-eq whole)); lengths = refl }
-own-sound Acquisition m bytes sound small whole =
+own-sound Acquisition m sound small whole =
     let f = take 340 (drop 2 m) in
     let long = part-length m 2 340 (omega (arith, whole)) in
     let t = acquisition.trajectorySize f in
@@ -112,7 +111,7 @@ own-sound Acquisition m bytes sound small whole =
       small = omega (arith, small);
       lengths = ap₂ (λ (j s : ℕ). partLengths 0 0 j s 0 0 0) trajectory samples;
     }
-own-sound Image m bytes sound small whole =
+own-sound Image m sound small whole =
     let f = take 206 (drop 2 m) in
     let a = image.attributeLength f in
     let p = image.pixelsSize f in
@@ -124,7 +123,7 @@ own-sound Image m bytes sound small whole =
       small = omega (arith, whole, small, part-length m 208 a (omega (arith, whole)), pixels, part-length m (208 + a) p (omega (arith, whole)));
       lengths = ap (λ (n : ℕ). partLengths 0 0 0 0 (length (take a (drop 208 m))) n 0) pixels;
     }
-own-sound Waveform m bytes sound small whole =
+own-sound Waveform m sound small whole =
     let f = take 32 (drop 2 m) in
     let long = part-length m 2 32 (omega (arith, whole)) in
     record {
@@ -137,4 +136,4 @@ own-sound Waveform m bytes sound small whole =
 -- writing the header and the parts of a well-formed message is not refused, and gives its normal form
 pub own-contents : (m : List ℕ) (w : WellFormed m) → Bytes m →
     Sound (w .kind) (contentsOf (w .kind) m) × (messageOf (w .kind) (contentsOf (w .kind) m) ≡ normalOf (w .kind) m)
-own-contents m w bytes = (own-sound (w .kind) m bytes (w .sound) (w .small) (w .whole), rewritten-normal m bytes w)
+own-contents m w bytes = (own-sound (w .kind) m (w .sound) (w .small) (w .whole), rewritten-normal m bytes w)

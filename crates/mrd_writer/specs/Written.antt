@@ -11,7 +11,7 @@ use lib.ListN.{length}
 use Rattle.mrd_numbers.specs.Little.{toBytes, num}
 use Rattle.mrd_numbers.specs.HalfLaws.{read-after-write}
 use Rattle.mrd_logic.specs.Every.{Every}
-use Rattle.mrd_logic.specs.Checks.{first, without, Passed}
+use Rattle.mrd_logic.specs.Checks.{first, Passed}
 use Rattle.mrd_logic.specs.CheckLaws.{passed-first}
 use Rattle.mrd_format.specs.declared.kind.Kind.{Kind}
 use Rattle.mrd_format.specs.declared.kind.Kind.the-variants.{ConfigurationName, ConfigurationText, HeaderText, Close, Text, Acquisition, Image, Waveform}
@@ -30,7 +30,7 @@ use Rattle.mrd_format.specs.ImageLaws.{agree-pixels, made-agrees, made-number, 
 use Rattle.mrd_format.specs.Content.{segmentsOf, extentOf, partSize, settledBy, fixedOf, bytesAfterId, messageOf}
 use Rattle.mrd_format.specs.Made.{Holds, Fitting, made-length, fixed-length, made-fixed}
 use Rattle.mrd_write_checks.specs.declared.lengths.Lengths.{Lengths}
-use Rattle.mrd_write_checks.specs.WriteChecks.{givenFixed, givenOwnChecks, givenSize, partLengths, lengthList, lengthsBy, lengthsOf, dueLengths}
+use Rattle.mrd_write_checks.specs.WriteChecks.{givenFixed, ofWriter, givenOwnChecks, givenSize, partLengths, lengthList, lengthsBy, lengthsOf, dueLengths}
 use Rattle.mrd_write_checks.specs.NameLaws.{name-bounds, name-ends}
 use Rattle.mrd_put.specs.Room.{Ready}
 use Rattle.mrd_writer.specs.Write.{contentsSize}
@@ -140,7 +140,7 @@ sound-ready k c s =
     }
 
 -- the checks of the fixed part that the writer makes passed
-own-passed : (k : Kind) (c : Contents) → Sound k c → Every Passed (without 9 (ownChecks k (fixedOf k c)))
+own-passed : (k : Kind) (c : Contents) → Sound k c → Every Passed (ofWriter (ownChecks k (fixedOf k c)))
 unfolding givenOwnChecks
 own-passed k c s = rw (← checked-is-made k c) (s .own .1)
 

@@ -1,7 +1,7 @@
 -- `mrd_normal::messages::put_message` meets its contract: the copy is the message, and each kind's cleaning makes it its normal form.
 -- Assumes nothing.
 use mathlib.Core.Path.{_≡_, refl, sym, _∙_}
-use mathlib.Core.List.{List, [], _∷_}
+use mathlib.Core.List.{[], _∷_}
 use lib.ListN.{length}
 use denote.Ref.{now}
 use borrow.Author.Needs.{needs}

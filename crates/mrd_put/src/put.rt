@@ -87,8 +87,9 @@ fn put_image(header: &[u8], attributes: &[u8], pixels: &[u8], out: &mut [u8])
         (now (out .entry)) ⌝ }
 {
     let length = attributes.len();
-    bytes::copy(&header[0..Kind::ATTRIBUTE_STRING_LEN], &mut out[0..]);
-    put_u32(&mut out[Kind::ATTRIBUTE_STRING_LEN..], length as u32);
+    let end = Kind::ATTRIBUTE_STRING_LEN;
+    bytes::copy(&header[0..end], &mut out[0..]);
+    put_u32(&mut out[end..], length as u32);
     put_u64(&mut out[Kind::IMAGE_HEADER..], length as u64);
     put_joined(attributes, pixels, &mut out[Kind::IMAGE_FIXED..]);
 }

@@ -128,8 +128,9 @@ pub fn body_size(h: &[u8]) -> usize
     requires { ⌜ length (now h) ≡ fixedSize Kind.Image ⌝ }
     ensures { λ r. ⌜ (capped r ≡ capped (bodySize (now (h .entry)))) × (r < 2 ^ 40) ⌝ }
 {
-    let attributes = cap(attribute_length(h));
-    (attributes + pixels_size(h)) as usize
+    // The pixels first: the other way round the function that judges a message saves one more register.
+    let pixels = pixels_size(h);
+    (cap(attribute_length(h)) + pixels) as usize
 }
 
 // The fixed part's own numbers.

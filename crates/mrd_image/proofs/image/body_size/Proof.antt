@@ -10,11 +10,9 @@ use Rattle.mrd_image.proofs.image.body_size.Tie as tie
 returns : tie.Need-returns
 unfolding bodySize
 returns c =
-    let cap = c .before .cap in (
-      capped-sum _ _ _ _
-          (simp (cap .ensures, c .before .before .attribute-length .ensures, capped-twice))
-          (c .pixels-size .ensures .0),
-      omega (arith, cap .ensures, c .pixels-size .ensures .1),
+    let pixels = c .before .before .pixels-size in (
+      capped-sum _ _ _ _ (simp (c .cap .ensures, c .before .attribute-length .ensures, capped-twice)) (pixels .ensures .0),
+      omega (arith, c .cap .ensures, pixels .ensures .1),
     )
 
 pub body-size-spec : {M : Type 1} → statement M

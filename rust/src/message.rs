@@ -28,7 +28,8 @@ pub struct Message<'a> {
 
 impl Message<'_> {
     /// Writes the message into `out` from `position` on and gives the position after it; a refusal (2 to 8, 10,
-    /// 18, 14) writes nothing. An image's header gets the length of its attributes, whatever it holds there. The order of messages is not judged: check the whole stream.
+    /// 18, 14) writes nothing. An image's header gets the length of its attributes, whatever it holds there.
+    /// The order of messages is not judged: check the whole stream.
     pub fn write(&self, out: &mut [u8], position: usize) -> Result<usize, Refusal> {
         let parts = [
             self.name,

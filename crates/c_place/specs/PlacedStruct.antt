@@ -77,7 +77,7 @@ recordAs Close l = recordWith l 0 0 0 0 0 0 0 0 0 0 0
 recordAs Text l = recordWith l (own l 0) 0 0 0 0 0 0 0 0 0 0
 recordAs Acquisition l = recordWith l 0 0 (own l 0) (own l 1) (own l 2) 0 0 0 0 (own l 3) (own l 4)
 recordAs Image l = recordWith l 0 (own l 5) 0 (own l 3) 0 (own l 0) (own l 1) (own l 2) (own l 4) 0 0
-recordAs Waveform l = recordWith l 0 0 (own l 0) (own l 1) 0 0 0 0 0 0 0
+recordAs (Waveform layout) l = recordWith l 0 0 (own l 0) (own l 1) 0 0 0 0 0 0 0
 
 abbrev pub cRecord : Located → Placed
 cRecord l = recordAs (l .kind) l

@@ -112,7 +112,7 @@ impl Placed {
     }
 
     fn waveform(place: Place, shape: WaveformShape) -> Placed
-        ensures { λ r. ⌜ r ≡ placeAs place (idOf Kind.Waveform) 0 0 (shape .«number_of_samples») (shape .channels) 0 0 0 0 0 0 0 ⌝ }
+        ensures { λ r. ⌜ r ≡ placeAs place (idOf (Kind.Waveform (shape .layout))) 0 0 (shape .«number_of_samples») (shape .channels) 0 0 0 0 0 0 0 ⌝ }
     {
         let mut r = Placed::bare(place, Kind::WAVEFORM);
         r.number_of_samples = shape.number_of_samples;

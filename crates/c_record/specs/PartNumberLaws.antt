@@ -11,6 +11,7 @@ use lib.ListN.{take, drop}
 use Rattle.mrd_numbers.specs.Little.{fromBytes, num, Bytes}
 use Rattle.mrd_numbers.specs.ByteLaws.{bytes-take, bytes-drop}
 use Rattle.mrd_format.specs.declared.kind.Kind.{Kind}
+use Rattle.mrd_format.specs.declared.rules.Rules.{Rules}
 use Rattle.mrd_format.specs.declared.kind.Kind.the-variants.{ConfigurationName, ConfigurationText, HeaderText, Close, Text, Acquisition, Image, Waveform}
 use Rattle.mrd_format.specs.Kinds.{fixedSize}
 use Rattle.mrd_format.specs.Message.{fixedPart}
@@ -54,13 +55,13 @@ none-lies Text h bytes = refl
 none-lies Acquisition h bytes =
     let few = few-channels h bytes in simp (le-ltb (2 ^ 64 - 1) (get active-channels h) (omega arith))
 none-lies Image h bytes = refl
-none-lies Waveform h bytes = refl
+none-lies (Waveform l) h bytes = refl
 
 -- the view of it, of a record of a stream of bytes, is 17
-pub no-such-part : (s : List ℕ) (i n c : ℕ) {l : Located} → Bytes s → place s i ≡ answered l → (1 ≤ n → 7 < n) →
-    viewOf s i (partNumbered n c) ≡ number 17
+pub no-such-part : (rules : Rules) (s : List ℕ) (i n c : ℕ) {l : Located} → Bytes s → place rules s i ≡ answered l → (1 ≤ n → 7 < n) →
+    viewOf rules s i (partNumbered n c) ≡ number 17
 unfolding viewOf fixedPart
-no-such-part s i n c {l} bytes e other =
+no-such-part rules s i n c {l} bytes e other =
     let k = l .kind in
     let message = bytes-take (l .size) (drop (l .start) s) (bytes-drop (l .start) s bytes) in
     let fixed : Bytes (fixedPart k (partAt s l)) = bytes-take (fixedSize k) (drop 2 (partAt s l)) (bytes-drop 2 (partAt s l) message) in

@@ -6,30 +6,34 @@ ghost use Rattle.mrd_index.specs.File.{indexAnswer, indexOutput};
 ghost use Rattle.mrd_normal.specs.NormalOutput.{normalAnswer, normalOutput};
 ghost use Rattle.mrd_writer.specs.Write.{writeAnswer, writeOutput};
 ghost use Rattle.c_written.specs.WrittenStructs.{cWritten, cPut};
+ghost use Rattle.c_rules.specs.RulesStruct.{rulesOf};
+use c_rules::Rules;
+use c_rules::rules_of;
 use c_written::Put;
 use c_written::Written;
 
 // Writes the normal form of a stream to the front of out.
 #[no_mangle]
-pub extern "C" fn mrd_normal_form(stream: &[u8], out: &mut [u8]) -> Written
-    ensures { λ r. ⌜ r ≡ cWritten (normalAnswer (now (stream .entry)) (length (now (out .entry)))) ⌝ }
-    ensures { λ _. ⌜ now (out .exit) ≡ normalOutput (now (stream .entry)) (now (out .entry)) ⌝ }
+pub extern "C" fn mrd_normal_form(rules: Rules, stream: &[u8], out: &mut [u8]) -> Written
+    ensures { λ r. ⌜ r ≡ cWritten (normalAnswer (rulesOf rules) (now (stream .entry)) (length (now (out .entry)))) ⌝ }
+    ensures { λ _. ⌜ now (out .exit) ≡ normalOutput (rulesOf rules) (now (stream .entry)) (now (out .entry)) ⌝ }
 {
-    Written::of(mrd_normal::normal_form(stream, out))
+    Written::of(mrd_normal::normal_form(rules_of(rules), stream, out))
 }
 
 // Writes the index of a stream to the front of out.
 #[no_mangle]
-pub extern "C" fn mrd_write_index(stream: &[u8], out: &mut [u8]) -> Written
-    ensures { λ r. ⌜ r ≡ cWritten (indexAnswer (now (stream .entry)) (length (now (out .entry)))) ⌝ }
-    ensures { λ _. ⌜ now (out .exit) ≡ indexOutput (now (stream .entry)) (now (out .entry)) ⌝ }
+pub extern "C" fn mrd_write_index(rules: Rules, stream: &[u8], out: &mut [u8]) -> Written
+    ensures { λ r. ⌜ r ≡ cWritten (indexAnswer (rulesOf rules) (now (stream .entry)) (length (now (out .entry)))) ⌝ }
+    ensures { λ _. ⌜ now (out .exit) ≡ indexOutput (rulesOf rules) (now (stream .entry)) (now (out .entry)) ⌝ }
 {
-    Written::of(mrd_index::write_index(stream, out))
+    Written::of(mrd_index::write_index(rules_of(rules), stream, out))
 }
 
 // Writes one message into out from `position` on.
 #[no_mangle]
 pub extern "C" fn mrd_write(
+    rules: Rules,
     id: u16,
     header: &[u8],
     name: &[u8],
@@ -42,16 +46,17 @@ pub extern "C" fn mrd_write(
     out: &mut [u8],
     position: usize,
 ) -> Put
-    ensures { λ r. ⌜ r ≡ cPut (writeAnswer id
+    ensures { λ r. ⌜ r ≡ cPut (writeAnswer (rulesOf rules) id
         (contents (now (header .entry)) (now (name .entry)) (now (text .entry)) (now (trajectory .entry)) (now (samples .entry))
         (now (attributes .entry)) (now (pixels .entry)) (now (waveform .entry)))
         position (now (out .entry))) ⌝ }
-    ensures { λ _. ⌜ now (out .exit) ≡ writeOutput id
+    ensures { λ _. ⌜ now (out .exit) ≡ writeOutput (rulesOf rules) id
         (contents (now (header .entry)) (now (name .entry)) (now (text .entry)) (now (trajectory .entry)) (now (samples .entry))
         (now (attributes .entry)) (now (pixels .entry)) (now (waveform .entry)))
         position (now (out .entry)) ⌝ }
 {
     Put::of(mrd_writer::write(
+        rules_of(rules),
         id,
         header,
         name,

@@ -11,6 +11,7 @@ use Rattle.mrd_logic.specs.AnswerLaws.{answered-not-number, stream-not-number}
 use Rattle.mrd_logic.specs.Choice.{pick}
 use Rattle.mrd_logic.specs.CheckLaws.{fault-not-zero}
 use Rattle.mrd_format.specs.declared.kind.Kind.{Kind}
+use Rattle.mrd_format.specs.declared.rules.Rules.{Rules}
 use Rattle.mrd_format.specs.Kinds.{identified}
 use Rattle.mrd_format.specs.Message.{idAt, fixedPart}
 use Rattle.mrd_format.specs.Parts.{Reach, lies, lacks}
@@ -68,10 +69,10 @@ module _ {A : Type 0} (m : ℕ) where
   refuses-above (number k) r {n} h e = let z : k ≡ n = cc in omega (arith, r, h, z)
 
 -- a walk, from any cursor
-judge-numbered : (c : Cursor) (t : List ℕ) {f : ℕ} → judge c t ≡ faulty f → 0 < f
-judge-numbered c t {f} e =
-    let i = identified (idAt t) in
-    let some = fault-not-zero (checksAs i c t) {f = f} (all-numbered i c t) (judge-faulty c t e) in
+judge-numbered : (rules : Rules) (c : Cursor) (t : List ℕ) {f : ℕ} → judge rules c t ≡ faulty f → 0 < f
+judge-numbered rules c t {f} e =
+    let i = identified rules (idAt t) in
+    let some = fault-not-zero (checksAs i c t) {f = f} (all-numbered i c t) (judge-faulty rules c t e) in
     omega (arith, some)
 
 ended-numbered : (c : Cursor) → NumberedRefusal (ended c)
@@ -82,30 +83,30 @@ ended-numbered c = by (isClosed (c .phase))
     by true = tt
     by false = omega arith
 
-walk-whole : (b : ℕ) (t : List ℕ) (c : Cursor) {k : Kind} {z : ℕ} → judge c (b ∷ t) ≡ whole k z →
-    walk (b ∷ t) 0 c ≡ message c k (take z (b ∷ t)) (walk t (pred z) (after c k z))
+walk-whole : (rules : Rules) (b : ℕ) (t : List ℕ) (c : Cursor) {k : Kind} {z : ℕ} → judge rules c (b ∷ t) ≡ whole k z →
+    walk rules (b ∷ t) 0 c ≡ message c k (take z (b ∷ t)) (walk rules t (pred z) (after c k z))
 unfolding walk
-walk-whole b t c e = rw (e, walk)
+walk-whole rules b t c e = rw (e, walk)
 
-walk-numbered : (t : List ℕ) (k : ℕ) (c : Cursor) → NumberedRefusal (verdict (walk t k c))
+walk-numbered : (rules : Rules) (t : List ℕ) (k : ℕ) (c : Cursor) → NumberedRefusal (verdict (walk rules t k c))
 unfolding walk
-walk-numbered [] k c = ended-numbered c
-walk-numbered (b ∷ t) (suc k) c = walk-numbered t k c
-walk-numbered (b ∷ t) zero c = by (λ k d. walk-numbered t k d) (judge c (b ∷ t)) refl
+walk-numbered rules [] k c = ended-numbered c
+walk-numbered rules (b ∷ t) (suc k) c = walk-numbered rules t k c
+walk-numbered rules (b ∷ t) zero c = by (λ k d. walk-numbered rules t k d) (judge rules c (b ∷ t)) refl
   where
-    by : ((k : ℕ) (d : Cursor) → NumberedRefusal (verdict (walk t k d))) → (j : Judged) → judge c (b ∷ t) ≡ j → NumberedRefusal (verdict (walk (b ∷ t) 0 c))
-    by later (faulty f) e = rw (walk-fault b t c e) (judge-numbered c (b ∷ t) e)
-    by later (whole k z) e = rw (walk-whole b t c e) (later (pred z) (after c k z))
+    by : ((k : ℕ) (d : Cursor) → NumberedRefusal (verdict (walk rules t k d))) → (j : Judged) → judge rules c (b ∷ t) ≡ j → NumberedRefusal (verdict (walk rules (b ∷ t) 0 c))
+    by later (faulty f) e = rw (walk-fault rules b t c e) (judge-numbered rules c (b ∷ t) e)
+    by later (whole k z) e = rw (walk-whole rules b t c e) (later (pred z) (after c k z))
 
-pub from-numbered : (c : Cursor) (s : List ℕ) → NumberedRefusal (verdict (from c s))
-from-numbered c s = walk-numbered (drop (c .start) s) 0 c
+pub from-numbered : (rules : Rules) (c : Cursor) (s : List ℕ) → NumberedRefusal (verdict (from rules c s))
+from-numbered rules c s = walk-numbered rules (drop (c .start) s) 0 c
 
-pub answer-numbered : (s : List ℕ) → NumberedRefusal (answer s)
+pub answer-numbered : (rules : Rules) (s : List ℕ) → NumberedRefusal (answer rules s)
 unfolding answer trace
-answer-numbered s = walk-numbered s 0 _
+answer-numbered rules s = walk-numbered rules s 0 _
 
-pub over-numbered : (c : Cursor) (s : List ℕ) {v : Verdict} → step c s ≡ over v → NumberedRefusal v
-over-numbered c s e = subst (λ (r : Trace). NumberedRefusal (verdict r)) (step-over c s e) (from-numbered c s)
+pub over-numbered : (rules : Rules) (c : Cursor) (s : List ℕ) {v : Verdict} → step rules c s ≡ over v → NumberedRefusal v
+over-numbered rules c s e = subst (λ (r : Trace). NumberedRefusal (verdict r)) (step-over rules c s e) (from-numbered rules c s)
 
 -- place and kind
 nth-refuses : (ls : List Located) (n : ℕ) → Refuses 16 (nth ls n)
@@ -113,18 +114,18 @@ nth-refuses [] n = omega arith
 nth-refuses (l ∷ ls) zero = tt
 nth-refuses (l ∷ ls) (suc n) = nth-refuses ls n
 
-pub place-refuses : (s : List ℕ) (n : ℕ) → Refuses 16 (place s n)
+pub place-refuses : (rules : Rules) (s : List ℕ) (n : ℕ) → Refuses 16 (place rules s n)
 unfolding place
-place-refuses s n = unless-refuses 16 (answer s) _ (answer-numbered s) (nth-refuses (places.places (trace s)) n)
+place-refuses rules s n = unless-refuses 16 (answer rules s) _ (answer-numbered rules s) (nth-refuses (places.places (trace rules s)) n)
 
-pub at-refuses : (c : Cursor) (s : List ℕ) → Refuses 16 (placeAt c s)
+pub at-refuses : (rules : Rules) (c : Cursor) (s : List ℕ) → Refuses 16 (placeAt rules c s)
 unfolding placeAt
-at-refuses c s = by (step c s) refl
+at-refuses rules c s = by (step rules c s) refl
   where
-    by : (x : Stepped) → step c s ≡ x → Refuses 16 (placeBy x)
+    by : (x : Stepped) → step rules c s ≡ x → Refuses 16 (placeBy x)
     by (yields l d) e = tt
     by (over (accepted n)) e = omega arith
-    by (over (refused f r b)) e = over-numbered c s e
+    by (over (refused f r b)) e = over-numbered rules c s e
 
 -- views and fields of a record whose place is answered
 pub view-refuses : (a : Answer Located) (p : Part) (s : List ℕ) → Refuses 16 a → Refuses 16 (viewBy a p s)
@@ -144,9 +145,9 @@ field-refuses a o s r = then-refuses 16 a _ r (λ l. started (elementAt (l .kind
     started none h = omega arith
 
 -- a search
-pub find-refuses : (s : List ℕ) (n : ℕ) (cs : List ℕ) → Refuses 16 (findOf s n cs)
+pub find-refuses : (rules : Rules) (s : List ℕ) (n : ℕ) (cs : List ℕ) → Refuses 16 (findOf rules s n cs)
 unfolding findOf
-find-refuses s n cs = unless-refuses 16 (answer s) _ (answer-numbered s) (at (trace s))
+find-refuses rules s n cs = unless-refuses 16 (answer rules s) _ (answer-numbered rules s) (at (trace rules s))
   where
     either : (b : Bool) (i : ℕ) (a : Answer ℕ) → Refuses 16 a → Refuses 16 (pick b (answered i) a)
     either true i a r = tt
@@ -160,9 +161,9 @@ find-refuses s n cs = unless-refuses 16 (answer s) _ (answer-numbered s) (at (tr
 reply-refuses : {A : Type 0} (f : A → Replied) (a : Answer A) → Refuses 16 a → Refuses 16 (reply f a)
 reply-refuses f a r = then-refuses 16 a _ r (λ x. tt)
 
-pub ask-refuses : (s : List ℕ) (q : Question) (cs : List ℕ) → Refuses 16 (askOf s q cs)
+pub ask-refuses : (rules : Rules) (s : List ℕ) (q : Question) (cs : List ℕ) → Refuses 16 (askOf rules s q cs)
 unfolding askOf viewOf fieldOf
-ask-refuses s (Question.Place n) cs = reply-refuses replies.place (places.place s n) (place-refuses s n)
-ask-refuses s (Question.View n p) cs = reply-refuses view (viewBy (places.place s n) p s) (view-refuses (places.place s n) p s (place-refuses s n))
-ask-refuses s (Question.Field n o) cs = reply-refuses field (fieldBy (places.place s n) o s) (field-refuses (places.place s n) o s (place-refuses s n))
-ask-refuses s (Question.Find n) cs = reply-refuses found (findOf s n cs) (find-refuses s n cs)
+ask-refuses rules s (Question.Place n) cs = reply-refuses replies.place (places.place rules s n) (place-refuses rules s n)
+ask-refuses rules s (Question.View n p) cs = reply-refuses view (viewBy (places.place rules s n) p s) (view-refuses (places.place rules s n) p s (place-refuses rules s n))
+ask-refuses rules s (Question.Field n o) cs = reply-refuses field (fieldBy (places.place rules s n) o s) (field-refuses (places.place rules s n) o s (place-refuses rules s n))
+ask-refuses rules s (Question.Find n) cs = reply-refuses found (findOf rules s n cs) (find-refuses rules s n cs)

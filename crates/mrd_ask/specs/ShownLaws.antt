@@ -22,6 +22,7 @@ use Rattle.mrd_ask.specs.Replies as replies
 use Rattle.mrd_ask.specs.Replies.{Replied, reply}
 use Rattle.mrd_ask.specs.Questions.{askOf}
 use Rattle.mrd_ask.specs.Shown.{emptySpan, spanOf, fitted, SpanIn, spanned}
+use Rattle.mrd_format.specs.declared.rules.Rules.{Rules}
 
 module _ (n : ℕ) (x : Span) where
   -- it begins past their end
@@ -42,7 +43,7 @@ module _ (n : ℕ) (x : Span) where
 empty-fitted : (n : ℕ) → fitted n emptySpan ≡ emptySpan
 empty-fitted n = fitted-whole n emptySpan (omega arith) (omega arith)
 
-module _ (s : List ℕ) where
+module _ (rules : Rules) (s : List ℕ) where
   -- what no view answers shows nothing
   none-shown : {A : Type 0} (f : A → Replied) → ((x : A) → spanOf (answered (f x)) ≡ emptySpan) → (a : Answer A) → SpanIn s (reply f a)
   none-shown f e (answered x) = rw (e x) (empty-fitted (length s))
@@ -55,24 +56,24 @@ module _ (s : List ℕ) where
   view-shown (number n) v = empty-fitted (length s)
 
   -- so the view of what was asked is the place that the answer says
-  pub asked-fits : (q : Question) (cs : List ℕ) → SpanIn s (askOf s q cs)
+  pub asked-fits : (q : Question) (cs : List ℕ) → SpanIn s (askOf rules s q cs)
   unfolding askOf viewOf
-  asked-fits (Question.Place n) cs = none-shown replies.place (λ x. refl) (place s n)
-  asked-fits (Question.View n p) cs = view-shown (viewOf s n p) (view-fits s (place s n) p (place-lies s n))
-  asked-fits (Question.Field n o) cs = none-shown replies.field (λ x. refl) (fieldOf s n o)
-  asked-fits (Question.Find n) cs = none-shown replies.found (λ x. refl) (findOf s n cs)
+  asked-fits (Question.Place n) cs = none-shown replies.place (λ x. refl) (place rules s n)
+  asked-fits (Question.View n p) cs = view-shown (viewOf rules s n p) (view-fits s (place rules s n) p (place-lies rules s n))
+  asked-fits (Question.Field n o) cs = none-shown replies.field (λ x. refl) (fieldOf rules s n o)
+  asked-fits (Question.Find n) cs = none-shown replies.found (λ x. refl) (findOf rules s n cs)
 
   -- whatever a given index is found to be
-  pub indexed-fits : (m : Answer (Unit {0})) (q : Question) (cs : List ℕ) → SpanIn s (andThen m (λ _. askOf s q cs))
+  pub indexed-fits : (m : Answer (Unit {0})) (q : Question) (cs : List ℕ) → SpanIn s (andThen m (λ _. askOf rules s q cs))
   indexed-fits (answered t) q cs = asked-fits q cs
   indexed-fits (stream f r b) q cs = empty-fitted (length s)
   indexed-fits (number n) q cs = empty-fitted (length s)
 
   -- and the view that is replied is the one that its record's number gives
   pub asked-view : (n : ℕ) (p : Part) (cs : List ℕ) →
-      spanned (fitted (length s) (spanOf (askOf s (Question.View n p) cs))) s ≡ shown (viewOf s n p) s
+      spanned (fitted (length s) (spanOf (askOf rules s (Question.View n p) cs))) s ≡ shown (viewOf rules s n p) s
   unfolding askOf
-  asked-view n p cs = rw (asked-fits (Question.View n p) cs) (by (viewOf s n p))
+  asked-view n p cs = rw (asked-fits (Question.View n p) cs) (by (viewOf rules s n p))
     where
       by : (a : Answer Span) → spanned (spanOf (reply replies.view a)) s ≡ shown a s
       by (answered x) = refl

@@ -11,18 +11,19 @@ use crate::question::Question;
 use crate::question::Reply;
 use mrd_fields::FieldAnswer;
 use mrd_find::Found;
+use mrd_format::Rules;
 use mrd_stream::Placed;
 use mrd_views::ViewPlace;
 
 // The reply to a question about s; the counters are looked at where it is a search.
-pub fn ask(s: &[u8], question: Question, counters: &[u16; 17]) -> Reply
-    ensures { λ r. ⌜ Says r (askOf (now (s .entry)) question (now (counters .entry))) ⌝ }
+pub fn ask(rules: Rules, s: &[u8], question: Question, counters: &[u16; 17]) -> Reply
+    ensures { λ r. ⌜ Says r (askOf rules (now (s .entry)) question (now (counters .entry))) ⌝ }
 {
     match question {
-        Question::Place(n) => placed(mrd_stream::place(s, n)),
-        Question::View(n, part) => viewed(mrd_views::view_place(s, n, part)),
-        Question::Field(n, offset) => valued(mrd_fields::field(s, n, offset)),
-        Question::Find(n) => found(mrd_find::find(s, n, counters)),
+        Question::Place(n) => placed(mrd_stream::place(rules, s, n)),
+        Question::View(n, part) => viewed(mrd_views::view_place(rules, s, n, part)),
+        Question::Field(n, offset) => valued(mrd_fields::field(rules, s, n, offset)),
+        Question::Find(n) => found(mrd_find::find(rules, s, n, counters)),
     }
 }
 

@@ -22,6 +22,7 @@ use Rattle.mrd_index.specs.Entries.{entryAt}
 use Rattle.mrd_columns.specs.Columns.{columnsAnswer, Rooms}
 use Rattle.mrd_index.specs.Filling as filling
 use Rattle.mrd_index.specs.Filling.{inColumn, Filling}
+use Rattle.mrd_format.specs.declared.rules.Rules.{Rules}
 
 -- columns found to have n places
 pub rooms : (n a b c : ℕ) → (ltb a n || (ltb b n || ltb c n)) ≡ false → Rooms n a b c
@@ -36,29 +37,29 @@ place-there n a b c r e =
     false≢true (simp (lt-leb a n (omega (arith, r .starts)), lt-leb b n (omega (arith, r .ids)), lt-leb c n (omega (arith, r .counters))) at e)
 
 -- a refused stream
-pub stream-refused : (s : List ℕ) {f r b : ℕ} → answer s ≡ refused f r b → (x y z : ℕ) → columnsAnswer s x y z ≡ stream f r b
+pub stream-refused : (rules : Rules) (s : List ℕ) {f r b : ℕ} → answer rules s ≡ refused f r b → (x y z : ℕ) → columnsAnswer rules s x y z ≡ stream f r b
 unfolding columnsAnswer
-stream-refused s e x y z = rw e
+stream-refused rules s e x y z = rw e
 
 -- an accepted stream of n records
-module _ (s : List ℕ) {n : ℕ} (e : answer s ≡ accepted n) where
+module _ (rules : Rules) (s : List ℕ) {n : ℕ} (e : answer rules s ≡ accepted n) where
   -- columns too short, or long enough
-  pub column-short : (a b c : ℕ) → (ltb a n || (ltb b n || ltb c n)) ≡ true → columnsAnswer s a b c ≡ number 14
+  pub column-short : (a b c : ℕ) → (ltb a n || (ltb b n || ltb c n)) ≡ true → columnsAnswer rules s a b c ≡ number 14
   unfolding columnsAnswer
-  column-short a b c h = simp (e, entries-count s e, h)
+  column-short a b c h = simp (e, entries-count rules s e, h)
 
-  pub columns-fit : (a b c : ℕ) → (ltb a n || (ltb b n || ltb c n)) ≡ false → columnsAnswer s a b c ≡ answered n
+  pub columns-fit : (a b c : ℕ) → (ltb a n || (ltb b n || ltb c n)) ≡ false → columnsAnswer rules s a b c ≡ answered n
   unfolding columnsAnswer
-  columns-fit a b c h = simp (e, entries-count s e, h)
+  columns-fit a b c h = simp (e, entries-count rules s e, h)
 
   -- what lies in a column after the records' places
-  after-places : (g : Entry → ℕ) (o : List ℕ) → front (map g (entries s)) o ≡ map g (entries s) ++ drop n o
-  after-places g o = rw (length-map (entries s) g, entries-count s e)
+  after-places : (g : Entry → ℕ) (o : List ℕ) → front (map g (entries rules s)) o ≡ map g (entries rules s) ++ drop n o
+  after-places g o = rw (length-map (entries rules s) g, entries-count rules s e)
 
   -- the columns filled, which were o, p and q
   pub filled : (o p q x y z : List ℕ) →
-      (x ≡ front (startColumn s) o) × ((y ≡ front (idColumn s) p) × (z ≡ front (counterColumn s) q)) →
-      (x ≡ startColumn s ++ drop n o) × ((y ≡ idColumn s ++ drop n p) × (z ≡ counterColumn s ++ drop n q))
+      (x ≡ front (startColumn rules s) o) × ((y ≡ front (idColumn rules s) p) × (z ≡ front (counterColumn rules s) q)) →
+      (x ≡ startColumn rules s ++ drop n o) × ((y ≡ idColumn rules s ++ drop n p) × (z ≡ counterColumn rules s ++ drop n q))
   unfolding startColumn idColumn counterColumn
   filled o p q x y z h = (
     h .0 ∙ after-places (λ (e : Entry). e .start) o,
@@ -66,21 +67,21 @@ module _ (s : List ℕ) {n : ℕ} (e : answer s ≡ accepted n) where
   )
 
 -- the walk over s stands at c; the columns, which were o, p and q, hold the entries of what was passed
-pub record FillingAll (s o p q : List ℕ) (c : Cursor) (starts ids counters : List ℕ) : Type 0 where
-  pub at-starts : Filling (inColumn (λ (e : Entry). e .start)) s o c starts
-  pub at-ids : Filling (inColumn (λ (e : Entry). e .id)) s p c ids
-  pub at-counters : Filling (inColumn (λ (e : Entry). e .counter)) s q c counters
+pub record FillingAll (rules : Rules) (s o p q : List ℕ) (c : Cursor) (starts ids counters : List ℕ) : Type 0 where
+  pub at-starts : Filling rules (inColumn (λ (e : Entry). e .start)) s o c starts
+  pub at-ids : Filling rules (inColumn (λ (e : Entry). e .id)) s p c ids
+  pub at-counters : Filling rules (inColumn (λ (e : Entry). e .counter)) s q c counters
 
-begun : (g : Entry → ℕ) (s o : List ℕ) → length (entries s) ≤ length o → Filling (inColumn g) s o beginning o
-begun g s o h = filling.start {f = inColumn g} (omega (arith, length-map (entries s) g))
+begun : (rules : Rules) (g : Entry → ℕ) (s o : List ℕ) → length (entries rules s) ≤ length o → Filling rules (inColumn g) s o beginning o
+begun rules g s o h = filling.start rules {f = inColumn g} (omega (arith, length-map (entries rules s) g))
 
-pub start : {s o p q : List ℕ} → Rooms (length (entries s)) (length o) (length p) (length q) → FillingAll s o p q beginning o p q
-start {s} {o} {p} {q} r =
-    record { at-starts = begun _ s o (r .starts); at-ids = begun _ s p (r .ids); at-counters = begun _ s q (r .counters) }
+pub start : (rules : Rules) {s o p q : List ℕ} → Rooms (length (entries rules s)) (length o) (length p) (length q) → FillingAll rules s o p q beginning o p q
+start rules {s} {o} {p} {q} r =
+    record { at-starts = begun rules _ s o (r .starts); at-ids = begun rules _ s p (r .ids); at-counters = begun rules _ s q (r .counters) }
 
-module _ {s o p q starts ids counters : List ℕ} {c : Cursor} (h : FillingAll s o p q c starts ids counters) where
+module _ {rules : Rules} {s o p q starts ids counters : List ℕ} {c : Cursor} (h : FillingAll rules s o p q c starts ids counters) where
   -- past a message: it has a place in each column
-  module _ {d : Cursor} {l : Located} (passed : Passes c s l d) where
+  module _ {d : Cursor} {l : Located} (passed : Passes rules c s l d) where
     pub has-place : Rooms (l .number + 1) (length starts) (length ids) (length counters)
     has-place =
         record {
@@ -93,7 +94,7 @@ module _ {s o p q starts ids counters : List ℕ} {c : Cursor} (h : FillingAll s
     pub next : {x : Entry} {starts′ ids′ counters′ : List ℕ} → x ≡ entryAt s l →
         (starts′ ≡ stored (l .number) (x .start ∷ []) starts) ×
         ((ids′ ≡ stored (l .number) (x .id ∷ []) ids) × (counters′ ≡ stored (l .number) (x .counter ∷ []) counters)) →
-        FillingAll s o p q d starts′ ids′ counters′
+        FillingAll rules s o p q d starts′ ids′ counters′
     next same w =
         record {
           at-starts = filling.next (h .at-starts) passed (w .0 ∙ ap (λ (e : Entry). stored (l .number) (e .start ∷ []) starts) same);
@@ -102,8 +103,8 @@ module _ {s o p q starts ids counters : List ℕ} {c : Cursor} (h : FillingAll s
         }
 
   -- at the end
-  pub finish : {v : Verdict} → step c s ≡ over v →
-      (starts ≡ front (startColumn s) o) × ((ids ≡ front (idColumn s) p) × (counters ≡ front (counterColumn s) q))
+  pub finish : {v : Verdict} → step rules c s ≡ over v →
+      (starts ≡ front (startColumn rules s) o) × ((ids ≡ front (idColumn rules s) p) × (counters ≡ front (counterColumn rules s) q))
   unfolding startColumn idColumn counterColumn
   finish e = (
     filling.finish (h .at-starts) e ∙ stored-front _ o,

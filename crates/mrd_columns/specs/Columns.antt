@@ -9,11 +9,12 @@ use Rattle.mrd_stream.specs.Walk.{answer}
 use Rattle.mrd_stream.specs.Index.{entries}
 use Rattle.mrd_logic.specs.Answer.{Answer}
 use Rattle.mrd_stream.specs.Output.{answerBy}
+use Rattle.mrd_format.specs.declared.rules.Rules.{Rules}
 
 -- 'the stream refusal, then 14 if any column is too short', by the lengths of the three; else the number of records
-unfoldable pub columnsAnswer : List ℕ → ℕ → ℕ → ℕ → Answer ℕ
-columnsAnswer s a b c =
-    answerBy (answer s) (ltb a (length (entries s)) || (ltb b (length (entries s)) || ltb c (length (entries s)))) (length (entries s))
+unfoldable pub columnsAnswer : Rules → List ℕ → ℕ → ℕ → ℕ → Answer ℕ
+columnsAnswer rules s a b c =
+    answerBy (answer rules s) (ltb a (length (entries rules s)) || (ltb b (length (entries rules s)) || ltb c (length (entries rules s)))) (length (entries rules s))
 
 -- three columns of these lengths have n places and more
 pub record Rooms (n a b c : ℕ) : Type 0 where

@@ -10,6 +10,7 @@ ghost use Rattle.mrd_stream.specs.Index.{entries, startColumn, idColumn, counte
 ghost use Rattle.mrd_stream.specs.Output.{writtenMeaning, outputBy};
 ghost use Rattle.mrd_columns.specs.Columns.{columnsAnswer, Rooms};
 use mrd_cursor::Cursor;
+use mrd_format::Rules;
 use mrd_format::refusal;
 use mrd_index::entry_of;
 use mrd_index_fields::Entry;
@@ -21,50 +22,57 @@ use mrd_stream::check;
 // Fills the columns with the index of the stream s, place n for record n, and answers the number of records;
 // else answers the stream's refusal, or 14 where any column is shorter than that. Later places keep their
 // content, and a refusal changes none.
-pub fn fill_columns(s: &[u8], starts: &mut [u64], ids: &mut [u16], counters: &mut [u32]) -> Written
-    ensures { λ r. ⌜ writtenMeaning r ≡ columnsAnswer (now (s .entry)) (length (now (starts .entry))) (length (now (ids .entry))) (length (now (counters .entry))) ⌝ }
-    ensures { λ r. ⌜ now (starts .exit) ≡ outputBy (writtenMeaning r) (startColumn (now (s .entry))) (now (starts .entry)) ⌝ }
-    ensures { λ r. ⌜ now (ids .exit) ≡ outputBy (writtenMeaning r) (idColumn (now (s .entry))) (now (ids .entry)) ⌝ }
-    ensures { λ r. ⌜ now (counters .exit) ≡ outputBy (writtenMeaning r) (counterColumn (now (s .entry))) (now (counters .entry)) ⌝ }
+pub fn fill_columns(
+    rules: Rules,
+    s: &[u8],
+    starts: &mut [u64],
+    ids: &mut [u16],
+    counters: &mut [u32],
+) -> Written
+    ensures { λ r. ⌜ writtenMeaning r ≡ columnsAnswer rules (now (s .entry)) (length (now (starts .entry))) (length (now (ids .entry))) (length (now (counters .entry))) ⌝ }
+    ensures { λ r. ⌜ now (starts .exit) ≡ outputBy (writtenMeaning r) (startColumn rules (now (s .entry))) (now (starts .entry)) ⌝ }
+    ensures { λ r. ⌜ now (ids .exit) ≡ outputBy (writtenMeaning r) (idColumn rules (now (s .entry))) (now (ids .entry)) ⌝ }
+    ensures { λ r. ⌜ now (counters .exit) ≡ outputBy (writtenMeaning r) (counterColumn rules (now (s .entry))) (now (counters .entry)) ⌝ }
 {
-    let checked = check(s);
+    let checked = check(rules, s);
     match checked {
-        Checked::Accepted(count) => fill(s, count, starts, ids, counters),
+        Checked::Accepted(count) => fill(rules, s, count, starts, ids, counters),
         Checked::Refused(refusal) => Written::Stream(refusal),
     }
 }
 
 // The same for an accepted stream of so many records.
 fn fill(
+    rules: Rules,
     s: &[u8],
     count: usize,
     starts: &mut [u64],
     ids: &mut [u16],
     counters: &mut [u32],
 ) -> Written
-    requires { ⌜ answer (now s) ≡ accepted count ⌝ }
-    ensures { λ r. ⌜ writtenMeaning r ≡ columnsAnswer (now (s .entry)) (length (now (starts .entry))) (length (now (ids .entry))) (length (now (counters .entry))) ⌝ }
-    ensures { λ r. ⌜ now (starts .exit) ≡ outputBy (writtenMeaning r) (startColumn (now (s .entry))) (now (starts .entry)) ⌝ }
-    ensures { λ r. ⌜ now (ids .exit) ≡ outputBy (writtenMeaning r) (idColumn (now (s .entry))) (now (ids .entry)) ⌝ }
-    ensures { λ r. ⌜ now (counters .exit) ≡ outputBy (writtenMeaning r) (counterColumn (now (s .entry))) (now (counters .entry)) ⌝ }
+    requires { ⌜ answer rules (now s) ≡ accepted count ⌝ }
+    ensures { λ r. ⌜ writtenMeaning r ≡ columnsAnswer rules (now (s .entry)) (length (now (starts .entry))) (length (now (ids .entry))) (length (now (counters .entry))) ⌝ }
+    ensures { λ r. ⌜ now (starts .exit) ≡ outputBy (writtenMeaning r) (startColumn rules (now (s .entry))) (now (starts .entry)) ⌝ }
+    ensures { λ r. ⌜ now (ids .exit) ≡ outputBy (writtenMeaning r) (idColumn rules (now (s .entry))) (now (ids .entry)) ⌝ }
+    ensures { λ r. ⌜ now (counters .exit) ≡ outputBy (writtenMeaning r) (counterColumn rules (now (s .entry))) (now (counters .entry)) ⌝ }
 {
     if (starts.len() < count) | ((ids.len() < count) | (counters.len() < count)) {
         return Written::Refused(refusal::OUTPUT_SHORT);
     }
-    put_places(s, starts, ids, counters);
+    put_places(rules, s, starts, ids, counters);
     Written::Length(count)
 }
 
 // Writes the entry of each record of s to its place in the columns: one step for each record.
-fn put_places(s: &[u8], starts: &mut [u64], ids: &mut [u16], counters: &mut [u32])
-    requires { ⌜ Rooms (length (entries (now s))) (length (now starts)) (length (now ids)) (length (now counters)) ⌝ }
-    ensures { λ _. ⌜ now (starts .exit) ≡ front (startColumn (now (s .entry))) (now (starts .entry)) ⌝ }
-    ensures { λ _. ⌜ now (ids .exit) ≡ front (idColumn (now (s .entry))) (now (ids .entry)) ⌝ }
-    ensures { λ _. ⌜ now (counters .exit) ≡ front (counterColumn (now (s .entry))) (now (counters .entry)) ⌝ }
+fn put_places(rules: Rules, s: &[u8], starts: &mut [u64], ids: &mut [u16], counters: &mut [u32])
+    requires { ⌜ Rooms (length (entries rules (now s))) (length (now starts)) (length (now ids)) (length (now counters)) ⌝ }
+    ensures { λ _. ⌜ now (starts .exit) ≡ front (startColumn rules (now (s .entry))) (now (starts .entry)) ⌝ }
+    ensures { λ _. ⌜ now (ids .exit) ≡ front (idColumn rules (now (s .entry))) (now (ids .entry)) ⌝ }
+    ensures { λ _. ⌜ now (counters .exit) ≡ front (counterColumn rules (now (s .entry))) (now (counters .entry)) ⌝ }
 {
     let mut c = Cursor::beginning();
     loop {
-        let step = mrd_stream::next(c, s);
+        let step = mrd_stream::next(rules, c, s);
         match step {
             Step::Message(record, next) => {
                 let place = record.place;

@@ -49,7 +49,7 @@ allowed Close p = isOpen p
 allowed Text p = isOpen p
 allowed Acquisition p = isHeaded p
 allowed Image p = isHeaded p
-allowed Waveform p = isHeaded p
+allowed (Waveform l) p = isHeaded p
 
 -- the phase after a message that was allowed
 abbrev pub nextPhase : Kind → Phase → Phase
@@ -60,4 +60,4 @@ nextPhase Close p = Closed
 nextPhase Text p = p
 nextPhase Acquisition p = p
 nextPhase Image p = p
-nextPhase Waveform p = p
+nextPhase (Waveform l) p = p

@@ -17,7 +17,7 @@ closed-allows-none Close = refl
 closed-allows-none Text = refl
 closed-allows-none Acquisition = refl
 closed-allows-none Image = refl
-closed-allows-none Waveform = refl
+closed-allows-none (Waveform l) = refl
 
 -- a phase that allows anything is not the close's
 pub allowed-open : (k : Kind) (p : Phase) → allowed k p ≡ true → isClosed p ≡ false

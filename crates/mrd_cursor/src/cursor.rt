@@ -93,7 +93,7 @@ impl Phase {
             Kind::Text => self.is_open(),
             Kind::Acquisition => self.is_headed(),
             Kind::Image => self.is_headed(),
-            Kind::Waveform => self.is_headed(),
+            Kind::Waveform(_) => self.is_headed(),
         }
     }
 
@@ -109,7 +109,7 @@ impl Phase {
             Kind::Text => self,
             Kind::Acquisition => self,
             Kind::Image => self,
-            Kind::Waveform => self,
+            Kind::Waveform(_) => self,
         }
     }
 }

@@ -5,21 +5,22 @@ use Prim.Native.Nat.{ℕ}
 use mathlib.Core.Path.{_≡_}
 use mathlib.Core.List.{List, [], _∷_, _++_}
 use Rattle.mrd_format.specs.declared.kind.Kind.{Kind}
+use Rattle.mrd_format.specs.declared.rules.Rules.{Rules}
 use Rattle.mrd_format.specs.declared.kind.Kind.the-variants.{ConfigurationName, ConfigurationText, HeaderText, Close, Text, Acquisition, Image, Waveform}
 use Rattle.mrd_logic.specs.Every.{Every}
 use Rattle.mrd_logic.specs.Joined.{joined}
 use Rattle.mrd_format.specs.Message.{WellFormed}
 
 -- 'a cut' of s
-pub record Cut (s : List ℕ) : Type 0 where
+pub record Cut (rules : Rules) (s : List ℕ) : Type 0 where
   pub pieces : List (List ℕ)
-  pub well : Every WellFormed pieces
+  pub well : Every (WellFormed rules) pieces
   pub whole : joined pieces ≡ s
 
 -- the kinds of well-formed messages
-abbrev pub kindsIn : (ms : List (List ℕ)) → Every WellFormed ms → List Kind
-kindsIn [] w = []
-kindsIn (m ∷ ms) w = w .0 .kind ∷ kindsIn ms (w .1)
+abbrev pub kindsIn : (rules : Rules) (ms : List (List ℕ)) → Every (WellFormed rules) ms → List Kind
+kindsIn rules [] w = []
+kindsIn rules (m ∷ ms) w = w .0 .kind ∷ kindsIn rules ms (w .1)
 
 -- how a kind counts in 'order of messages': a configuration (id 1 or 2), a header, data (1008, 1022, 1026), a text or a close
 pub data Role : Type 0 where
@@ -33,7 +34,7 @@ roleOf Close = close
 roleOf Text = text
 roleOf Acquisition = measured
 roleOf Image = measured
-roleOf Waveform = measured
+roleOf (Waveform l) = measured
 
 -- no message of this role
 abbrev pub Lacks : Role → List Kind → Type 0

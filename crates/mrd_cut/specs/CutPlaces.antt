@@ -8,6 +8,7 @@ use mathlib.Core.List.{List, [], _∷_, _++_, map, append-assoc}
 use lib.ListN.{length, take, drop, length-append}
 use lib.Seq.{take-append-seam, drop-at}
 use Rattle.mrd_format.specs.declared.kind.Kind.{Kind}
+use Rattle.mrd_format.specs.declared.rules.Rules.{Rules}
 use Rattle.mrd_format.specs.declared.kind.Kind.the-variants.{Close, Text}
 use Rattle.mrd_format.specs.Message.{WellFormed}
 use Rattle.mrd_cursor.specs.declared.cursor.Cursor.{Cursor}
@@ -26,7 +27,7 @@ abbrev pub partAt : List ℕ → Located → List ℕ
 partAt s l = take (l .size) (drop (l .start) s)
 
 -- the places of a walk name the messages that it met
-pub places-pieces : {c : Cursor} {s : List ℕ} {r : Trace} → Walks c s r → (before : List ℕ) → length before ≡ c .start →
+pub places-pieces : {rules : Rules} {c : Cursor} {s : List ℕ} {r : Trace} → Walks rules c s r → (before : List ℕ) → length before ≡ c .start →
     map (partAt (before ++ s)) (places r) ≡ piecesOf r
 places-pieces ends before h = refl
 places-pieces (faults e) before h = refl
@@ -37,8 +38,8 @@ places-pieces (meets {c} {m} {rest} {r} w a n v) before h =
     ap₂ (λ (l : List ℕ) (ls : List (List ℕ)). l ∷ ls) here later
 
 -- the pieces of s that the answered places name
-abbrev pub placedPieces : List ℕ → List (List ℕ)
-placedPieces s = map (partAt s) (places (trace s))
+abbrev pub placedPieces : Rules → List ℕ → List (List ℕ)
+placedPieces rules s = map (partAt s) (places (trace rules s))
 
 -- 'adjoining' places from byte b on up to byte e: the first starts at b, each other where the one before it ends, and the last ends at e
 abbrev pub Adjoin : ℕ → List Located → ℕ → Type 0
@@ -53,15 +54,15 @@ pub adjoining : Adjoin 0 (spanning 0 0 6 Text ∷ spanning 1 6 6 Text ∷ spanni
 adjoining = (refl, (refl, (refl, refl)))
 
 -- these pieces, n of them, are a cut of s, and the only one; their places adjoin, from the first byte of s to its end
-pub record AnsweredCut (s : List ℕ) (n : ℕ) : Type 0 where
-  pub well : Every WellFormed (placedPieces s)
-  pub whole : joined (placedPieces s) ≡ s
-  pub count : length (placedPieces s) ≡ n
-  pub only : (other : Cut s) → other .pieces ≡ placedPieces s
-  pub adjoin : Adjoin 0 (places (trace s)) (length s)
+pub record AnsweredCut (rules : Rules) (s : List ℕ) (n : ℕ) : Type 0 where
+  pub well : Every (WellFormed rules) (placedPieces rules s)
+  pub whole : joined (placedPieces rules s) ≡ s
+  pub count : length (placedPieces rules s) ≡ n
+  pub only : (other : Cut rules s) → other .pieces ≡ placedPieces rules s
+  pub adjoin : Adjoin 0 (places (trace rules s)) (length s)
 
 -- the places of a walk adjoin, as the messages do that it met
-places-adjoin : {c : Cursor} {s : List ℕ} {r : Trace} → Walks c s r → Adjoin (c .start) (places r) (c .start + length (joined (piecesOf r)))
+places-adjoin : {rules : Rules} {c : Cursor} {s : List ℕ} {r : Trace} → Walks rules c s r → Adjoin (c .start) (places r) (c .start + length (joined (piecesOf r)))
 places-adjoin (ends {c}) = sym (add-zero (c .start))
 places-adjoin (faults {c} e) = sym (add-zero (c .start))
 places-adjoin (meets {c} {m} {rest} {r} w a n v) =
@@ -70,16 +71,16 @@ places-adjoin (meets {c} {m} {rest} {r} w a n v) =
     (refl, rw far at (places-adjoin v))
 
 -- the answered places cut an accepted stream
-pub places-cut : (s : List ℕ) (n : ℕ) → answer s ≡ accepted n → AnsweredCut s n
-places-cut s n e =
-    let c = accepted-cut s e in
+pub places-cut : (rules : Rules) (s : List ℕ) (n : ℕ) → answer rules s ≡ accepted n → AnsweredCut rules s n
+places-cut rules s n e =
+    let c = accepted-cut rules s e in
     let cut = c .0 .cut in
-    let same : placedPieces s ≡ cut .pieces = places-pieces (walks s) [] refl ∙ sym (c .1) in
-    let all : joined (piecesOf (trace s)) ≡ s = ap joined (sym (c .1)) ∙ cut .whole in
+    let same : placedPieces rules s ≡ cut .pieces = places-pieces (walks rules s) [] refl ∙ sym (c .1) in
+    let all : joined (piecesOf (trace rules s)) ≡ s = ap joined (sym (c .1)) ∙ cut .whole in
     record {
       well = rw same (cut .well);
       whole = rw same (cut .whole);
       count = rw same (c .2);
       only = λ other. cut-unique s other cut ∙ sym same;
-      adjoin = rw (all, zero-add) at (places-adjoin (walks s));
+      adjoin = rw (all, zero-add) at (places-adjoin (walks rules s));
     }

@@ -17,23 +17,24 @@ use Rattle.mrd_stream.specs.Walk.{Trace, trace, answer}
 use Rattle.mrd_stream.specs.Places.{Located, located, places, nth, place}
 use Rattle.mrd_cut.specs.CutPlaces.{partAt}
 use Rattle.mrd_cut.specs.Walked.{Walks, ends, faults, meets, walks}
+use Rattle.mrd_format.specs.declared.rules.Rules.{Rules}
 
 -- the place l lies in s, at a well-formed message of its kind and numbers
-pub record Inside (s : List ℕ) (l : Located) : Type 0 where
-  pub well : WellFormed (partAt s l)
+pub record Inside (rules : Rules) (s : List ℕ) (l : Located) : Type 0 where
+  pub well : WellFormed rules (partAt s l)
   pub kind : well .kind ≡ l .kind
   pub numbers : l .numbers ≡ numbersOf (l .kind) (fixedPart (l .kind) (partAt s l))
   pub long : length (partAt s l) ≡ l .size
   pub fits : l .start + l .size ≤ length s
 
-places-inside : {c : Cursor} {s : List ℕ} {r : Trace} → Walks c s r → (before : List ℕ) → length before ≡ c .start →
-    Every (Inside (before ++ s)) (places r)
-places-inside ends before h = tt
-places-inside (faults e) before h = tt
-places-inside (meets {c} {m} {rest} {r} w a n v) before h =
+places-inside : {rules : Rules} {c : Cursor} {s : List ℕ} {r : Trace} → Walks rules c s r → (before : List ℕ) → length before ≡ c .start →
+    Every (Inside rules (before ++ s)) (places r)
+places-inside {rules} ends before h = tt
+places-inside {rules} (faults e) before h = tt
+places-inside {rules} (meets {c} {m} {rest} {r} w a n v) before h =
     let here : partAt (before ++ (m ++ rest)) (located c (w .kind) m) ≡ m = rw (drop-at before (m ++ rest) (c .start) h, take-append-seam) in
     let far : length (before ++ m) ≡ c .start + length m = simp (length-append, h) in
-    let later : Every (Inside (before ++ (m ++ rest))) (places r) = rw append-assoc at (places-inside v (before ++ m) far) in (
+    let later : Every (Inside rules (before ++ (m ++ rest))) (places r) = rw append-assoc at (places-inside v (before ++ m) far) in (
       record {
         well = rw here w;
         kind = refl;
@@ -50,10 +51,10 @@ found-nth (k ∷ ls) zero e = cc
 found-nth (k ∷ ls) (suc n) e = found-nth ls n e
 
 -- the place that is answered for a record is the walk's of that number
-pub place-nth : (s : List ℕ) (n : ℕ) {l : Located} → place s n ≡ answered l → Nth (places (trace s)) n l
+pub place-nth : (rules : Rules) (s : List ℕ) (n : ℕ) {l : Located} → place rules s n ≡ answered l → Nth (places (trace rules s)) n l
 unfolding place
-place-nth s n e = found-nth (places (trace s)) n (answered-accepted (answer s) (nth (places (trace s)) n) e)
+place-nth rules s n e = found-nth (places (trace rules s)) n (answered-accepted (answer rules s) (nth (places (trace rules s)) n) e)
 
 -- so it lies in the stream
-pub place-inside : (s : List ℕ) (n : ℕ) {l : Located} → place s n ≡ answered l → Inside s l
-place-inside s n {l} e = every-nth (Inside s) (places (trace s)) n l (places-inside (walks s) [] refl) (place-nth s n e)
+pub place-inside : (rules : Rules) (s : List ℕ) (n : ℕ) {l : Located} → place rules s n ≡ answered l → Inside rules s l
+place-inside rules s n {l} e = every-nth (Inside rules s) (places (trace rules s)) n l (places-inside (walks rules s) [] refl) (place-nth rules s n e)

@@ -84,7 +84,7 @@ module _ (ks : List Kind) where
   allowed-iff-follows Text = open-iff
   allowed-iff-follows Acquisition = headed-iff
   allowed-iff-follows Image = headed-iff
-  allowed-iff-follows Waveform = headed-iff
+  allowed-iff-follows (Waveform l) = headed-iff
 
 -- one more kind of another role: a role that was lacked still is
 still-lacks : (r : Role) (ks : List Kind) (k : Kind) → (roleOf k ≡ r → ⊥) → Lacks r ks → Lacks r (ks ++ (k ∷ []))
@@ -150,7 +150,7 @@ step-means Close p ks m a = has ks Close refl
 step-means Text p ks m a = with-text ks Text p refl m
 step-means Acquisition p ks m a = with-data ks Acquisition p refl a m
 step-means Image p ks m a = with-data ks Image p refl a m
-step-means Waveform p ks m a = with-data ks Waveform p refl a m
+step-means (Waveform l) p ks m a = with-data ks (Waveform l) p refl a m
 
 -- so the phase that allowed kinds lead to means what it says of all kinds so far
 phase-means : (p : Phase) (before ks : List Kind) → Means p before → AllowedFrom p ks → Means (phaseFrom p ks) (before ++ ks)
@@ -202,7 +202,7 @@ only-close-closes Close p o e = refl
 only-close-closes Text p o e = absurd (true≢false (sym e ∙ o))
 only-close-closes Acquisition p o e = absurd (true≢false (sym e ∙ o))
 only-close-closes Image p o e = absurd (true≢false (sym e ∙ o))
-only-close-closes Waveform p o e = absurd (true≢false (sym e ∙ o))
+only-close-closes (Waveform l) p o e = absurd (true≢false (sym e ∙ o))
 
 closed-ends : (p : Phase) (ks : List Kind) → AllowedFrom p ks → isClosed p ≡ false → isClosed (phaseFrom p ks) ≡ true → EndsInClose ks
 closed-ends p [] a o e = absurd (true≢false (sym e ∙ o))

@@ -8,6 +8,7 @@ use mathlib.Core.Bool.{Bool, true, false}
 use mathlib.Core.List.{List, [], _∷_, _++_}
 use lib.ListN.{length}
 use Rattle.mrd_format.specs.declared.kind.Kind.{Kind}
+use Rattle.mrd_format.specs.declared.rules.Rules.{Rules}
 use Rattle.mrd_format.specs.Kinds.{identified}
 use Rattle.mrd_format.specs.Message.{idAt, WellFormed}
 use Rattle.mrd_cursor.specs.declared.cursor.Cursor.{Cursor}
@@ -27,31 +28,31 @@ use Rattle.mrd_cut.specs.Walked.{refused-not-accepted, Stops, met, piece
 
 -- the fault f where the walk stands at c, after messages of the kinds ks, with t left: 'the stream ends without a close', or the first check
 -- that refuses the message at the front of t
-abbrev pub FaultAt : ℕ → Cursor → List Kind → List ℕ → Type 0
-FaultAt f c ks [] = (f ≡ 13) × Lacks close ks
-FaultAt f c ks (b ∷ t) = FirstFault f (checksAs (identified (idAt (b ∷ t))) c (b ∷ t))
+abbrev pub FaultAt : Rules → ℕ → Cursor → List Kind → List ℕ → Type 0
+FaultAt rules f c ks [] = (f ≡ 13) × Lacks close ks
+FaultAt rules f c ks (b ∷ t) = FirstFault f (checksAs (identified rules (idAt (b ∷ t))) c (b ∷ t))
 
 -- after n well-formed messages of s in order, and b bytes, comes the fault f
-pub record RefusedAt (s : List ℕ) (f n b : ℕ) : Type 0 where
+pub record RefusedAt (rules : Rules) (s : List ℕ) (f n b : ℕ) : Type 0 where
   pub pieces : List (List ℕ)
-  pub well : Every WellFormed pieces
+  pub well : Every (WellFormed rules) pieces
   pub rest : List ℕ
   pub whole : joined pieces ++ rest ≡ s
   pub number : length pieces ≡ n
   pub byte : length (joined pieces) ≡ b
   pub few : length pieces ≤ maxMessages
-  pub ordered : InOrder (kindsIn pieces well)
-  pub fault : FaultAt f (cursorAfter pieces well) (kindsIn pieces well) rest
+  pub ordered : InOrder (kindsIn rules pieces well)
+  pub fault : FaultAt rules f (cursorAfter rules pieces well) (kindsIn rules pieces well) rest
 
 -- the walk stops at c with a refusal exactly where it stands at the fault
-module _ (c : Cursor) (ks : List Kind) where
+module _ (rules : Rules) (c : Cursor) (ks : List Kind) where
   ended-refused : (closed : Bool) {f n b : ℕ} → endedAs closed c ≡ refused f n b →
       (c .number ≡ n) × (c .start ≡ b) × (f ≡ 13) × (closed ≡ false)
   ended-refused true e = absurd (refused-not-accepted (sym e))
   ended-refused false e = (cc, cc, cc, refl)
 
-  stops-fault : (rest : List ℕ) (f n b : ℕ) → (isClosed (c .phase) ≡ false → Lacks close ks) → Stops c rest (refused f n b) →
-      (c .number ≡ n) × (c .start ≡ b) × FaultAt f c ks rest
+  stops-fault : (rest : List ℕ) (f n b : ℕ) → (isClosed (c .phase) ≡ false → Lacks close ks) → Stops rules c rest (refused f n b) →
+      (c .number ≡ n) × (c .start ≡ b) × FaultAt rules f c ks rest
   unfolding ended
   stops-fault [] f n b l e = let r = ended-refused (isClosed (c .phase)) (sym e) in (r .0, r .1, (r .2, l (r .3)))
   stops-fault (x ∷ t) f n b l s =
@@ -59,19 +60,19 @@ module _ (c : Cursor) (ks : List Kind) where
       let same : f ≡ s .0 = cc in
       (cc, cc, rw same (s .1))
 
-  fault-stops : (rest : List ℕ) (f : ℕ) → (Lacks close ks → isClosed (c .phase) ≡ false) → FaultAt f c ks rest →
-      verdict (walk rest 0 c) ≡ refused f (c .number) (c .start)
+  fault-stops : (rest : List ℕ) (f : ℕ) → (Lacks close ks → isClosed (c .phase) ≡ false) → FaultAt rules f c ks rest →
+      verdict (walk rules rest 0 c) ≡ refused f (c .number) (c .start)
   unfolding ended
   fault-stops [] f l a = rw (walk-end, l (a .1), a .0)
-  fault-stops (x ∷ t) f l a = ap verdict (walk-fault x t c (faulty-judge c (x ∷ t) a))
+  fault-stops (x ∷ t) f l a = ap verdict (walk-fault rules x t c (faulty-judge rules c (x ∷ t) a))
 
 -- a refused stream has that fault, and nothing before it has one
-pub refused-why : (s : List ℕ) (f n b : ℕ) → answer s ≡ refused f n b → RefusedAt s f n b
-refused-why s f n b e =
-    let m = met s in
-    let ms = piecesOf (trace s) in
-    let ks = kindsIn ms (m .well) in
-    let stop = stops-fault (cursorAfter ms (m .well)) ks (m .rest) f n b (open-iff-lacks-close ks (m .ordered) .0) (rw e at (m .stops)) in
+pub refused-why : (rules : Rules) (s : List ℕ) (f n b : ℕ) → answer rules s ≡ refused f n b → RefusedAt rules s f n b
+refused-why rules s f n b e =
+    let m = met rules s in
+    let ms = piecesOf (trace rules s) in
+    let ks = kindsIn rules ms (m .well) in
+    let stop = stops-fault rules (cursorAfter rules ms (m .well)) ks (m .rest) f n b (open-iff-lacks-close ks (m .ordered) .0) (rw e at (m .stops)) in
     record {
       pieces = ms;
       well = m .well;
@@ -85,13 +86,13 @@ refused-why s f n b e =
     }
 
 -- a stream with that fault is refused so
-pub fault-refused : (s : List ℕ) (f n b : ℕ) → RefusedAt s f n b → answer s ≡ refused f n b
-fault-refused s f n b r =
-    let ks = kindsIn (r .pieces) (r .well) in
-    let c = cursorAfter (r .pieces) (r .well) in
-    let stop = fault-stops c ks (r .rest) f (open-iff-lacks-close ks (r .ordered) .1) (r .fault) in
-    cc (stop, answer-after (r .pieces) (r .well) (r .rest) (r .ordered) (r .few))
+pub fault-refused : {rules : Rules} (s : List ℕ) (f n b : ℕ) → RefusedAt rules s f n b → answer rules s ≡ refused f n b
+fault-refused {rules} s f n b r =
+    let ks = kindsIn rules (r .pieces) (r .well) in
+    let c = cursorAfter rules (r .pieces) (r .well) in
+    let stop = fault-stops rules c ks (r .rest) f (open-iff-lacks-close ks (r .ordered) .1) (r .fault) in
+    cc (stop, answer-after rules (r .pieces) (r .well) (r .rest) (r .ordered) (r .few))
 
 -- 'the first faulty message decides'
-pub refused-iff : (s : List ℕ) (f n b : ℕ) → (answer s ≡ refused f n b) ↔ RefusedAt s f n b
-refused-iff s f n b = (refused-why s f n b, fault-refused s f n b)
+pub refused-iff : (rules : Rules) (s : List ℕ) (f n b : ℕ) → (answer rules s ≡ refused f n b) ↔ RefusedAt rules s f n b
+refused-iff rules s f n b = (refused-why rules s f n b, fault-refused s f n b)

@@ -15,34 +15,35 @@ use Rattle.mrd_stream.specs.Places.{located, yields, over, stepAt, step}
 use Rattle.mrd_cut.specs.Unique.{not-empty}
 use Rattle.mrd_judge.specs.WholeLaws.{well-judge}
 use Rattle.mrd_cut.specs.Walked.{Walks, ends, faults, meets, walks}
+use Rattle.mrd_format.specs.declared.rules.Rules.{Rules}
 
 -- the steps from c on hand out what the trace holds: each message's place and kind, with the cursor of what follows, and last the answer
-abbrev pub Yields : List ℕ → Cursor → Trace → Type 0
-Yields s c (message d k m r) = (d ≡ c) × ((next : Cursor) × (step c s ≡ yields (located c k m) next) × Yields s next r)
-Yields s c (done v) = step c s ≡ over v
+abbrev pub Yields : Rules → List ℕ → Cursor → Trace → Type 0
+Yields rules s c (message d k m r) = (d ≡ c) × ((next : Cursor) × (step rules c s ≡ yields (located c k m) next) × Yields rules s next r)
+Yields rules s c (done v) = step rules c s ≡ over v
 
 -- the step from a cursor that stands after the bytes `before`
-step-after : (c : Cursor) (before t : List ℕ) → length before ≡ c .start → step c (before ++ t) ≡ stepAt c t
+step-after : (rules : Rules) (c : Cursor) (before t : List ℕ) → length before ≡ c .start → step rules c (before ++ t) ≡ stepAt rules c t
 unfolding step
-step-after c before t h = rw (drop-at before t (c .start) h)
+step-after rules c before t h = rw (drop-at before t (c .start) h)
 
 -- the step at a well-formed message that the order and the count allow
-pub step-well : (c : Cursor) (m rest : List ℕ) (w : WellFormed m) → allowed (w .kind) (c .phase) ≡ true → c .number < maxMessages →
-    stepAt c (m ++ rest) ≡ yields (located c (w .kind) m) (after c (w .kind) (length m))
+pub step-well : {rules : Rules} (c : Cursor) (m rest : List ℕ) (w : WellFormed rules m) → allowed (w .kind) (c .phase) ≡ true → c .number < maxMessages →
+    stepAt rules c (m ++ rest) ≡ yields (located c (w .kind) m) (after c (w .kind) (length m))
 unfolding stepAt
 step-well c [] rest w a n = absurd (not-empty [] [] w refl)
 step-well c (b ∷ m) rest w a n = rw (well-judge c (b ∷ m) rest w a n, take-append-seam m rest)
 
 -- the steps of a walk that has passed the bytes `before`
-steps-from : {c : Cursor} {s : List ℕ} {r : Trace} → Walks c s r → (before : List ℕ) → length before ≡ c .start → Yields (before ++ s) c r
+steps-from : {rules : Rules} {c : Cursor} {s : List ℕ} {r : Trace} → Walks rules c s r → (before : List ℕ) → length before ≡ c .start → Yields rules (before ++ s) c r
 unfolding stepAt
-steps-from (ends {c}) before h = step-after c before [] h
-steps-from (faults {c} {b} {t} e) before h = rw (step-after c before (b ∷ t) h, e)
-steps-from (meets {c} {m} {rest} w a n v) before h =
+steps-from {rules} (ends {c}) before h = step-after rules c before [] h
+steps-from {rules} (faults {c} {b} {t} e) before h = rw (step-after rules c before (b ∷ t) h, e)
+steps-from {rules} (meets {c} {m} {rest} w a n v) before h =
     let far : length (before ++ m) ≡ c .start + length m = simp (length-append, h) in
-    let here = step-after c before (m ++ rest) h ∙ step-well c m rest w a n in
+    let here = step-after rules c before (m ++ rest) h ∙ step-well c m rest w a n in
     (refl, (after c (w .kind) (length m), here, rw append-assoc at (steps-from v (before ++ m) far)))
 
 -- the steps from the beginning hand out the messages of the stream's trace in order, and then its answer
-pub steps-follow : (s : List ℕ) → Yields s beginning (trace s)
-steps-follow s = steps-from (walks s) [] refl
+pub steps-follow : (rules : Rules) (s : List ℕ) → Yields rules s beginning (trace rules s)
+steps-follow rules s = steps-from (walks rules s) [] refl

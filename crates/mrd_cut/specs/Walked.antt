@@ -27,45 +27,46 @@ use Rattle.mrd_cut.specs.Cut.{kindsIn, InOrder}
 use Rattle.mrd_cut.specs.OrderRule.{phaseFrom, phaseAfter, AllowedFrom, in-order-iff}
 use Rattle.mrd_cut.specs.Unique.{not-empty}
 use Rattle.mrd_judge.specs.WholeLaws.{WholeAt, judge-whole, judge-faulty, wellFormed, well-judge}
+use Rattle.mrd_format.specs.declared.rules.Rules.{Rules}
 
 -- walking s from c meets r: the end, a fault, or a well-formed message and then the rest
-pub data Walks : Cursor → List ℕ → Trace → Type 0 where
-  ends : {c : Cursor} → Walks c [] (done (ended c))
-  faults : {c : Cursor} {b : ℕ} {t : List ℕ} {f : ℕ} → judge c (b ∷ t) ≡ faulty f →
-      Walks c (b ∷ t) (done (refused f (c .number) (c .start)))
-  meets : {c : Cursor} {m rest : List ℕ} {r : Trace} (w : WellFormed m) → allowed (w .kind) (c .phase) ≡ true →
-      c .number < maxMessages → Walks (after c (w .kind) (length m)) rest r → Walks c (m ++ rest) (message c (w .kind) m r)
+pub data Walks (rules : Rules) : Cursor → List ℕ → Trace → Type 0 where
+  ends : {c : Cursor} → Walks rules c [] (done (ended c))
+  faults : {c : Cursor} {b : ℕ} {t : List ℕ} {f : ℕ} → judge rules c (b ∷ t) ≡ faulty f →
+      Walks rules c (b ∷ t) (done (refused f (c .number) (c .start)))
+  meets : {c : Cursor} {m rest : List ℕ} {r : Trace} (w : WellFormed rules m) → allowed (w .kind) (c .phase) ≡ true →
+      c .number < maxMessages → Walks rules (after c (w .kind) (length m)) rest r → Walks rules c (m ++ rest) (message c (w .kind) m r)
 
 -- at a well-formed message that the order and the count allow, the walk meets it and goes on after it
-pub walk-well : (c : Cursor) (m rest : List ℕ) (w : WellFormed m) → allowed (w .kind) (c .phase) ≡ true → c .number < maxMessages →
-    walk (m ++ rest) 0 c ≡ message c (w .kind) m (walk rest 0 (after c (w .kind) (length m)))
-walk-well c [] rest w a n = absurd (not-empty [] [] w refl)
-walk-well c (b ∷ m) rest w a n =
-    rw (walk-next b (m ++ rest) c (well-judge c (b ∷ m) rest w a n) (omega arith), take-append-seam m rest, drop-append-seam m rest)
+pub walk-well : {rules : Rules} (c : Cursor) (m rest : List ℕ) (w : WellFormed rules m) → allowed (w .kind) (c .phase) ≡ true → c .number < maxMessages →
+    walk rules (m ++ rest) 0 c ≡ message c (w .kind) m (walk rules rest 0 (after c (w .kind) (length m)))
+walk-well {rules} c [] rest w a n = absurd (not-empty [] [] w refl)
+walk-well {rules} c (b ∷ m) rest w a n =
+    rw (walk-next rules b (m ++ rest) c (well-judge c (b ∷ m) rest w a n) (omega arith), take-append-seam m rest, drop-append-seam m rest)
 
 -- every walk is one of these; n bounds the bytes left
-walks-within : (n : ℕ) (s : List ℕ) (c : Cursor) → length s ≤ n → Walks c s (walk s 0 c)
-walks-within zero [] c h = rw walk-end ends
-walks-within (suc n) [] c h = rw walk-end ends
-walks-within zero (b ∷ t) c h = absurd (not-suc-le-zero h)
-walks-within (suc n) (b ∷ t) c h = by-judgement (λ s d l. walks-within n s d l) (judge c (b ∷ t)) refl
+walks-within : (rules : Rules) (n : ℕ) (s : List ℕ) (c : Cursor) → length s ≤ n → Walks rules c s (walk rules s 0 c)
+walks-within rules zero [] c h = rw walk-end ends
+walks-within rules (suc n) [] c h = rw walk-end ends
+walks-within rules zero (b ∷ t) c h = absurd (not-suc-le-zero h)
+walks-within rules (suc n) (b ∷ t) c h = by-judgement (λ s d l. walks-within rules n s d l) (judge rules c (b ∷ t)) refl
   where
-    by-judgement : ((s : List ℕ) (d : Cursor) → length s ≤ n → Walks d s (walk s 0 d)) → (j : Judged) → judge c (b ∷ t) ≡ j →
-        Walks c (b ∷ t) (walk (b ∷ t) 0 c)
-    by-judgement shorter (faulty f) e = rw (walk-fault b t c e) (faults e)
+    by-judgement : ((s : List ℕ) (d : Cursor) → length s ≤ n → Walks rules d s (walk rules s 0 d)) → (j : Judged) → judge rules c (b ∷ t) ≡ j →
+        Walks rules c (b ∷ t) (walk rules (b ∷ t) 0 c)
+    by-judgement shorter (faulty f) e = rw (walk-fault rules b t c e) (faults e)
     by-judgement shorter (whole k z) e =
-        let here : WholeAt c (b ∷ t) k z = judge-whole c (b ∷ t) e in
-        let w : WellFormed (take z (b ∷ t)) = wellFormed c (b ∷ t) here in
+        let here : WholeAt rules c (b ∷ t) k z = judge-whole rules c (b ∷ t) e in
+        let w : WellFormed rules (take z (b ∷ t)) = wellFormed c (b ∷ t) here in
         let less : length (drop z (b ∷ t)) ≤ n = simp length-drop (omega (arith, size-least k (fixedPart k (b ∷ t)))) in
         let later = shorter (drop z (b ∷ t)) (after c k (length (take z (b ∷ t)))) less in
         let next = walk-well c (take z (b ∷ t)) (drop z (b ∷ t)) w (here .ordered) (here .counted) in
         let met = rw (← next) at (meets w (here .ordered) (here .counted) later) in
-        subst (λ (s : List ℕ). Walks c s (walk s 0 c)) (take-append-drop z (b ∷ t)) met
+        subst (λ (s : List ℕ). Walks rules c s (walk rules s 0 c)) (take-append-drop z (b ∷ t)) met
 
 -- the walk of a stream
-pub walks : (s : List ℕ) → Walks beginning s (trace s)
+pub walks : (rules : Rules) (s : List ℕ) → Walks rules beginning s (trace rules s)
 unfolding trace
-walks s = walks-within (length s) s beginning (le-refl (length s))
+walks rules s = walks-within rules (length s) s beginning (le-refl (length s))
 
 -- an answer is one or the other
 pub refused-not-accepted : {f r b n : ℕ} → refused f r b ≡ accepted n → ⊥
@@ -77,109 +78,109 @@ piecesOf (message c k m r) = m ∷ piecesOf r
 piecesOf (done v) = []
 
 -- where a walk from c stands after well-formed messages
-abbrev pub cursorPast : Cursor → (ms : List (List ℕ)) → Every WellFormed ms → Cursor
-cursorPast c ms w =
-    record { number = c .number + length ms; start = c .start + length (joined ms); phase = phaseFrom (c .phase) (kindsIn ms w) }
+abbrev pub cursorPast : (rules : Rules) → Cursor → (ms : List (List ℕ)) → Every (WellFormed rules) ms → Cursor
+cursorPast rules c ms w =
+    record { number = c .number + length ms; start = c .start + length (joined ms); phase = phaseFrom (c .phase) (kindsIn rules ms w) }
 
 -- a walk that stands at c with t left gives the answer v: t is empty, or its first message has a fault
-abbrev pub Stops : Cursor → List ℕ → Verdict → Type 0
-Stops c [] v = v ≡ ended c
-Stops c (b ∷ t) v =
-    (f : ℕ) × FirstFault f (checksAs (identified (idAt (b ∷ t))) c (b ∷ t)) × (v ≡ refused f (c .number) (c .start))
+abbrev pub Stops : Rules → Cursor → List ℕ → Verdict → Type 0
+Stops rules c [] v = v ≡ ended c
+Stops rules c (b ∷ t) v =
+    (f : ℕ) × FirstFault f (checksAs (identified rules (idAt (b ∷ t))) c (b ∷ t)) × (v ≡ refused f (c .number) (c .start))
 
 -- the messages that a walk over s from c met: they are well formed, allowed, and not too many; after them the walk stops
-pub record Walked (c : Cursor) (s : List ℕ) (r : Trace) : Type 0 where
-  pub well : Every WellFormed (piecesOf r)
+pub record Walked (rules : Rules) (c : Cursor) (s : List ℕ) (r : Trace) : Type 0 where
+  pub well : Every (WellFormed rules) (piecesOf r)
   pub rest : List ℕ
   pub whole : joined (piecesOf r) ++ rest ≡ s
-  pub ordered : AllowedFrom (c .phase) (kindsIn (piecesOf r) well)
+  pub ordered : AllowedFrom (c .phase) (kindsIn rules (piecesOf r) well)
   pub counted : c .number ≤ maxMessages → c .number + length (piecesOf r) ≤ maxMessages
-  pub stops : Stops (cursorPast c (piecesOf r) well) rest (verdict r)
+  pub stops : Stops rules (cursorPast rules c (piecesOf r) well) rest (verdict r)
 
 -- after no message the walk stands where it stood; after one more, where the next message is due
-at-none : (c : Cursor) → cursorPast c [] tt ≡ c
-at-none c = λ i. record { number = add-zero (c .number) i; start = add-zero (c .start) i; phase = c .phase }
+at-none : (rules : Rules) (c : Cursor) → cursorPast rules c [] tt ≡ c
+at-none rules c = λ i. record { number = add-zero (c .number) i; start = add-zero (c .start) i; phase = c .phase }
 
-at-next : (c : Cursor) (m : List ℕ) (ms : List (List ℕ)) (w : Every WellFormed (m ∷ ms)) →
-    cursorPast (after c (w .0 .kind) (length m)) ms (w .1) ≡ cursorPast c (m ∷ ms) w
-at-next c m ms w =
+at-next : (rules : Rules) (c : Cursor) (m : List ℕ) (ms : List (List ℕ)) (w : Every (WellFormed rules) (m ∷ ms)) →
+    cursorPast rules (after c (w .0 .kind) (length m)) ms (w .1) ≡ cursorPast rules c (m ∷ ms) w
+at-next rules c m ms w =
     let n : c .number + 1 + length ms ≡ c .number + suc (length ms) = omega arith in
     let s : c .start + length m + length (joined ms) ≡ c .start + length (m ++ joined ms) = simp length-append (omega arith) in
-    λ i. record { number = n i; start = s i; phase = phaseFrom (c .phase) (kindsIn (m ∷ ms) w) }
+    λ i. record { number = n i; start = s i; phase = phaseFrom (c .phase) (kindsIn rules (m ∷ ms) w) }
 
 -- a walk that stops at once
-stopped : (c : Cursor) (t : List ℕ) (v : Verdict) → Stops c t v → Walked c t (done v)
-stopped c t v h =
+stopped : (rules : Rules) (c : Cursor) (t : List ℕ) (v : Verdict) → Stops rules c t v → Walked rules c t (done v)
+stopped rules c t v h =
     record {
       well = tt;
       rest = t;
       whole = refl;
       ordered = tt;
       counted = λ h. omega arith;
-      stops = subst (λ (d : Cursor). Stops d t v) (sym (at-none c)) h;
+      stops = subst (λ (d : Cursor). Stops rules d t v) (sym (at-none rules c)) h;
     }
 
 -- this holds of every walk
-pub walked : {c : Cursor} {s : List ℕ} {r : Trace} → Walks c s r → Walked c s r
-walked (ends {c}) = stopped c [] (ended c) refl
-walked (faults {c} {b} {t} {f} e) = stopped c (b ∷ t) (refused f (c .number) (c .start)) (f, judge-faulty c (b ∷ t) e, refl)
-walked (meets {c} {m} {rest} {r} w a n v) =
+pub walked : {rules : Rules} {c : Cursor} {s : List ℕ} {r : Trace} → Walks rules c s r → Walked rules c s r
+walked {rules} (ends {c}) = stopped rules c [] (ended c) refl
+walked {rules} (faults {c} {b} {t} {f} e) = stopped rules c (b ∷ t) (refused f (c .number) (c .start)) (f, judge-faulty rules c (b ∷ t) e, refl)
+walked {rules} (meets {c} {m} {rest} {r} w a n v) =
     let later = walked v in
-    let all : Every WellFormed (m ∷ piecesOf r) = (w, later .well) in
+    let all : Every (WellFormed rules) (m ∷ piecesOf r) = (w, later .well) in
     record {
       well = all;
       rest = later .rest;
       whole = append-assoc m (joined (piecesOf r)) (later .rest) ∙ ap (λ (l : List ℕ). m ++ l) (later .whole);
       ordered = (a, later .ordered);
       counted = λ h. omega (arith, later .counted (omega arith));
-      stops = rw (← at-next c m (piecesOf r) all) (later .stops);
+      stops = rw (← at-next rules c m (piecesOf r) all) (later .stops);
     }
 
 -- where the walk of a stream stands after well-formed messages: their number, their bytes, and the phase that their kinds lead to
-abbrev pub cursorAfter : (ms : List (List ℕ)) → Every WellFormed ms → Cursor
-cursorAfter ms w = record { number = length ms; start = length (joined ms); phase = phaseAfter (kindsIn ms w) }
+abbrev pub cursorAfter : (rules : Rules) (ms : List (List ℕ)) → Every (WellFormed rules) ms → Cursor
+cursorAfter rules ms w = record { number = length ms; start = length (joined ms); phase = phaseAfter (kindsIn rules ms w) }
 
 -- from the beginning on
-pub at-beginning : (ms : List (List ℕ)) (w : Every WellFormed ms) → cursorPast beginning ms w ≡ cursorAfter ms w
-at-beginning ms w =
-    λ i. record { number = zero-add (length ms) i; start = zero-add (length (joined ms)) i; phase = phaseAfter (kindsIn ms w) }
+pub at-beginning : (rules : Rules) (ms : List (List ℕ)) (w : Every (WellFormed rules) ms) → cursorPast rules beginning ms w ≡ cursorAfter rules ms w
+at-beginning rules ms w =
+    λ i. record { number = zero-add (length ms) i; start = zero-add (length (joined ms)) i; phase = phaseAfter (kindsIn rules ms w) }
 
 -- the messages that the walk of s met: they are well formed, in order, and not too many; after them the walk stops with the answer
-pub record Met (s : List ℕ) : Type 0 where
-  pub well : Every WellFormed (piecesOf (trace s))
+pub record Met (rules : Rules) (s : List ℕ) : Type 0 where
+  pub well : Every (WellFormed rules) (piecesOf (trace rules s))
   pub rest : List ℕ
-  pub whole : joined (piecesOf (trace s)) ++ rest ≡ s
-  pub ordered : InOrder (kindsIn (piecesOf (trace s)) well)
-  pub few : length (piecesOf (trace s)) ≤ maxMessages
-  pub stops : Stops (cursorAfter (piecesOf (trace s)) well) rest (answer s)
+  pub whole : joined (piecesOf (trace rules s)) ++ rest ≡ s
+  pub ordered : InOrder (kindsIn rules (piecesOf (trace rules s)) well)
+  pub few : length (piecesOf (trace rules s)) ≤ maxMessages
+  pub stops : Stops rules (cursorAfter rules (piecesOf (trace rules s)) well) rest (answer rules s)
 
 -- this holds of every stream
-pub met : (s : List ℕ) → Met s
+pub met : (rules : Rules) (s : List ℕ) → Met rules s
 unfolding answer
-met s =
-    let r = walked (walks s) in
-    let ms = piecesOf (trace s) in
+met rules s =
+    let r = walked (walks rules s) in
+    let ms = piecesOf (trace rules s) in
     record {
       well = r .well;
       rest = r .rest;
       whole = r .whole;
-      ordered = in-order-iff (kindsIn ms (r .well)) .0 (r .ordered);
+      ordered = in-order-iff (kindsIn rules ms (r .well)) .0 (r .ordered);
       few = omega (arith, r .counted (omega arith));
-      stops = subst (λ (d : Cursor). Stops d (r .rest) (verdict (trace s))) (at-beginning ms (r .well)) (r .stops);
+      stops = subst (λ (d : Cursor). Stops rules d (r .rest) (verdict (trace rules s))) (at-beginning rules ms (r .well)) (r .stops);
     }
 
 -- well-formed messages, allowed and not too many, are walked over, whatever follows them
-pub walk-pieces : (ms : List (List ℕ)) (w : Every WellFormed ms) (c : Cursor) (rest : List ℕ) → AllowedFrom (c .phase) (kindsIn ms w) →
-    c .number + length ms ≤ maxMessages → verdict (walk (joined ms ++ rest) 0 c) ≡ verdict (walk rest 0 (cursorPast c ms w))
-walk-pieces [] w c rest a n = ap (λ (d : Cursor). verdict (walk rest 0 d)) (sym (at-none c))
-walk-pieces (m ∷ ms) w c rest a n =
-    rw (append-assoc, walk-well c m (joined ms ++ rest) (w .0) (a .0) (omega arith), ← at-next c m ms w)
-    (walk-pieces ms (w .1) (after c (w .0 .kind) (length m)) rest (a .1) (omega arith))
+pub walk-pieces : (rules : Rules) (ms : List (List ℕ)) (w : Every (WellFormed rules) ms) (c : Cursor) (rest : List ℕ) → AllowedFrom (c .phase) (kindsIn rules ms w) →
+    c .number + length ms ≤ maxMessages → verdict (walk rules (joined ms ++ rest) 0 c) ≡ verdict (walk rules rest 0 (cursorPast rules c ms w))
+walk-pieces rules [] w c rest a n = ap (λ (d : Cursor). verdict (walk rules rest 0 d)) (sym (at-none rules c))
+walk-pieces rules (m ∷ ms) w c rest a n =
+    rw (append-assoc, walk-well c m (joined ms ++ rest) (w .0) (a .0) (omega arith), ← at-next rules c m ms w)
+    (walk-pieces rules ms (w .1) (after c (w .0 .kind) (length m)) rest (a .1) (omega arith))
 
 -- the answer about well-formed messages in order, not too many, and what follows them: that of the walk from there on
-pub answer-after : (ms : List (List ℕ)) (w : Every WellFormed ms) (rest : List ℕ) → InOrder (kindsIn ms w) → length ms ≤ maxMessages →
-    answer (joined ms ++ rest) ≡ verdict (walk rest 0 (cursorAfter ms w))
+pub answer-after : (rules : Rules) (ms : List (List ℕ)) (w : Every (WellFormed rules) ms) (rest : List ℕ) → InOrder (kindsIn rules ms w) → length ms ≤ maxMessages →
+    answer rules (joined ms ++ rest) ≡ verdict (walk rules rest 0 (cursorAfter rules ms w))
 unfolding answer trace
-answer-after ms w rest o n =
-    walk-pieces ms w beginning rest (in-order-iff (kindsIn ms w) .1 o) (omega arith) ∙
-    ap (λ (c : Cursor). verdict (walk rest 0 c)) (at-beginning ms w)
+answer-after rules ms w rest o n =
+    walk-pieces rules ms w beginning rest (in-order-iff (kindsIn rules ms w) .1 o) (omega arith) ∙
+    ap (λ (c : Cursor). verdict (walk rules rest 0 c)) (at-beginning rules ms w)

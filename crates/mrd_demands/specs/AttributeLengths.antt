@@ -16,22 +16,15 @@ use Rattle.mrd_format.specs.Message.{fixedPart, sizeOf, WellFormed}
 use Rattle.mrd_format.specs.MessageLaws.{num-fixed, well-least}
 use Rattle.mrd_format.specs.ImageLaws.{restated-long, restated-id, restated-size, restated-sound, restated-record, restated-normal}
 use Rattle.mrd_stream.specs.Walk.{answer}
-use Rattle.mrd_stream.specs.Normal.{normal}
 use Rattle.mrd_stream.specs.Places.{Located, place}
 use Rattle.mrd_cut.specs.CutPlaces.{partAt}
 use Rattle.mrd_cut.specs.Inside.{place-inside}
-use Rattle.mrd_demands.specs.Records.{records}
-use Rattle.mrd_demands.specs.Replaced.{replaced-accepted, replaced-records, replaced-normal}
-
--- t is accepted as s is, with the same records and the same normal form
-pub record SameMeaning (s t : List ℕ) (n : ℕ) : Type 0 where
-  pub accepted-too : answer t ≡ accepted n
-  pub same-records : records t ≡ records s
-  pub same-normal : normal t ≡ normal s
+use Rattle.mrd_demands.specs.Replaced.{SameMeaning, replaced-same}
+use Rattle.mrd_format.specs.declared.rules.Rules.{Rules}
 
 -- an image's message with 0 or the true length in its header is well formed
-abbrev restated-well : (m w : List ℕ) → length w ≡ 4 → (f : WellFormed m) → f .kind ≡ Image →
-    (num 4 w 0 ≡ 0) ⊎ (num 4 w 0 ≡ attributeLength (fixedPart Image m)) → 208 ≤ length m → WellFormed (stored 196 w m)
+abbrev restated-well : {rules : Rules} (m w : List ℕ) → length w ≡ 4 → (f : WellFormed rules m) → f .kind ≡ Image →
+    (num 4 w 0 ≡ 0) ⊎ (num 4 w 0 ≡ attributeLength (fixedPart Image m)) → 208 ≤ length m → WellFormed rules (stored 196 w m)
 restated-well m w size f e may long = record {
   kind = Image;
   known = rw (restated-id m w size long) (rw e at (f .known));
@@ -41,29 +34,26 @@ restated-well m w size f e may long = record {
 }
 
 -- the true length, where it stands in the stream
-length-there : (s : List ℕ) (i : ℕ) {l : Located} → place s i ≡ answered l → 208 ≤ length (partAt s l) →
+length-there : (rules : Rules) (s : List ℕ) (i : ℕ) {l : Located} → place rules s i ≡ answered l → 208 ≤ length (partAt s l) →
     attributeLength (fixedPart Image (partAt s l)) ≡ num 8 s (l .start + 200)
-length-there s i {l} p long =
-    let within : 208 ≤ l .size = omega (arith, place-inside s i p .long) in
+length-there rules s i {l} p long =
+    let within : 208 ≤ l .size = omega (arith, place-inside rules s i p .long) in
     num-fixed Image (partAt s l) 8 198 (omega arith) ∙ num-take 8 (l .size) (drop (l .start) s) 200 within ∙ num-drop 8 (l .start) s 200
 
 -- other bytes w in the place of an image header's attribute length
-pub either-number : (s : List ℕ) {n : ℕ} → answer s ≡ accepted n → (i : ℕ) {l : Located} → place s i ≡ answered l → l .kind ≡ Image →
-    (w : List ℕ) → length w ≡ 4 → (num 4 w 0 ≡ 0) ⊎ (num 4 w 0 ≡ num 8 s (l .start + 200)) → SameMeaning s (stored (l .start + 196) w s) n
-either-number s e i {l} p k w size may =
-    let it = place-inside s i p in
+pub either-number : (rules : Rules) (s : List ℕ) {n : ℕ} → answer rules s ≡ accepted n → (i : ℕ) {l : Located} → place rules s i ≡ answered l → l .kind ≡ Image →
+    (w : List ℕ) → length w ≡ 4 → (num 4 w 0 ≡ 0) ⊎ (num 4 w 0 ≡ num 8 s (l .start + 200)) → SameMeaning rules s (stored (l .start + 196) w s) n
+either-number rules s e i {l} p k w size may =
+    let it = place-inside rules s i p in
     let m = partAt s l in
     let is : it .well .kind ≡ Image = it .kind ∙ k in
     let long : 208 ≤ length m = rw is at (well-least m (it .well)) in
-    let true-length = length-there s i p long in
+    let true-length = length-there rules s i p long in
     let may-stand = ⊎-elim (λ z. inl z) (λ a. inr (a ∙ sym true-length)) may in
     let well = restated-well m w size (it .well) is may-stand long in
     let id = restated-id m w size long in
     let fits : 196 + length w ≤ length m = omega (arith, size, long) in
     let whole : sizeOf Image (fixedPart Image m) ≡ length m = rw is at (it .well .whole) in
-    let kind-of : (u : WellFormed m) → u .kind ≡ Image = λ u. cc (u .known, it .well .known, is) in
-    record {
-      accepted-too = replaced-accepted s e i p 196 w fits well id;
-      same-records = replaced-records s e i p 196 w fits well id (λ u. rw (kind-of u) (restated-record m w size long));
-      same-normal = replaced-normal s e i p 196 w fits well id (λ u. rw (kind-of u) (restated-normal m w size whole long));
-    }
+    let kind-of : (u : WellFormed rules m) → u .kind ≡ Image = λ u. cc (u .known, it .well .known, is) in
+    replaced-same s e i p 196 w fits well id (λ u. rw (kind-of u) (restated-record m w size long))
+    (λ u. rw (kind-of u) (restated-normal m w size whole long))

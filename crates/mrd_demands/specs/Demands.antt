@@ -13,9 +13,13 @@ use Rattle.mrd_logic.specs.Lists.{Nth}
 use Rattle.mrd_logic.specs.Answer.{accepted, refused, Answer, answered, number, andThen}
 use Rattle.mrd_format.specs.Parts.{Parts, Contents}
 use Rattle.mrd_format.specs.Content.{Record, bytesOf}
-use Rattle.mrd_format.specs.declared.kind.Kind.the-variants.{Acquisition, Image}
+use Rattle.mrd_format.specs.declared.kind.Kind.the-variants.{Acquisition, Image, Waveform}
+use Rattle.mrd_format.specs.declared.rules.Layout.{Layout}
+use Rattle.mrd_format.specs.declared.rules.Layout.the-variants.{Aligned}
 use Rattle.mrd_format.specs.Acquisition as acquisition
 use Rattle.mrd_format.specs.Image as image
+use Rattle.mrd_format.specs.Waveform as waveform
+use Rattle.mrd_format.specs.HeaderLaws.{SameFields}
 use Rattle.mrd_format.specs.Message.{numbersOf}
 use Rattle.mrd_cursor.specs.declared.cursor.Cursor.{Cursor}
 use Rattle.mrd_cursor.specs.Cursors.{beginning}
@@ -39,6 +43,8 @@ use Rattle.mrd_index_match.specs.Compare.{fileMatch, columnsMatch}
 use Rattle.mrd_index_match.specs.Exactly.{Held}
 use Rattle.mrd_index_cursor.specs.IndexCursor.{cursorFor}
 use Rattle.mrd_index_cursor.specs.Indexed.{AtRecord, believed-cursor}
+use Rattle.mrd_element.specs.ElementLaws.{filler}
+use Rattle.mrd_fields.specs.Fields.{fieldOf}
 use Rattle.mrd_ask.specs.declared.question.Question.{Question}
 use Rattle.mrd_ask.specs.Questions.{askOf}
 use Rattle.mrd_ask.specs.Shown.{SpanIn}
@@ -47,7 +53,7 @@ use Rattle.mrd_ask.specs.Belief.{Believed}
 use Rattle.mrd_ask.specs.BeliefLaws.{ask-believed}
 use Rattle.mrd_writer.specs.Write.{writeAnswer, writeOutput}
 use Rattle.mrd_writer.specs.WriteLaws.{never-9}
-use Rattle.mrd_writer.specs.HeaderNumber.{given, number-disregarded}
+use Rattle.mrd_writer.specs.Disregarded.{given, WrittenAlike, number-disregarded, filler-disregarded}
 use Rattle.mrd_writer.specs.ReadBack.{ReadsBack}
 use Rattle.mrd_writer.specs.ReadBack as writer
 use Rattle.mrd_demands.specs.Refusals.{Refusal, output-kept, written-kept}
@@ -56,9 +62,11 @@ use Rattle.mrd_demands.specs.RecordViews as views
 use Rattle.mrd_demands.specs.Messages.{recordsIn}
 use Rattle.mrd_demands.specs.Told.{numbers-told}
 use Rattle.mrd_demands.specs.Masks as masks
-use Rattle.mrd_demands.specs.AttributeLengths.{SameMeaning}
+use Rattle.mrd_demands.specs.Replaced.{SameMeaning}
 use Rattle.mrd_demands.specs.AttributeLengths as attribute-lengths
+use Rattle.mrd_demands.specs.Layouts as layouts
 use Rattle.mrd_demands.specs.NormalStreams.{accepted-again, normal-long, normal-records, normal-own, normal-written, records-cut}
+use Rattle.mrd_format.specs.declared.rules.Rules.{Rules}
 
 -- Demand 1: a refusal changes no output byte
 
@@ -67,130 +75,160 @@ pub refusal-keeps-output : (a : Answer ℕ) → Refusal a → (w o : List ℕ) �
 refusal-keeps-output = output-kept
 
 -- or a message
-pub refused-message-keeps-output : (id : ℕ) (c : Contents) (at : ℕ) (o : List ℕ) → Refusal (writeAnswer id c at o) → writeOutput id c at o ≡ o
+pub refused-message-keeps-output : (rules : Rules) (id : ℕ) (c : Contents) (at : ℕ) (o : List ℕ) → Refusal (writeAnswer rules id c at o) → writeOutput rules id c at o ≡ o
 refused-message-keeps-output = written-kept
 
 -- Demand 2: reading and writing follow the rules
 
 -- a stream is accepted, with the count n, exactly when it has a cut into n well-formed messages, at most 1,000,000, in order, the last a close
-pub accepted-exactly : (s : List ℕ) (n : ℕ) → (answer s ≡ accepted n) ↔ ((a : Acceptable s) × (length (a .cut .pieces) ≡ n))
+pub accepted-exactly : (rules : Rules) (s : List ℕ) (n : ℕ) → (answer rules s ≡ accepted n) ↔ ((a : Acceptable rules s) × (length (a .cut .pieces) ≡ n))
 accepted-exactly = accepted-iff
 
 -- a stream is refused with f, at record n and byte b, exactly when after n well-formed messages in order, of b bytes, comes the fault f: the
 -- first check that refuses the message there, or 13 where the stream ends without a close
-pub refused-exactly : (s : List ℕ) (f n b : ℕ) → (answer s ≡ refused f n b) ↔ RefusedAt s f n b
+pub refused-exactly : (rules : Rules) (s : List ℕ) (f n b : ℕ) → (answer rules s ≡ refused f n b) ↔ RefusedAt rules s f n b
 refused-exactly = refused-iff
 
 -- a stream has at most one cut
-pub one-cut : (s : List ℕ) (a b : Cut s) → a .pieces ≡ b .pieces
+pub one-cut : {rules : Rules} (s : List ℕ) (a b : Cut rules s) → a .pieces ≡ b .pieces
 one-cut = cut-unique
 
 -- the places answered for an accepted stream are those of the messages of its only cut, and the count is their number
-pub places-are-the-cut : (s : List ℕ) (n : ℕ) → answer s ≡ accepted n → AnsweredCut s n
+pub places-are-the-cut : (rules : Rules) (s : List ℕ) (n : ℕ) → answer rules s ≡ accepted n → AnsweredCut rules s n
 places-are-the-cut = places-cut
 
 -- the bytes fix the records: the record list of an accepted stream holds the record of each message of its only cut, in order
-pub records-are-the-cut : (s : List ℕ) (n : ℕ) → answer s ≡ accepted n → (c : Cut s) → records s ≡ recordsIn (c .pieces) (c .well)
+pub records-are-the-cut : {rules : Rules} (s : List ℕ) (n : ℕ) → answer rules s ≡ accepted n → (c : Cut rules s) → records rules s ≡ recordsIn rules (c .pieces) (c .well)
 records-are-the-cut s n e c = records-cut s e c
 
 -- from the beginning on, the steps of a walk yield the places and kinds of the stream's messages in order, and then its answer
-pub steps-are-the-messages : (s : List ℕ) → Yields s beginning (trace s)
+pub steps-are-the-messages : (rules : Rules) (s : List ℕ) → Yields rules s beginning (trace rules s)
 steps-are-the-messages = steps.steps-follow
 
 -- where a walk over an accepted stream stands after n steps, the record is record n: so are its views and fields
-pub walk-stands-at-record : (s : List ℕ) {k : ℕ} → answer s ≡ accepted k → (n : ℕ) (c : Cursor) → Reached s beginning n c →
-    placeAt c s ≡ place s n
+pub walk-stands-at-record : (rules : Rules) (s : List ℕ) {k : ℕ} → answer rules s ≡ accepted k → (n : ℕ) (c : Cursor) → Reached rules s beginning n c →
+    placeAt rules c s ≡ place rules s n
 walk-stands-at-record = records-at.walked-place
 
 -- each view of a record is that part of it, and the record is the record list's
-pub views-are-the-records-parts : (s : List ℕ) (n : ℕ) {l : Located} → place s n ≡ answered l →
-    (r : Record) × (Nth (records s) n r × ViewsOf s n r)
+pub views-are-the-records-parts : (rules : Rules) (s : List ℕ) (n : ℕ) {l : Located} → place rules s n ≡ answered l →
+    (r : Record) × (Nth (records rules s) n r × ViewsOf rules s n r)
 views-are-the-records-parts = views.views-are-parts
 
 -- the view of each part of a record's message is at that part's place, and a view of what is no part of it is 17
-pub parts-are-shown : (s : List ℕ) (n : ℕ) {l : Located} → place s n ≡ answered l → EachPart s n l
+pub parts-are-shown : (rules : Rules) (s : List ℕ) (n : ℕ) {l : Located} → place rules s n ≡ answered l → EachPart rules s n l
 parts-are-shown = views.each-part-shown
 
 -- what we write reads back as the same record: where the writer answers, what it left is a well-formed message whose record is that of what was
 -- given, and wherever order and count allow, a walk over any stream that has it there meets it
-pub written-reads-back : (id : ℕ) (c : Contents) (at : ℕ) (o : List ℕ) (p : ℕ) → writeAnswer id c at o ≡ answered p → ReadsBack id c at o p
+pub written-reads-back : (rules : Rules) (id : ℕ) (c : Contents) (at : ℕ) (o : List ℕ) (p : ℕ) → writeAnswer rules id c at o ≡ answered p → ReadsBack rules id c at o p
 written-reads-back = writer.written-reads-back
 
 -- an index is believed exactly when it equals the one the stream itself yields, whatever is asked and in either form
-pub index-believed-exactly : (s : List ℕ) (q : Question) (cs file starts ids counters : List ℕ) →
-    Believed s (file ≡ index s) (askOf s q cs) (andThen (fileMatch s file) (λ _. askOf s q cs)) ×
-    Believed s (Held s starts ids counters) (askOf s q cs) (andThen (columnsMatch s starts ids counters) (λ _. askOf s q cs))
+pub index-believed-exactly : (rules : Rules) (s : List ℕ) (q : Question) (cs file starts ids counters : List ℕ) →
+    Believed rules s (file ≡ index rules s) (askOf rules s q cs) (andThen (fileMatch rules s file) (λ _. askOf rules s q cs)) ×
+    Believed rules s (Held rules s starts ids counters) (askOf rules s q cs) (andThen (columnsMatch rules s starts ids counters) (λ _. askOf rules s q cs))
 index-believed-exactly = ask-believed
 
 -- a view's place that is replied, with no index given or with one in either form, lies in the given stream: so the view is that part of it
-pub replied-views-lie-in-the-stream : (s : List ℕ) (q : Question) (cs file starts ids counters : List ℕ) →
-    SpanIn s (askOf s q cs) × (SpanIn s (andThen (fileMatch s file) (λ _. askOf s q cs)) ×
-    SpanIn s (andThen (columnsMatch s starts ids counters) (λ _. askOf s q cs)))
-replied-views-lie-in-the-stream s q cs f a b c =
-    (asked-fits s q cs, (indexed-fits s (fileMatch s f) q cs, indexed-fits s (columnsMatch s a b c) q cs))
+pub replied-views-lie-in-the-stream : (rules : Rules) (s : List ℕ) (q : Question) (cs file starts ids counters : List ℕ) →
+    SpanIn s (askOf rules s q cs) × (SpanIn s (andThen (fileMatch rules s file) (λ _. askOf rules s q cs)) ×
+    SpanIn s (andThen (columnsMatch rules s starts ids counters) (λ _. askOf rules s q cs)))
+replied-views-lie-in-the-stream rules s q cs f a b c =
+    (asked-fits rules s q cs, (indexed-fits rules s (fileMatch rules s f) q cs, indexed-fits rules s (columnsMatch rules s a b c) q cs))
 
 -- a cursor made from columns that were found to be the stream's own index is at the record with that number: views and fields there are that
 -- record's
-pub believed-index-gives-cursors : (s starts ids counters : List ℕ) → columnsMatch s starts ids counters ≡ answered tt → (n : ℕ) {l : Located} →
-    place s n ≡ answered l → (c : Cursor) × ((cursorFor starts ids n ≡ answered c) × AtRecord s n c)
+pub believed-index-gives-cursors : (rules : Rules) (s starts ids counters : List ℕ) → columnsMatch rules s starts ids counters ≡ answered tt → (n : ℕ) {l : Located} →
+    place rules s n ≡ answered l → (c : Cursor) × ((cursorFor rules starts ids n ≡ answered c) × AtRecord rules s n c)
 believed-index-gives-cursors = believed-cursor
 
 -- Demand 3: one meaning, one set of bytes
 
 -- two accepted streams of bytes have the same normal form exactly when they have the same records
-pub normal-iff-records : (s t : List ℕ) (m n : ℕ) → Bytes s → Bytes t → answer s ≡ accepted m → answer t ≡ accepted n →
-    (normal s ≡ normal t) ↔ (records s ≡ records t)
-normal-iff-records s t m n b c p q = (
-  λ e. sym (normal-records s p) ∙ ap records e ∙ normal-records t q,
-  λ e. sym (normal-written s p b) ∙ ap (λ (rs : List Record). joined (map bytesOf rs)) e ∙ normal-written t q c,
+pub normal-iff-records : (rules : Rules) (s t : List ℕ) (m n : ℕ) → Bytes s → Bytes t → answer rules s ≡ accepted m → answer rules t ≡ accepted n →
+    (normal rules s ≡ normal rules t) ↔ (records rules s ≡ records rules t)
+normal-iff-records rules s t m n b c p q = (
+  λ e. sym (normal-records rules s p) ∙ ap (records rules) e ∙ normal-records rules t q,
+  λ e. sym (normal-written rules s p b) ∙ ap (λ (rs : List Record). joined (map bytesOf rs)) e ∙ normal-written rules t q c,
 )
 
 -- the normal form of a stream accepted with the count n
-pub record NormalForm (s : List ℕ) (n : ℕ) : Type 0 where
-  pub accepted-too : answer (normal s) ≡ accepted n
-  pub same-length : length (normal s) ≡ length s
-  pub same-records : records (normal s) ≡ records s
-  pub its-own : normal (normal s) ≡ normal s
+pub record NormalForm (rules : Rules) (s : List ℕ) (n : ℕ) : Type 0 where
+  pub accepted-too : answer rules (normal rules s) ≡ accepted n
+  pub same-length : length (normal rules s) ≡ length s
+  pub same-records : records rules (normal rules s) ≡ records rules s
+  pub its-own : normal rules (normal rules s) ≡ normal rules s
 
 -- is accepted with that count, has the stream's length and records, and is its own normal form
-pub normal-accepted : (s : List ℕ) (n : ℕ) → answer s ≡ accepted n → NormalForm s n
-normal-accepted s n e =
-    record { accepted-too = accepted-again s e; same-length = normal-long s e; same-records = normal-records s e; its-own = normal-own s e }
+pub normal-accepted : (rules : Rules) (s : List ℕ) (n : ℕ) → answer rules s ≡ accepted n → NormalForm rules s n
+normal-accepted rules s n e =
+    record { accepted-too = accepted-again rules s e; same-length = normal-long rules s e; same-records = normal-records rules s e; its-own = normal-own rules s e }
 
 -- Request E5: stale channel masks
 
 -- no mask is refused: whatever 128 bytes are put in the place of the mask of an acquisition, the stream is accepted as before
-pub any-mask-accepted : (s : List ℕ) (n : ℕ) → answer s ≡ accepted n → (i : ℕ) {l : Located} → place s i ≡ answered l → l .kind ≡ Acquisition →
-    (w : List ℕ) → length w ≡ 128 → answer (stored (l .start + 42) w s) ≡ accepted n
-any-mask-accepted s n = masks.any-mask-accepted s
+pub any-mask-accepted : (rules : Rules) (s : List ℕ) (n : ℕ) → answer rules s ≡ accepted n → (i : ℕ) {l : Located} → place rules s i ≡ answered l → l .kind ≡ Acquisition →
+    (w : List ℕ) → length w ≡ 128 → answer rules (stored (l .start + 42) w s) ≡ accepted n
+any-mask-accepted rules s n = masks.any-mask-accepted rules s
 
 -- an acquisition's kind carries its mask's answer: the numbers that are handed out are `numbers` of the header, the 340 bytes after the id
-pub masks-are-told : (s : List ℕ) (i : ℕ) {l : Located} → place s i ≡ answered l → l .kind ≡ Acquisition →
+pub masks-are-told : (rules : Rules) (s : List ℕ) (i : ℕ) {l : Located} → place rules s i ≡ answered l → l .kind ≡ Acquisition →
     l .numbers ≡ acquisition.numbers (take 340 (drop (l .start + 2) s))
 unfolding numbersOf
-masks-are-told s i p k = rw k at (numbers-told s i p)
+masks-are-told rules s i p k = rw k at (numbers-told rules s i p)
 
 -- Request E1: attribute length left at zero
 
 -- an image's header may hold 0 or the true length, the 8-byte number after it: whichever of the two is put there, the stream is accepted as before,
 -- with the same record list and the same normal form
-pub either-number-means-the-same : (s : List ℕ) (n : ℕ) → answer s ≡ accepted n → (i : ℕ) {l : Located} → place s i ≡ answered l →
+pub either-number-means-the-same : (rules : Rules) (s : List ℕ) (n : ℕ) → answer rules s ≡ accepted n → (i : ℕ) {l : Located} → place rules s i ≡ answered l →
     l .kind ≡ Image → (w : List ℕ) → length w ≡ 4 → (num 4 w 0 ≡ 0) ⊎ (num 4 w 0 ≡ num 8 s (l .start + 200)) →
-    SameMeaning s (stored (l .start + 196) w s) n
-either-number-means-the-same s n = attribute-lengths.either-number s
+    SameMeaning rules s (stored (l .start + 196) w s) n
+either-number-means-the-same rules s n = attribute-lengths.either-number rules s
 
 -- the 8-byte number decides: the numbers that an image's kind carries are `numbers` of the 206 bytes after the id, and go by it
-pub true-lengths-are-told : (s : List ℕ) (i : ℕ) {l : Located} → place s i ≡ answered l → l .kind ≡ Image →
+pub true-lengths-are-told : (rules : Rules) (s : List ℕ) (i : ℕ) {l : Located} → place rules s i ≡ answered l → l .kind ≡ Image →
     l .numbers ≡ image.numbers (take 206 (drop (l .start + 2) s))
 unfolding numbersOf
-true-lengths-are-told s i p k = rw k at (numbers-told s i p)
+true-lengths-are-told rules s i p k = rw k at (numbers-told rules s i p)
 
 -- the writer disregards what a given image header holds there: headers of one length that agree in all bytes before it get the same answer, and the
 -- output is left the same
-pub given-number-disregarded : (g h : List ℕ) (ps : Parts) → length g ≡ length h → take 194 g ≡ take 194 h → (at : ℕ) (o : List ℕ) →
-    (writeAnswer 1022 (given g ps) at o ≡ writeAnswer 1022 (given h ps) at o) × (writeOutput 1022 (given g ps) at o ≡ writeOutput 1022 (given h ps) at o)
-given-number-disregarded = number-disregarded
+pub given-number-disregarded : (rules : Rules) (g h : List ℕ) (ps : Parts) → length g ≡ length h → take 194 g ≡ take 194 h →
+    WrittenAlike rules 1022 (given g ps) (given h ps)
+given-number-disregarded rules g h ps long same = number-disregarded g h ps long same rules
 
 -- and gives no 9
-pub writer-gives-no-9 : (id : ℕ) (c : Contents) (at : ℕ) (o : List ℕ) → writeAnswer id c at o ≡ number 9 → ⊥
+pub writer-gives-no-9 : (rules : Rules) (id : ℕ) (c : Contents) (at : ℕ) (o : List ℕ) → writeAnswer rules id c at o ≡ number 9 → ⊥
 writer-gives-no-9 = never-9
+
+-- Request E3: aligned waveform headers. Every theorem above is one of all rules, and so of either layout; two streams are compared under one
+
+-- the whole stream uses the layout that the caller says
+pub waveforms-have-the-layout : (rules : Rules) (s : List ℕ) (i : ℕ) {l : Located} → place rules s i ≡ answered l → {k : Layout} → l .kind ≡ Waveform k →
+    k ≡ rules .layout
+waveforms-have-the-layout = layouts.layout-said
+
+-- a waveform's kind carries the numbers of its header, by that layout: `numbers` of the 32 or 40 bytes after the id
+pub waveform-numbers-are-told : (rules : Rules) (s : List ℕ) (i : ℕ) {l : Located} → place rules s i ≡ answered l → {k : Layout} → l .kind ≡ Waveform k →
+    l .numbers ≡ waveform.numbers k (take (waveform.headerBytes k) (drop (l .start + 2) s))
+unfolding numbersOf
+waveform-numbers-are-told rules s i p k = rw k at (numbers-told rules s i p)
+
+-- filler is no part of the record: whatever header g is put in the place of a waveform's, so long as it agrees with it in the nine fields, the stream
+-- is accepted as before, with the same record list and the same normal form
+pub filler-means-nothing : (rules : Rules) (s : List ℕ) (n : ℕ) → answer rules s ≡ accepted n → (i : ℕ) {l : Located} → place rules s i ≡ answered l →
+    {k : Layout} → l .kind ≡ Waveform k → (g : List ℕ) → length g ≡ waveform.headerBytes k →
+    SameFields (waveform.cells k) g (take (waveform.headerBytes k) (drop (l .start + 2) s)) → SameMeaning rules s (stored (l .start + 2) g s) n
+filler-means-nothing rules s n = layouts.same-fields rules s
+
+-- the writer disregards it in a given header, too
+pub given-filler-disregarded : (rules : Rules) (g h : List ℕ) (ps : Parts) → length g ≡ length h → SameFields (waveform.cells (rules .layout)) g h →
+    WrittenAlike rules 1026 (given g ps) (given h ps)
+given-filler-disregarded = filler-disregarded
+
+-- and no field starts there: 20 at bytes 2 to 7, 38 and 39 of an aligned header
+pub no-field-in-filler : (rules : Rules) (s : List ℕ) (i : ℕ) {l : Located} → place rules s i ≡ answered l → l .kind ≡ Waveform Aligned →
+    map (fieldOf rules s i) filler ≡ map (λ (o : ℕ). number 20) filler
+no-field-in-filler = layouts.no-field-there

@@ -15,14 +15,15 @@ use Rattle.mrd_judge.specs.Judge.{judge, judgeAs}
 use Rattle.mrd_judge.specs.Stages.{checksAs, frontChecks, idChecks, fixedChecks, sizeChecks}
 use Rattle.mrd_demands.specs.Records.{records}
 use Rattle.mrd_stream.specs.Normal.{normal}
+use Rattle.mrd_format.specs.declared.rules.Rules.{Rules}
 
 -- the configuration name 'a', with this byte among the filler, and a close
 abbrev pub named : ℕ → List ℕ
 named filler = 1 ∷ 0 ∷ 97 ∷ 0 ∷ filler ∷ replicate 1021 0 ++ (4 ∷ 0 ∷ [])
 
-pub filler-is-no-meaning :
-    (answer (named 7) ≡ accepted 2) ×
-    (answer (named 0) ≡ accepted 2) × (records (named 7) ≡ records (named 0)) ×
-    (normal (named 7) ≡ named 0)
+pub filler-is-no-meaning : (rules : Rules) →
+    (answer rules (named 7) ≡ accepted 2) ×
+    (answer rules (named 0) ≡ accepted 2) × (records rules (named 7) ≡ records rules (named 0)) ×
+    (normal rules (named 7) ≡ named 0)
 unfolding answer trace walk judge judgeAs checksAs frontChecks idChecks fixedChecks sizeChecks ended identified num fixedPart nameLength indexOf indexAfter ownChecks bodySize sizeOf records recordOf fieldsOf contentsOf extentOf normal normalOf
-filler-is-no-meaning = (refl, refl, refl, refl)
+filler-is-no-meaning rules = (refl, refl, refl, refl)

@@ -7,6 +7,8 @@ pub mod Replaced
 pub mod Told
 pub mod Masks
 pub mod AttributeLengths
+pub mod Layouts
+pub mod LayoutExample
 pub mod Demands
 pub mod FillerExample
 pub mod NumberExample

@@ -19,6 +19,7 @@ use Rattle.mrd_stream.specs.Places.{Located, place}
 use Rattle.mrd_cut.specs.CutPlaces.{partAt}
 use Rattle.mrd_cut.specs.Inside.{place-inside}
 use Rattle.mrd_demands.specs.Replaced.{replaced-accepted}
+use Rattle.mrd_format.specs.declared.rules.Rules.{Rules}
 
 -- an acquisition's message m with other bytes w in place of its mask, which stands after the id and 40 bytes of the header
 module _ (m w : List ℕ) (size : length w ≡ 128) (long : 342 ≤ length m) where
@@ -63,7 +64,7 @@ module _ (m w : List ℕ) (size : length w ≡ 128) (long : 342 ≤ length m) wh
   other-id = before-mask 2 0 (omega arith)
 
   -- so it is well formed as m is
-  other-well : (f : WellFormed m) → f .kind ≡ Acquisition → WellFormed other
+  other-well : {rules : Rules} (f : WellFormed rules m) → f .kind ≡ Acquisition → WellFormed rules other
   other-well f e = record {
     kind = Acquisition;
     known = rw other-id (rw e at (f .known));
@@ -73,14 +74,14 @@ module _ (m w : List ℕ) (size : length w ≡ 128) (long : 342 ≤ length m) wh
   }
 
 -- an acquisition's message has an id and a header
-acquisition-long : (m : List ℕ) (f : WellFormed m) → f .kind ≡ Acquisition → 342 ≤ length m
+acquisition-long : {rules : Rules} (m : List ℕ) (f : WellFormed rules m) → f .kind ≡ Acquisition → 342 ≤ length m
 acquisition-long m f e = rw e at (well-least m f)
 
 -- whatever 128 bytes stand in the mask of an acquisition, the stream is accepted
-pub any-mask-accepted : (s : List ℕ) {c : ℕ} → answer s ≡ accepted c → (i : ℕ) {l : Located} → place s i ≡ answered l → l .kind ≡ Acquisition →
-    (w : List ℕ) → length w ≡ 128 → answer (stored (l .start + 42) w s) ≡ accepted c
-any-mask-accepted s e i {l} p k w size =
-    let it = place-inside s i p in
+pub any-mask-accepted : (rules : Rules) (s : List ℕ) {c : ℕ} → answer rules s ≡ accepted c → (i : ℕ) {l : Located} → place rules s i ≡ answered l → l .kind ≡ Acquisition →
+    (w : List ℕ) → length w ≡ 128 → answer rules (stored (l .start + 42) w s) ≡ accepted c
+any-mask-accepted rules s e i {l} p k w size =
+    let it = place-inside rules s i p in
     let long = acquisition-long (partAt s l) (it .well) (it .kind ∙ k) in
     let well = other-well (partAt s l) w size long (it .well) (it .kind ∙ k) in
     replaced-accepted s e i p 42 w (omega (arith, size)) well (other-id (partAt s l) w size long)

@@ -16,6 +16,7 @@ use Rattle.mrd_judge.specs.Judge.{judge, judgeAs}
 use Rattle.mrd_judge.specs.Stages.{checksAs, frontChecks, idChecks, fixedChecks, sizeChecks}
 use Rattle.mrd_demands.specs.Records.{records}
 use Rattle.mrd_stream.specs.Normal.{normal}
+use Rattle.mrd_format.specs.declared.rules.Rules.{Rules}
 
 -- an empty header text; an image of one 2-byte pixel with the attributes 'ab', whose header says this of their length; and a close
 abbrev pub imaged : ℕ → List ℕ
@@ -24,8 +25,8 @@ imaged number =
     254 ∷ 3 ∷ 1 ∷ 0 ∷ 1 ∷ 0 ∷ replicate 12 0 ++ (1 ∷ 0 ∷ 1 ∷ 0 ∷ 1 ∷ 0 ∷ replicate 12 0 ++ (1 ∷ 0 ∷ replicate 158 0 ++
     (number ∷ 0 ∷ 0 ∷ 0 ∷ 2 ∷ 0 ∷ 0 ∷ 0 ∷ 0 ∷ 0 ∷ 0 ∷ 0 ∷ 97 ∷ 98 ∷ 5 ∷ 6 ∷ 4 ∷ 0 ∷ [])))
 
-pub number-is-no-meaning :
-    (answer (imaged 0) ≡ accepted 3) × (answer (imaged 2) ≡ accepted 3) × (answer (imaged 1) ≡ refused 9 1 6) ×
-    (records (imaged 0) ≡ records (imaged 2)) × (normal (imaged 0) ≡ imaged 2)
+pub number-is-no-meaning : (rules : Rules) →
+    (answer rules (imaged 0) ≡ accepted 3) × (answer rules (imaged 2) ≡ accepted 3) × (answer rules (imaged 1) ≡ refused 9 1 6) ×
+    (records rules (imaged 0) ≡ records rules (imaged 2)) × (normal rules (imaged 0) ≡ imaged 2)
 unfolding answer trace walk judge judgeAs checksAs frontChecks idChecks fixedChecks sizeChecks ended identified num fixedPart textLength ownChecks image.headerChecks image.checks image.pixelsSize image.pixelCount image.elementSize bodySize sizeOf records recordOf fieldsOf contentsOf extentOf normal normalOf
-number-is-no-meaning = (refl, refl, refl, refl, refl)
+number-is-no-meaning rules = (refl, refl, refl, refl, refl)

@@ -33,23 +33,24 @@ use Rattle.mrd_cut.specs.Inside.{Inside, place-nth, place-inside}
 use Rattle.mrd_record.specs.RecordLaws.{fixed-long}
 use Rattle.mrd_views.specs.declared.views.Span.{Span}
 use Rattle.mrd_views.specs.Views.{span, shownAt, viewOf, shown}
+use Rattle.mrd_format.specs.declared.rules.Rules.{Rules}
 
 -- the views of record n of s are the parts of the record r; a channel's samples are its share of all of them
-pub record ViewsOf (s : List ℕ) (n : ℕ) (r : Record) : Type 0 where
-  pub name : shown (viewOf s n asked.Name) s ≡ r .parts .name
-  pub text : shown (viewOf s n asked.Text) s ≡ r .parts .text
-  pub trajectory : shown (viewOf s n asked.Trajectory) s ≡ r .parts .trajectory
-  pub attributes : shown (viewOf s n asked.Attributes) s ≡ r .parts .attributes
-  pub pixels : shown (viewOf s n asked.Pixels) s ≡ r .parts .pixels
-  pub waveform : shown (viewOf s n asked.Waveform) s ≡ r .parts .waveform
-  pub channel : (c : ℕ) {x : Span} → viewOf s n (asked.Channel c) ≡ answered x →
+pub record ViewsOf (rules : Rules) (s : List ℕ) (n : ℕ) (r : Record) : Type 0 where
+  pub name : shown (viewOf rules s n asked.Name) s ≡ r .parts .name
+  pub text : shown (viewOf rules s n asked.Text) s ≡ r .parts .text
+  pub trajectory : shown (viewOf rules s n asked.Trajectory) s ≡ r .parts .trajectory
+  pub attributes : shown (viewOf rules s n asked.Attributes) s ≡ r .parts .attributes
+  pub pixels : shown (viewOf rules s n asked.Pixels) s ≡ r .parts .pixels
+  pub waveform : shown (viewOf rules s n asked.Waveform) s ≡ r .parts .waveform
+  pub channel : (c : ℕ) {x : Span} → viewOf rules s n (asked.Channel c) ≡ answered x →
       shown (answered x) s ≡ take (x .length) (drop (c * x .length) (r .parts .samples))
 
 -- the record that lies at a place
 abbrev recordAt : List ℕ → Located → Record
 recordAt s l = recordOf (l .kind) (partAt s l)
 
-records-placed : {c : Cursor} {s : List ℕ} {r : Trace} → Walks c s r → (before : List ℕ) → length before ≡ c .start →
+records-placed : {rules : Rules} {c : Cursor} {s : List ℕ} {r : Trace} → Walks rules c s r → (before : List ℕ) → length before ≡ c .start →
     recordsOf r ≡ map (recordAt (before ++ s)) (places r)
 records-placed ends before h = refl
 records-placed (faults e) before h = refl
@@ -60,12 +61,12 @@ records-placed (meets {c} {m} {rest} {r} w a n v) before h =
     ap₂ (λ (x : Record) (xs : List Record). x ∷ xs) (ap (recordOf (w .kind)) (sym here)) later
 
 -- the record at the place of record n is the record list's
-place-record : (s : List ℕ) (n : ℕ) {l : Located} → place s n ≡ answered l → Nth (records s) n (recordAt s l)
+place-record : (rules : Rules) (s : List ℕ) (n : ℕ) {l : Located} → place rules s n ≡ answered l → Nth (records rules s) n (recordAt s l)
 unfolding records
-place-record s n {l} e = rw (records-placed (walks s) [] refl) (nth-map (recordAt s) (places (trace s)) n l (place-nth s n e))
+place-record rules s n {l} e = rw (records-placed (walks rules s) [] refl) (nth-map (recordAt s) (places (trace rules s)) n l (place-nth rules s n e))
 
 -- what a view shows of a record that lies in s are the bytes of that part of its message
-module _ (s : List ℕ) (l : Located) (i : Inside s l) (p : Part) where
+module _ {rules : Rules} (s : List ℕ) (l : Located) (i : Inside rules s l) (p : Part) where
   abbrev m : List ℕ
   m = partAt s l
 
@@ -80,7 +81,7 @@ module _ (s : List ℕ) (l : Located) (i : Inside s l) (p : Part) where
   part-shown = reach-shown (extentOf p (l .kind) (fixedPart (l .kind) m)) refl
 
 -- one channel
-channel-shown : (s : List ℕ) (l : Located) → Inside s l → (c : ℕ) {x : Span} →
+channel-shown : {rules : Rules} (s : List ℕ) (l : Located) → Inside rules s l → (c : ℕ) {x : Span} →
     shownAt (extentOf (part.channel c) (l .kind) (fixedPart (l .kind) (partAt s l))) (l .start) ≡ answered x →
     shown (answered x) s ≡ take (x .length) (drop (c * x .length) (recordAt s l .parts .samples))
 channel-shown s l i c {x} q = by (extentOf (part.channel c) (l .kind) (fixedPart (l .kind) (partAt s l))) refl q
@@ -93,13 +94,13 @@ channel-shown s l i c {x} q = by (extentOf (part.channel c) (l .kind) (fixedPart
         rw (← y) (reach-shown s l i (part.channel c) (lies d) e ∙ channel-is-share (l .kind) (partAt s l) c e)
 
 -- each view of a record is that part of it
-pub views-are-parts : (s : List ℕ) (n : ℕ) {l : Located} → place s n ≡ answered l → (r : Record) × (Nth (records s) n r × ViewsOf s n r)
+pub views-are-parts : (rules : Rules) (s : List ℕ) (n : ℕ) {l : Located} → place rules s n ≡ answered l → (r : Record) × (Nth (records rules s) n r × ViewsOf rules s n r)
 unfolding viewOf recordOf contentsOf
-views-are-parts s n {l} e =
-    let i = place-inside s n e in (
+views-are-parts rules s n {l} e =
+    let i = place-inside rules s n e in (
       recordAt s l,
       (
-        place-record s n e,
+        place-record rules s n e,
         record {
           name = rw e (part-shown s l i part.name);
           text = rw e (part-shown s l i part.text);
@@ -117,13 +118,13 @@ abbrev pub partsAt : List ℕ → Located → List PlacedPart
 partsAt s l = placedParts (l .kind) (fixedPart (l .kind) (partAt s l))
 
 -- the view that is asked for by the name of a part is at that part's place
-abbrev pub ViewOfPart : List ℕ → ℕ → Located → PlacedPart → Type 0
-ViewOfPart s n l q = (p : parts.Part) → partMeaning p ≡ q .part → viewOf s n p ≡ answered (span (l .start + q .place .offset) (q .place .size))
+abbrev pub ViewOfPart : Rules → List ℕ → ℕ → Located → PlacedPart → Type 0
+ViewOfPart rules s n l q = (p : parts.Part) → partMeaning p ≡ q .part → viewOf rules s n p ≡ answered (span (l .start + q .place .offset) (q .place .size))
 
 -- the views of record n, which lies at l: each part of its message at its place, one channel after the other, and 17 for what is no part of it
-pub record EachPart (s : List ℕ) (n : ℕ) (l : Located) : Type 0 where
-  pub there : Every (ViewOfPart s n l) (partsAt s l)
-  pub else-17 : (p : parts.Part) → NoneIs (partMeaning p) (partsAt s l) → viewOf s n p ≡ number 17
+pub record EachPart (rules : Rules) (s : List ℕ) (n : ℕ) (l : Located) : Type 0 where
+  pub there : Every (ViewOfPart rules s n l) (partsAt s l)
+  pub else-17 : (p : parts.Part) → NoneIs (partMeaning p) (partsAt s l) → viewOf rules s n p ≡ number 17
 
 -- no view is asked for the samples of all channels
 one-part : (p : parts.Part) → part.same (partMeaning p) part.samples ≡ false
@@ -135,12 +136,12 @@ one-part (asked.Channel c) = refl
 one-part asked.Pixels = refl
 one-part asked.Waveform = refl
 
-pub each-part-shown : (s : List ℕ) (n : ℕ) {l : Located} → place s n ≡ answered l → EachPart s n l
+pub each-part-shown : (rules : Rules) (s : List ℕ) (n : ℕ) {l : Located} → place rules s n ≡ answered l → EachPart rules s n l
 unfolding viewOf
-each-part-shown s n {l} e =
+each-part-shown rules s n {l} e =
     let k = l .kind in
     let h = fixedPart k (partAt s l) in
     record {
-      there = every-map (FoundAt k h) (ViewOfPart s n l) (λ q f p named. rw (e, named, f)) (partsAt s l) (parts-found k h);
+      there = every-map (FoundAt k h) (ViewOfPart rules s n l) (λ q f p named. rw (e, named, f)) (partsAt s l) (parts-found k h);
       else-17 = λ p none. rw (e, others-lacking (partMeaning p) h (one-part p) k none);
     }

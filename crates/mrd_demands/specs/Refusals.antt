@@ -11,6 +11,7 @@ use Rattle.mrd_format.specs.Parts.{Contents}
 use Rattle.mrd_format.specs.Content.{messageOf}
 use Rattle.mrd_stream.specs.Output.{outputBy}
 use Rattle.mrd_writer.specs.Write.{answerAs, storedBy, outputAs, writeAnswer, writeOutput}
+use Rattle.mrd_format.specs.declared.rules.Rules.{Rules}
 
 -- a refusal: the stream's, or a number alone
 abbrev pub Refusal : Answer ℕ → Type 0
@@ -30,9 +31,9 @@ message-kept (stream f n b) r m at o = refl
 message-kept (number n) r m at o = refl
 
 -- of the writer
-pub written-kept : (id : ℕ) (c : Contents) (at : ℕ) (o : List ℕ) → Refusal (writeAnswer id c at o) → writeOutput id c at o ≡ o
+pub written-kept : (rules : Rules) (id : ℕ) (c : Contents) (at : ℕ) (o : List ℕ) → Refusal (writeAnswer rules id c at o) → writeOutput rules id c at o ≡ o
 unfolding writeAnswer writeOutput outputAs
-written-kept id c at o r = by (identified id) r
+written-kept rules id c at o r = by (identified rules id) r
   where
     by : (i : Identified) → Refusal (answerAs i c at o) → outputAs i c at o ≡ o
     by Unknown r = refl

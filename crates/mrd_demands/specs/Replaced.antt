@@ -14,6 +14,7 @@ use Rattle.mrd_logic.specs.ListLaws.{nth-map}
 use Rattle.mrd_logic.specs.Joined.{joined}
 use Rattle.mrd_logic.specs.Answer.{accepted, answered}
 use Rattle.mrd_format.specs.declared.kind.Kind.{Kind}
+use Rattle.mrd_format.specs.declared.rules.Rules.{Rules}
 use Rattle.mrd_format.specs.Message.{idAt, WellFormed}
 use Rattle.mrd_format.specs.Content.{recordOf, normalOf}
 use Rattle.mrd_cursor.specs.declared.cursor.Cursor.{Cursor}
@@ -59,29 +60,29 @@ put-count i n [] = refl
 put-count zero n (m ∷ ms) = refl
 put-count (suc i) n (m ∷ ms) = ap suc (put-count i n ms)
 
-abbrev put-well : (i : ℕ) (n : List ℕ) (ms : List (List ℕ)) → WellFormed n → Every WellFormed ms → Every WellFormed (put i n ms)
+abbrev put-well : {rules : Rules} (i : ℕ) (n : List ℕ) (ms : List (List ℕ)) → WellFormed rules n → Every (WellFormed rules) ms → Every (WellFormed rules) (put i n ms)
 put-well i n [] v w = tt
 put-well zero n (m ∷ ms) v w = (v, w .1)
 put-well (suc i) n (m ∷ ms) v w = (w .0, put-well i n ms v (w .1))
 
 -- messages with one id are of one kind
-put-kinds : (i : ℕ) (n m : List ℕ) (ms : List (List ℕ)) (v : WellFormed n) (w : Every WellFormed ms) → idAt n ≡ idAt m → Nth ms i m →
-    kindsIn (put i n ms) (put-well i n ms v w) ≡ kindsIn ms w
-put-kinds i n m [] v w e h = absurd h
-put-kinds zero n m (x ∷ ms) v w e h =
+put-kinds : {rules : Rules} (i : ℕ) (n m : List ℕ) (ms : List (List ℕ)) (v : WellFormed rules n) (w : Every (WellFormed rules) ms) → idAt n ≡ idAt m → Nth ms i m →
+    kindsIn rules (put i n ms) (put-well i n ms v w) ≡ kindsIn rules ms w
+put-kinds {rules} i n m [] v w e h = absurd h
+put-kinds {rules} zero n m (x ∷ ms) v w e h =
     let same : v .kind ≡ w .0 .kind = cc (v .known, w .0 .known, e, ap idAt h) in
-    ap (λ (k : Kind). k ∷ kindsIn ms (w .1)) same
-put-kinds (suc i) n m (x ∷ ms) v w e h = ap (λ (ks : List Kind). w .0 .kind ∷ ks) (put-kinds i n m ms v (w .1) e h)
+    ap (λ (k : Kind). k ∷ kindsIn rules ms (w .1)) same
+put-kinds {rules} (suc i) n m (x ∷ ms) v w e h = ap (λ (ks : List Kind). w .0 .kind ∷ ks) (put-kinds i n m ms v (w .1) e h)
 
 -- what is found in it as in message i is found in all of them
-put-each : {A : Type 0} (f : Kind → List ℕ → A) (i : ℕ) (n m : List ℕ) (ms : List (List ℕ)) (v : WellFormed n) (w : Every WellFormed ms) →
-    ((u : WellFormed m) → f (v .kind) n ≡ f (u .kind) m) → Nth ms i m → eachIn f (put i n ms) (put-well i n ms v w) ≡ eachIn f ms w
-put-each f i n m [] v w e h = absurd h
-put-each f zero n m (x ∷ ms) v w e h =
-    let u : WellFormed m = subst WellFormed h (w .0) in
+put-each : {rules : Rules} {A : Type 0} (f : Kind → List ℕ → A) (i : ℕ) (n m : List ℕ) (ms : List (List ℕ)) (v : WellFormed rules n) (w : Every (WellFormed rules) ms) →
+    ((u : WellFormed rules m) → f (v .kind) n ≡ f (u .kind) m) → Nth ms i m → eachIn rules f (put i n ms) (put-well i n ms v w) ≡ eachIn rules f ms w
+put-each {rules} f i n m [] v w e h = absurd h
+put-each {rules} f zero n m (x ∷ ms) v w e h =
+    let u : WellFormed rules m = subst (WellFormed rules) h (w .0) in
     let same : f (u .kind) m ≡ f (w .0 .kind) x = cc (u .known, w .0 .known, ap idAt h, h) in
-    ap (λ a. a ∷ eachIn f ms (w .1)) (e u ∙ same)
-put-each f (suc i) n m (x ∷ ms) v w e h = ap (λ found. f (w .0 .kind) x ∷ found) (put-each f i n m ms v (w .1) e h)
+    ap (λ a. a ∷ eachIn rules f ms (w .1)) (e u ∙ same)
+put-each {rules} f (suc i) n m (x ∷ ms) v w e h = ap (λ found. f (w .0 .kind) x ∷ found) (put-each f i n m ms v (w .1) e h)
 
 put-joined : (i : ℕ) (m : List ℕ) (ms : List (List ℕ)) (k : ℕ) (w : List ℕ) → k + length w ≤ length m → Nth ms i m →
     joined (put i (stored k w m) ms) ≡ stored (startOf i ms + k) w (joined ms)
@@ -94,34 +95,40 @@ put-joined (suc i) m (x ∷ ms) k w fits h =
     rw (far, put-joined i m ms k w fits h) (sym (stored-back x (joined ms) (startOf i ms + k) w))
 
 -- the places of a walk start after the messages before them
-start-of : {c : Cursor} {s : List ℕ} {r : Trace} → Walks c s r → (i : ℕ) (l : Located) → Nth (places r) i l →
+start-of : {rules : Rules} {c : Cursor} {s : List ℕ} {r : Trace} → Walks rules c s r → (i : ℕ) (l : Located) → Nth (places r) i l →
     l .start ≡ c .start + startOf i (piecesOf r)
 start-of ends i l h = absurd h
 start-of (faults e) i l h = absurd h
 start-of (meets {c} {m} w a n v) zero l h = sym (ap (λ (k : Located). k .start) h) ∙ omega arith
 start-of (meets {c} {m} w a n v) (suc i) l h = omega (arith, start-of v i l h)
 
+-- t is accepted as s is, with the same records and the same normal form
+pub record SameMeaning (rules : Rules) (s t : List ℕ) (n : ℕ) : Type 0 where
+  pub accepted-too : answer rules t ≡ accepted n
+  pub same-records : records rules t ≡ records rules s
+  pub same-normal : normal rules t ≡ normal rules s
+
 -- record i's message, at l in the accepted stream s, with other bytes w from its byte k on, well formed and of the same id
-module _
-    (s : List ℕ) {c : ℕ} (e : answer s ≡ accepted c) (i : ℕ) {l : Located} (p : place s i ≡ answered l) (k : ℕ) (w : List ℕ)
-    (fits : k + length w ≤ length (partAt s l)) (v : WellFormed (stored k w (partAt s l)))
+module _ {rules : Rules}
+    (s : List ℕ) {c : ℕ} (e : answer rules s ≡ accepted c) (i : ℕ) {l : Located} (p : place rules s i ≡ answered l) (k : ℕ) (w : List ℕ)
+    (fits : k + length w ≤ length (partAt s l)) (v : WellFormed rules (stored k w (partAt s l)))
     (same : idAt (stored k w (partAt s l)) ≡ idAt (partAt s l)) where
-  abbrev its : Cut s
-  its = accepted-cut s e .0 .cut
+  abbrev its : Cut rules s
+  its = accepted-cut rules s e .0 .cut
 
   here : Nth (its .pieces) i (partAt s l)
   here =
-      let at-place : Nth (piecesOf (trace s)) i (partAt s l) =
-      rw (places-pieces (walks s) [] refl) at (nth-map (partAt s) (places (trace s)) i l (place-nth s i p)) in
-      rw (accepted-cut s e .1) at-place
+      let at-place : Nth (piecesOf (trace rules s)) i (partAt s l) =
+      rw (places-pieces (walks rules s) [] refl) at (nth-map (partAt s) (places (trace rules s)) i l (place-nth rules s i p)) in
+      rw (accepted-cut rules s e .1) at-place
 
   whole : joined (put i (stored k w (partAt s l)) (its .pieces)) ≡ stored (l .start + k) w s
   whole =
-      let start : l .start ≡ startOf i (its .pieces) = rw (accepted-cut s e .1) (omega (arith, start-of (walks s) i l (place-nth s i p))) in
+      let start : l .start ≡ startOf i (its .pieces) = rw (accepted-cut rules s e .1) (omega (arith, start-of (walks rules s) i l (place-nth rules s i p))) in
       put-joined i (partAt s l) (its .pieces) k w fits here ∙ ap₂ (λ (t : List ℕ) (b : ℕ). stored (b + k) w t) (its .whole) (sym start)
 
   -- its cut has that message in place of message i
-  abbrev replaced : Cut (stored (l .start + k) w s)
+  abbrev replaced : Cut rules (stored (l .start + k) w s)
   replaced = record {
     pieces = put i (stored k w (partAt s l)) (its .pieces);
     well = put-well i (stored k w (partAt s l)) (its .pieces) v (its .well);
@@ -129,23 +136,28 @@ module _
   }
 
   -- so the stream is accepted
-  pub replaced-accepted : answer (stored (l .start + k) w s) ≡ accepted c
+  pub replaced-accepted : answer rules (stored (l .start + k) w s) ≡ accepted c
   replaced-accepted =
-      let a = accepted-cut s e in
+      let a = accepted-cut rules s e in
       let kinds = put-kinds i (stored k w (partAt s l)) (partAt s l) (its .pieces) v (its .well) same here in
-      let again : Acceptable (stored (l .start + k) w s) =
+      let again : Acceptable rules (stored (l .start + k) w s) =
       record { cut = replaced; few = rw put-count (a .0 .few); ordered = rw kinds (a .0 .ordered); closed = rw kinds (a .0 .closed) } in
       cut-accepted (stored (l .start + k) w s) again ∙ ap accepted (put-count i (stored k w (partAt s l)) (its .pieces) ∙ a .2)
 
   -- and where the message is the same record, and has the same normal form, so it is with the stream
-  pub replaced-records : ((u : WellFormed (partAt s l)) → recordOf (v .kind) (stored k w (partAt s l)) ≡ recordOf (u .kind) (partAt s l)) →
-      records (stored (l .start + k) w s) ≡ records s
+  replaced-records : ((u : WellFormed rules (partAt s l)) → recordOf (v .kind) (stored k w (partAt s l)) ≡ recordOf (u .kind) (partAt s l)) →
+      records rules (stored (l .start + k) w s) ≡ records rules s
   replaced-records r =
       records-cut (stored (l .start + k) w s) replaced-accepted replaced ∙
       put-each recordOf i (stored k w (partAt s l)) (partAt s l) (its .pieces) v (its .well) r here ∙ sym (records-cut s e its)
 
-  pub replaced-normal : ((u : WellFormed (partAt s l)) → normalOf (v .kind) (stored k w (partAt s l)) ≡ normalOf (u .kind) (partAt s l)) →
-      normal (stored (l .start + k) w s) ≡ normal s
+  replaced-normal : ((u : WellFormed rules (partAt s l)) → normalOf (v .kind) (stored k w (partAt s l)) ≡ normalOf (u .kind) (partAt s l)) →
+      normal rules (stored (l .start + k) w s) ≡ normal rules s
   replaced-normal r =
       normal-cut (stored (l .start + k) w s) replaced-accepted replaced ∙
       ap joined (put-each normalOf i (stored k w (partAt s l)) (partAt s l) (its .pieces) v (its .well) r here) ∙ sym (normal-cut s e its)
+
+  pub replaced-same : ((u : WellFormed rules (partAt s l)) → recordOf (v .kind) (stored k w (partAt s l)) ≡ recordOf (u .kind) (partAt s l)) →
+      ((u : WellFormed rules (partAt s l)) → normalOf (v .kind) (stored k w (partAt s l)) ≡ normalOf (u .kind) (partAt s l)) →
+      SameMeaning rules s (stored (l .start + k) w s) c
+  replaced-same r m = record { accepted-too = replaced-accepted; same-records = replaced-records r; same-normal = replaced-normal m }

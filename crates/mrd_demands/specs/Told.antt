@@ -14,17 +14,18 @@ use Rattle.mrd_format.specs.MessageLaws.{well-least}
 use Rattle.mrd_stream.specs.Places.{Located, place}
 use Rattle.mrd_cut.specs.CutPlaces.{partAt}
 use Rattle.mrd_cut.specs.Inside.{place-inside}
+use Rattle.mrd_format.specs.declared.rules.Rules.{Rules}
 
 -- the fixed part of record i is the bytes after its id
-pub fixed-there : (s : List ℕ) (i : ℕ) {l : Located} → place s i ≡ answered l →
+pub fixed-there : (rules : Rules) (s : List ℕ) (i : ℕ) {l : Located} → place rules s i ≡ answered l →
     fixedPart (l .kind) (partAt s l) ≡ take (fixedSize (l .kind)) (drop (l .start + 2) s)
 unfolding fixedPart
-fixed-there s i {l} p =
-    let it = place-inside s i p in
+fixed-there rules s i {l} p =
+    let it = place-inside rules s i p in
     let z = fixedSize (l .kind) in
     let within : 2 + z ≤ l .size = omega (arith, rw (it .kind) at (well-least (partAt s l) (it .well)), it .long) in
     part-take z (l .size) (drop (l .start) s) 2 within ∙ ap (take z) (drop-drop 2 (l .start) s)
 
-pub numbers-told : (s : List ℕ) (i : ℕ) {l : Located} → place s i ≡ answered l →
+pub numbers-told : (rules : Rules) (s : List ℕ) (i : ℕ) {l : Located} → place rules s i ≡ answered l →
     l .numbers ≡ numbersOf (l .kind) (take (fixedSize (l .kind)) (drop (l .start + 2) s))
-numbers-told s i {l} p = place-inside s i p .numbers ∙ ap (numbersOf (l .kind)) (fixed-there s i p)
+numbers-told rules s i {l} p = place-inside rules s i p .numbers ∙ ap (numbersOf (l .kind)) (fixed-there rules s i p)

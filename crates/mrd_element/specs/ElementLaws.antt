@@ -11,6 +11,7 @@ use Rattle.mrd_logic.specs.Choice.{pick}
 use Rattle.mrd_numbers.specs.Little.{num}
 use Rattle.mrd_format.specs.declared.kind.Kind.{Kind}
 use Rattle.mrd_format.specs.declared.kind.Kind
+use Rattle.mrd_format.specs.declared.rules.Layout.the-variants.{Packed, Aligned}
 use Rattle.mrd_format.specs.Headers.{runs}
 use Rattle.mrd_format.specs.Kinds.{formOf, fixedSize}
 use Rattle.mrd_format.specs.Elements.{ElementType, u16, u32, u64, i32, f32, width}
@@ -46,7 +47,8 @@ table-within Kind.Close = tt
 table-within Kind.Text = tt
 table-within Kind.Acquisition = tt
 table-within Kind.Image = tt
-table-within Kind.Waveform = tt
+table-within (Kind.Waveform Packed) = tt
+table-within (Kind.Waveform Aligned) = tt
 
 -- an element of this type starts at the offset
 pub record FoundElement (k : Kind) (h : List ℕ) (at : ℕ) (e : ElementType) : Type 0 where
@@ -65,6 +67,15 @@ found-by-letter k h at e whole letter =
 pub absent-by-letter : (k : Kind) (h : List ℕ) (at : ℕ) → meant (letterOf (elementAt k at)) ≡ none → elementOf k h at ≡ number 20
 unfolding elementOf
 absent-by-letter k h at means = ap (λ (s : Start). readAt s h at) (sym (meant-letter (elementAt k at)) ∙ means)
+
+-- 'Bytes 2 to 7 and 38 to 39 carry nothing' in an aligned waveform's header
+abbrev pub filler : List ℕ
+filler = 2 ∷ 3 ∷ 4 ∷ 5 ∷ 6 ∷ 7 ∷ 38 ∷ 39 ∷ []
+
+-- and no element starts there
+pub none-in-filler : (h : List ℕ) → map (elementOf (Kind.Waveform Aligned) h) filler ≡ map (λ (o : ℕ). number 20) filler
+unfolding elementOf typeAt
+none-in-filler h = refl
 
 -- 'physiology stamps 22, three u32': each is an element of its own, and inside them none starts. An image's 8-byte length at 198 is no header
 -- element

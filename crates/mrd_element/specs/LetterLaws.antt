@@ -1,17 +1,23 @@
--- The letters of a table, stretch by stretch: which stretches are filled by elements of one width and letter, and that past the end none starts.
+-- The letters of a table, stretch by stretch: which stretches are filled by elements of one width and letter, and that past the end none starts; and those
+-- of a waveform's header, field by field.
 -- Assumes nothing.
 use Prim.Native.Nat.{ℕ, zero, suc, _+_, _-_, _*_, _≤_, _<_}
 use native.Mathlib.Nat.{add-zero, add-suc, suc-add, suc-mul}
 use native.Mathlib.Omega.{arith}
-use mathlib.Core.Path.{_≡_, refl, sym, _∙_}
+use mathlib.Core.Path.{_≡_, refl, sym, ap, _∙_}
 use mathlib.Core.Logic.{_⊎_, inl, inr, ⊎-elim}
-use mathlib.Core.Bool.{Bool, true, false, _&&_}
+use mathlib.Core.Bool.{Bool, true, false, _&&_, _||_}
 use mathlib.Core.List.{List, [], _∷_}
 use lib.Dec.{T, leb, eqb, leb→le, eqb→eq}
 use mir.Facts.{and-yes}
-use borrow.Author.Tests.{eqb-true, eqb-false}
+use borrow.Author.Tests.{eqb-true, eqb-false, eq-eqb, ne-eqb}
 use Rattle.mrd_logic.specs.Choice.{pick, either}
+use Rattle.mrd_logic.specs.Every.{Every}
 use Rattle.mrd_format.specs.Elements.{ElementType, u16, u32, u64, i32, f32, width, Run}
+use Rattle.mrd_format.specs.declared.rules.Layout.{Layout}
+use Rattle.mrd_format.specs.declared.rules.WaveformOffsets.{WaveformOffsets}
+use Rattle.mrd_format.specs.Waveform.{Field, typeOf, offset, offsetsOf}
+use Rattle.mrd_format.specs.WaveformLaws.{offsetIn, offset-in}
 use Rattle.mrd_element.specs.Element.{Start, starts, none, startsAmong, typeAt}
 use Rattle.mrd_element.specs.Letters.{letterOf, letterAmong}
 
@@ -87,3 +93,21 @@ pub letter-among :
 letter-among first w letter last t at r told low high h =
     let e : first + (at - first) ≡ at = omega arith in
     told ∙ rw e at (fills-at (1 + last - first) first (at - first) t first w letter h (omega arith))
+
+-- the elements of a waveform's header, one after the other in any layout: what starts at `at` where it is the offset of f, and of none of those before
+abbrev pub startsPast : Layout → List Field → ℕ → Start → Start
+startsPast l [] at found = found
+startsPast l (g ∷ gs) at found = pick (eqb at (offset l g) || false) (starts (typeOf g)) (startsPast l gs at found)
+
+-- at none of the offsets that the code has, nothing of them starts
+module _ (l : Layout) {w : WaveformOffsets} (e : w ≡ offsetsOf l) (at : ℕ) where
+  pub past-all : (gs : List Field) → Every (λ (g : Field). at ≡ offsetIn w g → ⊥) gs → (found : Start) → startsPast l gs at found ≡ found
+  past-all [] others found = refl
+  past-all (g ∷ gs) others found =
+      rw (ne-eqb at (offset l g) (λ same. others .0 (same ∙ sym (offset-in l g e)))) (past-all gs (others .1) found)
+
+  -- so what starts is the element at whose offset it is
+  pub letter-here : (gs : List Field) (f : Field) (rest : Start) → Every (λ (g : Field). at ≡ offsetIn w g → ⊥) gs → at ≡ offsetIn w f →
+      letterOf (startsPast l gs at (pick (eqb at (offset l f) || false) (starts (typeOf f)) rest)) ≡ letterOf (starts (typeOf f))
+  letter-here gs f rest others here =
+      ap letterOf (past-all gs others _) ∙ rw (eq-eqb at (offset l f) (here ∙ offset-in l f e))

@@ -5,6 +5,7 @@
 // The lists are code and no array: an array that a function indexes is laid out on the stack at each call.
 // Assumes nothing.
 use mrd_format::Kind;
+use mrd_format::Layout;
 ghost use mathlib.Core.Path.{_≡_};
 ghost use Prim.Native.Nat.{_≤_, _<_};
 ghost use Rattle.mrd_format.specs.declared.kind.Kind.«the-variants».{Acquisition, Image, Waveform};
@@ -64,19 +65,39 @@ fn image(offset: usize) -> u8
     }
 }
 
-// The letter at an offset of a waveform's header, and a dot past its end.
-fn waveform(offset: usize) -> u8
-    ensures { λ r. ⌜ r ≡ letterOf (elementAt Waveform offset) ⌝ }
+// The letter at an offset of a waveform's header in this layout, and a dot in its filler and past its end.
+fn waveform(layout: Layout, offset: usize) -> u8
+    ensures { λ r. ⌜ r ≡ letterOf (elementAt (Waveform layout) offset) ⌝ }
 {
-    match offset {
-        0..=1 => among(0, 2, b'H', offset),
-        2..=9 => among(2, 8, b'Q', offset),
-        10..=21 => among(10, 4, b'I', offset),
-        22..=25 => among(22, 2, b'H', offset),
-        26..=29 => among(26, 4, b'f', offset),
-        30..=31 => among(30, 2, b'H', offset),
-        _ => b'.',
+    let at = layout.offsets();
+    if offset == at.version {
+        return b'H';
     }
+    if offset == at.flags {
+        return b'Q';
+    }
+    if offset == at.measurement_uid {
+        return b'I';
+    }
+    if offset == at.scan_counter {
+        return b'I';
+    }
+    if offset == at.time_stamp {
+        return b'I';
+    }
+    if offset == at.number_of_samples {
+        return b'H';
+    }
+    if offset == at.channels {
+        return b'H';
+    }
+    if offset == at.sample_time_us {
+        return b'f';
+    }
+    if offset == at.waveform_id {
+        return b'H';
+    }
+    b'.'
 }
 
 // The letter at an offset of a kind's header, and a dot where the kind has no header.
@@ -86,7 +107,7 @@ pub fn letter(kind: Kind, offset: usize) -> u8
     match kind {
         Kind::Acquisition => acquisition(offset),
         Kind::Image => image(offset),
-        Kind::Waveform => waveform(offset),
+        Kind::Waveform(layout) => waveform(layout, offset),
         _ => b'.',
     }
 }

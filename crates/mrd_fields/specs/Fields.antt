@@ -13,14 +13,15 @@ use Rattle.mrd_element.specs.Element.{FieldValue, elementOf}
 use Rattle.mrd_element.specs.ValueMeaning.{valueMeaning, nanApart}
 use Rattle.mrd_fields.specs.declared.fields.FieldAnswer.{FieldAnswer}
 use Rattle.mrd_fields.specs.declared.fields.FieldAnswer.the-variants.{Value, Stream, Refused}
+use Rattle.mrd_format.specs.declared.rules.Rules.{Rules}
 
 -- the field at an offset of the record whose place is answered
 abbrev pub fieldBy : Answer Located → ℕ → List ℕ → Answer FieldValue
 fieldBy a o s = andThen a (λ l. elementOf (l .kind) (fixedPart (l .kind) (partAt s l)) o)
 
 -- the field at an offset of record n: the stream's refusal first, then 16, then 20
-unfoldable pub fieldOf : List ℕ → ℕ → ℕ → Answer FieldValue
-fieldOf s n o = fieldBy (place s n) o s
+unfoldable pub fieldOf : Rules → List ℕ → ℕ → ℕ → Answer FieldValue
+fieldOf rules s n o = fieldBy (place rules s n) o s
 
 -- what each case of an answer says
 abbrev pub fieldMeaning : FieldAnswer → Answer FieldValue

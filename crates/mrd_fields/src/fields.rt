@@ -7,6 +7,7 @@ ghost use Rattle.mrd_fields.specs.Fields.{fieldBy, fieldOf, TellsField};
 use mrd_cursor::Cursor;
 use mrd_element::Element;
 use mrd_element::Value;
+use mrd_format::Rules;
 use mrd_format::refusal;
 use mrd_record::fixed_part;
 use mrd_record::place_at;
@@ -25,19 +26,19 @@ pub enum FieldAnswer {
 
 // The element of record n's header that starts at this offset, counted from the header's first byte.
 // One walk over the stream.
-pub fn field(s: &[u8], n: usize, offset: usize) -> FieldAnswer
-    ensures { λ r. ⌜ TellsField r (fieldOf (now (s .entry)) n offset) ⌝ }
+pub fn field(rules: Rules, s: &[u8], n: usize, offset: usize) -> FieldAnswer
+    ensures { λ r. ⌜ TellsField r (fieldOf rules (now (s .entry)) n offset) ⌝ }
 {
-    let placed = mrd_stream::place(s, n);
+    let placed = mrd_stream::place(rules, s, n);
     placed_field(placed, s, offset)
 }
 
 // The element that starts at this offset in the header of the record that is due at c, at a cost that does
 // not grow with the stream.
-pub fn field_at(c: Cursor, s: &[u8], offset: usize) -> FieldAnswer
-    ensures { λ r. ⌜ TellsField r (fieldBy (placeAt c (now (s .entry))) offset (now (s .entry))) ⌝ }
+pub fn field_at(rules: Rules, c: Cursor, s: &[u8], offset: usize) -> FieldAnswer
+    ensures { λ r. ⌜ TellsField r (fieldBy (placeAt rules c (now (s .entry))) offset (now (s .entry))) ⌝ }
 {
-    let due = place_at(c, s);
+    let due = place_at(rules, c, s);
     placed_field(due, s, offset)
 }
 

@@ -5,6 +5,7 @@ use mathlib.Core.Bool.{Bool, _&&_}
 use mathlib.Core.List.{List}
 use lib.Dec.{leb, eqb}
 use Rattle.mrd_format.specs.declared.kind.Kind.{Kind}
+use Rattle.mrd_format.specs.declared.rules.Rules.{Rules}
 use Rattle.mrd_format.specs.declared.kind.Kind.the-variants.{Acquisition}
 use Rattle.mrd_format.specs.Kinds.{idOf}
 use Rattle.mrd_format.specs.Acquisition.{countersOf}
@@ -29,5 +30,5 @@ firstMatch n cs (message c k m r) = pick (matches n cs c k m) (answered (c .numb
 firstMatch n cs (done v) = number 16
 
 -- the record with the counters cs, from record n on: the stream's refusal first, then 16
-unfoldable pub findOf : List ℕ → ℕ → List ℕ → Answer ℕ
-findOf s n cs = unlessRefused (answer s) (firstMatch n cs (trace s))
+unfoldable pub findOf : Rules → List ℕ → ℕ → List ℕ → Answer ℕ
+findOf rules s n cs = unlessRefused (answer rules s) (firstMatch n cs (trace rules s))

@@ -9,9 +9,10 @@ use borrow.Author.Tests.{eqb-true}
 use lib.Dec.{leb, eqb}
 use lib.ListN.{length, drop, length-drop, length-append}
 use Rattle.mrd_format.specs.declared.kind.Kind.{Kind}
+use Rattle.mrd_format.specs.declared.rules.Rules.{Rules}
 use Rattle.mrd_format.specs.declared.kind.Kind
 use Rattle.mrd_format.specs.Kinds.{idOf, fixedSize}
-use Rattle.mrd_format.specs.KindLaws.{kind-of-id}
+use Rattle.mrd_format.specs.KindLaws.{acquisition-of-id}
 use Rattle.mrd_format.specs.Acquisition.{countersOf}
 use Rattle.mrd_format.specs.Message.{fixedPart}
 use Rattle.mrd_format.specs.Shapes.{kindOf}
@@ -37,23 +38,23 @@ abbrev pub findIn : ℕ → List ℕ → Trace → Answer ℕ
 findIn n cs t = unlessRefused (verdict t) (firstMatch n cs t)
 
 -- a walk that is at c: the answer from there on is the answer wanted
-abbrev pub Finding : ℕ → List ℕ → Cursor → List ℕ → Type 0
-Finding n cs c s = On (findIn n cs) (findOf s n cs) c s
+abbrev pub Finding : Rules → ℕ → List ℕ → Cursor → List ℕ → Type 0
+Finding rules n cs c s = On rules (findIn n cs) (findOf rules s n cs) c s
 
-pub finding-start : (n : ℕ) (cs s : List ℕ) → Finding n cs beginning s
+pub finding-start : (rules : Rules) (n : ℕ) (cs s : List ℕ) → Finding rules n cs beginning s
 unfolding findOf answer
-finding-start n cs s = on-start (findIn n cs) s
+finding-start rules n cs s = on-start rules (findIn n cs) s
 
 -- a turn of the walk, which hands out a record and goes on from c to next
-pub record SearchTurn (n : ℕ) (cs : List ℕ) (c : Cursor) (s : List ℕ) (here : PlacedRecord) (next : Cursor) : Type 0 where
-  pub finding : Finding n cs c s
-  pub passes : Passes c s (recordMeaning here) next
+pub record SearchTurn (rules : Rules) (n : ℕ) (cs : List ℕ) (c : Cursor) (s : List ℕ) (here : PlacedRecord) (next : Cursor) : Type 0 where
+  pub finding : Finding rules n cs c s
+  pub passes : Passes rules c s (recordMeaning here) next
 
-pub turned : (n : ℕ) (cs : List ℕ) {c next : Cursor} {s : List ℕ} {r : Step} {here : PlacedRecord} → Finding n cs c s →
-    stepMeaning r ≡ step c s → r ≡ Step.Message here next → SearchTurn n cs c s here next
-turned n cs {c} {s = s} f meant e = record { finding = f; passes = step-yields c s (sym meant ∙ ap stepMeaning e) }
+pub turned : (rules : Rules) (n : ℕ) (cs : List ℕ) {c next : Cursor} {s : List ℕ} {r : Step} {here : PlacedRecord} → Finding rules n cs c s →
+    stepMeaning r ≡ step rules c s → r ≡ Step.Message here next → SearchTurn rules n cs c s here next
+turned rules n cs {c} {s = s} f meant e = record { finding = f; passes = step-yields rules c s (sym meant ∙ ap stepMeaning e) }
 
-module _ {n : ℕ} {cs : List ℕ} {c : Cursor} {s : List ℕ} {here : PlacedRecord} {next : Cursor} (t : SearchTurn n cs c s here next) where
+module _ {rules : Rules} {n : ℕ} {cs : List ℕ} {c : Cursor} {s : List ℕ} {here : PlacedRecord} {next : Cursor} (t : SearchTurn rules n cs c s here next) where
   pub nearer : length s - next .start < length s - c .start
   nearer = on-less s (t .passes)
 
@@ -62,10 +63,10 @@ module _ {n : ℕ} {cs : List ℕ} {c : Cursor} {s : List ℕ} {here : PlacedRec
   yields-record = ap (λ (l : Located). candidate n (l .number) (l .kind)) (sym (t .passes .place))
 
   -- no candidate: the answer is that of what follows
-  pub no-candidate : candidate n (here .place .number) (kindOf (here .shape)) ≡ false → Finding n cs next s
+  pub no-candidate : candidate n (here .place .number) (kindOf (here .shape)) ≡ false → Finding rules n cs next s
   no-candidate e =
       let other = yields-record ∙ e in
-      on-next (findIn n cs) s (findIn n cs) (t .finding) (t .passes) (λ r. rw other)
+      on-next rules (findIn n cs) s (findIn n cs) (t .finding) (t .passes) (λ r. rw other)
 
   -- a candidate is an acquisition, whose header lies in the stream
   module _ (e : candidate n (here .place .number) (kindOf (here .shape)) ≡ true) where
@@ -73,7 +74,7 @@ module _ {n : ℕ} {cs : List ℕ} {c : Cursor} {s : List ℕ} {here : PlacedRec
     acquisition =
         let k = kindOf (here .shape) in
         let id = eqb-true (idOf k) (idOf Kind.Acquisition) (both (leb n (here .place .number)) (eqb (idOf k) (idOf Kind.Acquisition)) e .1) in
-        kind-of-id (t .passes .kind) Kind.Acquisition (ap (λ (l : Located). idOf (l .kind)) (sym (t .passes .place)) ∙ id)
+        acquisition-of-id (t .passes .kind) (ap (λ (l : Located). idOf (l .kind)) (sym (t .passes .place)) ∙ id)
 
     starts : here .place .start ≡ c .start
     starts = ap (λ (l : Located). l .start) (t .passes .place)
@@ -90,12 +91,12 @@ module _ {n : ℕ} {cs : List ℕ} {c : Cursor} {s : List ℕ} {here : PlacedRec
     fixed-there = rw part-from (simp length-drop (omega (arith, header-fits)))
 
 -- a turn at a candidate, whose header h was read
-pub record Read (n : ℕ) (cs : List ℕ) (c : Cursor) (s : List ℕ) (here : PlacedRecord) (next : Cursor) (h : List ℕ) : Type 0 where
-  pub turn : SearchTurn n cs c s here next
+pub record Read (rules : Rules) (n : ℕ) (cs : List ℕ) (c : Cursor) (s : List ℕ) (here : PlacedRecord) (next : Cursor) (h : List ℕ) : Type 0 where
+  pub turn : SearchTurn rules n cs c s here next
   pub one : candidate n (here .place .number) (kindOf (here .shape)) ≡ true
   pub header : h ≡ fixedPart Kind.Acquisition (partFrom (here .place .start) s)
 
-module _ {n : ℕ} {cs : List ℕ} {c : Cursor} {s : List ℕ} {here : PlacedRecord} {next : Cursor} {h : List ℕ} (x : Read n cs c s here next h) where
+module _ {rules : Rules} {n : ℕ} {cs : List ℕ} {c : Cursor} {s : List ℕ} {here : PlacedRecord} {next : Cursor} {h : List ℕ} (x : Read rules n cs c s here next h) where
   pub header-long : length h ≡ 340
   header-long = ap length (x .header) ∙ fixed-long Kind.Acquisition (partFrom (here .place .start) s) (fixed-there (x .turn) (x .one))
 
@@ -106,18 +107,18 @@ module _ {n : ℕ} {cs : List ℕ} {c : Cursor} {s : List ℕ} {here : PlacedRec
       x .header ∙ rw (part-from, starts (x .turn) (x .one), p .split, ← acquisition (x .turn) (x .one), ← p .known) own
 
   -- counters that differ: the answer is that of what follows
-  pub no-match : equal (countersOf h) cs ≡ false → Finding n cs next s
+  pub no-match : equal (countersOf h) cs ≡ false → Finding rules n cs next s
   no-match f =
       let one = yields-record (x .turn) ∙ x .one in
       let other = rw header-own at f in
-      on-next (findIn n cs) s (findIn n cs) (x .turn .finding) (x .turn .passes) (λ r. rw (one, other))
+      on-next rules (findIn n cs) s (findIn n cs) (x .turn .finding) (x .turn .passes) (λ r. rw (one, other))
 
   -- counters that are the same: what follows only tells whether the stream is refused
-  pub match-found : equal (countersOf h) cs ≡ true → unlessRefused (verdict (from next s)) (answered (here .place .number)) ≡ findOf s n cs
+  pub match-found : equal (countersOf h) cs ≡ true → unlessRefused (verdict (from rules next s)) (answered (here .place .number)) ≡ findOf rules s n cs
   match-found f =
       let one = yields-record (x .turn) ∙ x .one in
       let all = rw header-own at f in
       let number : here .place .number ≡ c .number = ap (λ (l : Located). l .number) (x .turn .passes .place) in
       rw number
-      (kept-next (findIn n cs) s (λ (r : Trace). unlessRefused (verdict r) (answered (c .number))) (x .turn .finding .kept) (x .turn .passes)
+      (kept-next rules (findIn n cs) s (λ (r : Trace). unlessRefused (verdict r) (answered (c .number))) (x .turn .finding .kept) (x .turn .passes)
       (λ r. rw (one, all)))

@@ -7,6 +7,7 @@ ghost use Rattle.mrd_logic.specs.Answer.{unlessRefused};
 ghost use Rattle.mrd_find.specs.FoundMeaning.{foundMeaning};
 use mrd_cursor::Cursor;
 use mrd_format::Kind;
+use mrd_format::Rules;
 use mrd_format::refusal;
 use mrd_judge::fixed_part;
 use mrd_message::COUNTER_COUNT;
@@ -29,14 +30,14 @@ pub enum Found {
 
 // The number of the first acquisition from record n on with these counters; else the stream's refusal,
 // also where a match stands before the fault, or 16. One walk over the stream.
-pub fn find(s: &[u8], n: usize, counters: &[u16; COUNTER_COUNT]) -> Found
-    ensures { λ r. ⌜ foundMeaning r ≡ findOf (now (s .entry)) n (now (counters .entry)) ⌝ }
+pub fn find(rules: Rules, s: &[u8], n: usize, counters: &[u16; COUNTER_COUNT]) -> Found
+    ensures { λ r. ⌜ foundMeaning r ≡ findOf rules (now (s .entry)) n (now (counters .entry)) ⌝ }
 {
     // Passed on as a slice, which tells the proof the array's length.
     let asked: &[u16] = counters;
     let mut c = Cursor::beginning();
     'records: loop {
-        let step = mrd_stream::next(c, s);
+        let step = mrd_stream::next(rules, c, s);
         match step {
             Step::Message(here, next) => {
                 if !candidate(here, n) {
@@ -54,7 +55,7 @@ pub fn find(s: &[u8], n: usize, counters: &[u16; COUNTER_COUNT]) -> Found
                     }
                     i += 1;
                 }
-                return concluded(Found::Record(place.number), check_from(next, s));
+                return concluded(Found::Record(place.number), check_from(rules, next, s));
             }
             Step::End(answer) => {
                 return concluded(Found::Refused(refusal::NO_RECORD), answer);

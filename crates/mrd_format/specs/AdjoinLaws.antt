@@ -13,7 +13,7 @@ use Rattle.mrd_logic.specs.Every.{Every}
 use Rattle.mrd_logic.specs.Choice.{both, neither}
 use Rattle.mrd_logic.specs.Joined.{joined, joined-append}
 use Rattle.mrd_format.specs.Headers.{Cell, settled}
-use Rattle.mrd_format.specs.HeaderLaws.{allFields, packed, all-settled, take-next, take-parts}
+use Rattle.mrd_format.specs.HeaderLaws.{allFields, lawful, all-settled, take-next, take-parts}
 use Rattle.mrd_format.specs.Parts.{Part, header, filler, same, Extent}
 use Rattle.mrd_format.specs.Segments.{Segment, fixed, counted, padded, sized, channels, sizeIn, total, nameLength, PlacedPart, channelsFrom, segmentParts, segmentsParts}
 use Rattle.mrd_format.specs.Content.{normalPart}
@@ -26,7 +26,7 @@ total-append (s ∷ (u ∷ ss)) ts = rw (total-append (u ∷ ss) ts) (sym (add-a
 
 -- whether a segment's parts are kept by the normal form, in a message whose header is built of cs
 abbrev pub plain : List Cell → Segment → Bool
-plain cs (fixed n) = allFields cs && packed 0 n cs
+plain cs (fixed n) = allFields cs && lawful 0 n cs
 plain cs (counted w p) = true
 plain cs (padded n) = false
 plain cs (sized p n) = not (same p filler || same p header)
@@ -45,7 +45,7 @@ module _ (l : Part → ℕ) (cs : List Cell) (m : List ℕ) where
 module _ (l : Part → ℕ) (cs : List Cell) (m h : List ℕ) where
   segment-joined : (at : ℕ) (s : Segment) → plain cs s ≡ true → joined (map (normalPart l cs m) (segmentParts h at s)) ≡ take (sizeIn s) (drop at m)
   segment-joined at (fixed n) e =
-      let tests = both (allFields cs) (packed 0 n cs) e in
+      let tests = both (allFields cs) (lawful 0 n cs) e in
       append-nil (settled l cs (take n (drop at m))) ∙ all-settled l n cs (take n (drop at m)) (tests .0) (tests .1) ∙
       take-take n n (drop at m) (omega arith)
   segment-joined at (counted w p) e = append-nil (take w (drop at m))

@@ -8,13 +8,13 @@ use mathlib.Core.Path.{_≡_, refl}
 use mathlib.Core.Bool.{Bool, true, false, _&&_}
 use mathlib.Core.List.{List, [], _∷_}
 use borrow.Author.Tests.{lt-ltb, eqb-false, ltb-true}
-use lib.Dec.{eqb, ltb}
+use lib.Dec.{ltb}
 use Rattle.mrd_logic.specs.Every.{Every, every-split}
 use Rattle.mrd_format.specs.declared.kind.Kind.{Kind}
 use Rattle.mrd_format.specs.declared.kind.Kind.the-variants.{ConfigurationName, ConfigurationText, HeaderText, Close, Text, Acquisition, Image, Waveform}
 use Rattle.mrd_format.specs.Acquisition as acquisition
 use Rattle.mrd_format.specs.Parts as part
-use Rattle.mrd_format.specs.Parts.{Part, same, isChannel, channelOf, extent, Reach, lies, lacks}
+use Rattle.mrd_format.specs.Parts.{Part, same, isChannel, channelOf, extent, lies, lacks}
 use Rattle.mrd_format.specs.Segments.{Segment, fixed, counted, padded, sized, channels, sizeIn, PlacedPart, channelsFrom, segmentParts, segmentsParts, reachIf, reachIn, reachFrom}
 use Rattle.mrd_format.specs.Content.{segmentsOf, placedParts, extentOf}
 use Rattle.mrd_format.specs.AdjoinLaws.{Adjoins, placesOf, channels-adjoin}
@@ -57,7 +57,7 @@ parts-found Close h = (refl, tt)
 parts-found Text h = (refl, (refl, (refl, tt)))
 parts-found Acquisition h = (refl, (refl, (refl, channels-found h (count h) 0 (first h) (omega arith) (omega (arith, zero-mul (each h))))))
 parts-found Image h = (refl, (refl, (refl, (refl, (refl, tt)))))
-parts-found Waveform h = (refl, (refl, (refl, tt)))
+parts-found (Waveform l) h = (refl, (refl, (refl, tt)))
 
 -- a name that no part of a list has
 abbrev pub NoneIs : Part → List PlacedPart → Type 0

@@ -5,7 +5,7 @@ use Prim.Native.Nat.{ℕ, _+_, _^_, _≤_, _<_}
 use native.Mathlib.Nat.{le-of-eq}
 use native.Mathlib.Omega.{arith}
 use mathlib.Core.Path.{_≡_, refl, sym, ap, _∙_}
-use mathlib.Core.Bool.{true, false, not, _||_, or-true}
+use mathlib.Core.Bool.{false, not, _||_, or-true}
 use mathlib.Core.Logic.{_⊎_, inl, inr}
 use mathlib.Core.List.{List, [], _∷_, _++_, map, append-nil, append-assoc}
 use borrow.Author.Tests.{eq-eqb, ne-eqb}
@@ -25,7 +25,7 @@ use Rattle.mrd_format.specs.Parts as part
 use Rattle.mrd_format.specs.Parts.{Part}
 use Rattle.mrd_format.specs.Segments.{counted}
 use Rattle.mrd_format.specs.Headers.{field, lengthOf, settled}
-use Rattle.mrd_format.specs.HeaderLaws.{image-packed, SameFields, front-fields, values-same, settled-long, front-settled}
+use Rattle.mrd_format.specs.HeaderLaws.{image-lawful, SameFields, front-fields, values-same, settled-long, front-settled}
 use Rattle.mrd_format.specs.AdjoinLaws.{segments-joined}
 use Rattle.mrd_format.specs.Image.{Field, layout, get, fields, cells, attribute-string-len, attributeLength, lengthsDiffer, headerChecks, checks, pixelCount, pixelsSize, body}
 use Rattle.mrd_format.specs.Message.{limit, idAt, fixedPart, ownChecks, bodySize, sizeOf}
@@ -80,7 +80,7 @@ module _ (z : Part → ℕ) (h x : List ℕ) (long : length h ≡ 198) where
 -- and the 8-byte length after it is the one that is put there
 pub made-count : (z : Part → ℕ) (h : List ℕ) (a : ℕ) → length h ≡ 198 → a < 256 ^ 8 → attributeLength (settled z cells h ++ toBytes 8 a) ≡ a
 made-count z h a long small =
-    let front : length (settled z cells h) ≡ 198 = settled-long z 198 cells h image-packed (le-of-eq (sym long)) in
+    let front : length (settled z cells h) ≡ 198 = settled-long z 198 cells h image-lawful (le-of-eq (sym long)) in
     rw (append-nil, front) at (read-after-write 8 a (settled z cells h) [] small)
 
 -- the header's number passes check 9

@@ -1,4 +1,4 @@
--- 'Message kinds': the eight rows of the paper's table, each kind with its number and the size of its fixed part.
+-- 'Message kinds': the eight rows of the paper's table, each kind with its number and the size of its fixed part; a waveform's with its layout.
 -- Assumes nothing.
 use Prim.Native.Nat.{ℕ}
 use mathlib.Core.List.{List, [], _∷_}
@@ -12,6 +12,7 @@ use Rattle.mrd_format.specs.Image as image
 use Rattle.mrd_format.specs.Waveform as waveform
 use Rattle.mrd_format.specs.declared.kind.Kind.{Kind}
 use Rattle.mrd_format.specs.declared.kind.Kind.the-variants.{ConfigurationName, ConfigurationText, HeaderText, Close, Text, Acquisition, Image, Waveform}
+use Rattle.mrd_format.specs.declared.rules.Rules.{Rules}
 use Rattle.mrd_format.specs.declared.kind.Identified.{Identified}
 use Rattle.mrd_format.specs.declared.kind.Identified.the-variants.{Known, Unknown}
 
@@ -24,7 +25,7 @@ idOf Close = 4
 idOf Text = 5
 idOf Acquisition = 1008
 idOf Image = 1022
-idOf Waveform = 1026
+idOf (Waveform l) = 1026
 
 -- what follows the id
 abbrev pub formOf : Kind → Form
@@ -35,19 +36,19 @@ formOf Close = closeForm
 formOf Text = textForm
 formOf Acquisition = acquisition.form
 formOf Image = image.form
-formOf Waveform = waveform.form
+formOf (Waveform l) = waveform.form l
 
 -- 'fixed part', which excludes the 2-byte id
 abbrev pub fixedSize : Kind → ℕ
 fixedSize k = total (formOf k .fixedSegments)
 
--- 'the fixed header's bytes (340, 198 or 32; none for other kinds)'
+-- 'the fixed header's bytes (340, 198 or 32; none for other kinds)', and 40 for an aligned waveform
 abbrev pub headerSize : Kind → ℕ
 headerSize k = reachSize (reachFrom header [] 2 (formOf k .fixedSegments))
 
--- the rows, in the paper's order
-abbrev pub kinds : List Kind
-kinds = ConfigurationName ∷ ConfigurationText ∷ HeaderText ∷ Close ∷ Text ∷ Acquisition ∷ Image ∷ Waveform ∷ []
+-- the rows, in the paper's order: 'The caller says which layout the whole stream uses'
+abbrev pub kinds : Rules → List Kind
+kinds rules = ConfigurationName ∷ ConfigurationText ∷ HeaderText ∷ Close ∷ Text ∷ Acquisition ∷ Image ∷ Waveform (rules .layout) ∷ []
 
 -- the row of a table with this id
 abbrev pub lookup : List Kind → ℕ → Identified
@@ -55,5 +56,5 @@ lookup [] id = Unknown
 lookup (k ∷ ks) id = pick (eqb id (idOf k)) (Known k) (lookup ks id)
 
 -- the kind with this id: 'id not in the table above' is Unknown
-unfoldable pub identified : ℕ → Identified
-identified id = lookup kinds id
+unfoldable pub identified : Rules → ℕ → Identified
+identified rules id = lookup (kinds rules) id

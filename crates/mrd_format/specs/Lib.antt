@@ -21,6 +21,7 @@ pub mod AdjoinLaws
 pub mod ReachLaws
 pub mod ExtentLaws
 pub mod ImageLaws
+pub mod WaveformLaws
 pub mod NormalLaws
 pub mod Made
 pub mod Rewritten

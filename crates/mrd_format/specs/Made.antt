@@ -28,7 +28,7 @@ use Rattle.mrd_format.specs.Parts.{Part, tag, same, isChannel, channelOf
 use Rattle.mrd_format.specs.Segments.{Segment, fixed, counted, padded, sized, channels, sizeIn, total, nameLength, reachIf, reachIn, reachFrom, reachSize, segmentBytes, segmentsBytes}
 use Rattle.mrd_format.specs.Content.{segmentsOf, extentOf, partSize, contentsOf, fieldsOf, recordOf, settledBy, fixedOf, bodyOf, bytesAfterId, messageOf, contentsRecord}
 use Rattle.mrd_format.specs.Headers.{Cell, values, settled}
-use Rattle.mrd_format.specs.HeaderLaws.{packed, acquisition-packed, image-packed, waveform-packed, values-same, settled-fields}
+use Rattle.mrd_format.specs.HeaderLaws.{lawful, acquisition-lawful, image-lawful, waveform-lawful, values-same, settled-fields}
 use Rattle.mrd_format.specs.ReachLaws.{size-segments, reach-if, or-else, not-there}
 
 -- a segment's bytes, of the contents c, are as many as it says; h is the fixed part, which shows a name's length
@@ -117,7 +117,7 @@ pub record Fitting (k : Kind) (c : Contents) : Type 0 where
   pub sizes : map (partSize k (fixedOf k c)) recordParts ≡ map (partLength c) recordParts
 
 -- a header with the true lengths in it, alone, has the fields of the given one
-settled-values : (c : Contents) (n : ℕ) (cs : List Cell) → packed 0 n cs ≡ true → length (c .header) ≡ n →
+settled-values : (c : Contents) (n : ℕ) (cs : List Cell) → lawful 0 n cs ≡ true → length (c .header) ≡ n →
     values cs (settled (partLength c) cs (c .header)) ≡ values cs (c .header)
 settled-values c n cs p e =
     let h = settled (partLength c) cs (c .header) in
@@ -132,10 +132,10 @@ made-fields ConfigurationText c e = refl
 made-fields HeaderText c e = refl
 made-fields Close c e = refl
 made-fields Text c e = refl
-made-fields Acquisition c e = settled-values c 340 acquisition.cells acquisition-packed e
+made-fields Acquisition c e = settled-values c 340 acquisition.cells acquisition-lawful e
 made-fields Image c e =
-    values-same image.cells _ (c .header) (settled-fields (partLength c) 198 image.cells (c .header) _ image-packed (le-of-eq (sym e)))
-made-fields Waveform c e = settled-values c 32 waveform.cells waveform-packed e
+    values-same image.cells _ (c .header) (settled-fields (partLength c) 198 image.cells (c .header) _ image-lawful (le-of-eq (sym e)))
+made-fields (Waveform l) c e = settled-values c (waveform.headerBytes l) (waveform.cells l) (waveform-lawful l) e
 
 module _ (k : Kind) (c : Contents) (f : Fitting k c) where
   abbrev settledOnes : Contents

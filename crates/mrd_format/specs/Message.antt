@@ -6,6 +6,7 @@ use mathlib.Core.List.{List}
 use lib.ListN.{length, take, drop}
 use Rattle.mrd_numbers.specs.Little.{num}
 use Rattle.mrd_format.specs.declared.kind.Kind.{Kind}
+use Rattle.mrd_format.specs.declared.rules.Rules.{Rules}
 use Rattle.mrd_format.specs.declared.kind.Identified.the-variants.{Known}
 use Rattle.mrd_format.specs.Kinds.{formOf, fixedSize, identified}
 use Rattle.mrd_logic.specs.Checks.{Check, first}
@@ -42,10 +43,11 @@ unfoldable pub numbersOf : Kind → List ℕ → List ℕ
 numbersOf k h = formOf k .numbers h
 
 -- 'A message is well formed when its bytes, taken alone, are one row of the table from id to end with none left over, and pass every check
--- but 12, 13 and 19'. That the size is the length says that the id, the fixed part and the whole message fit: checks 1, 3 and 11
-pub record WellFormed (m : List ℕ) : Type 0 where
+-- but 12, 13 and 19', by the rules that the caller says. That the size is the length says that the id, the fixed part and the whole message fit: checks
+-- 1, 3 and 11
+pub record WellFormed (rules : Rules) (m : List ℕ) : Type 0 where
   pub kind : Kind
-  pub known : identified (idAt m) ≡ Known kind
+  pub known : identified rules (idAt m) ≡ Known kind
   pub sound : first (ownChecks kind (fixedPart kind m)) ≡ 0
   pub small : sizeOf kind (fixedPart kind m) ≤ limit
   pub whole : sizeOf kind (fixedPart kind m) ≡ length m

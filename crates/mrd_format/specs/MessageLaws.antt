@@ -2,6 +2,7 @@
 -- Hence no well-formed message is the beginning of another.
 -- Assumes nothing.
 use Prim.Native.Nat.{ℕ, _+_, _≤_}
+use native.Mathlib.Nat.{le-of-eq}
 use native.Mathlib.Omega.{arith}
 use mathlib.Core.Path.{_≡_, sym, ap, _∙_}
 use mathlib.Core.List.{List, _++_}
@@ -11,12 +12,19 @@ use Rattle.mrd_numbers.specs.Little.{num}
 use Rattle.mrd_numbers.specs.Laws.{num-append, num-take, num-drop}
 use Rattle.mrd_format.specs.declared.kind.Kind.{Kind}
 use Rattle.mrd_format.specs.declared.kind.Identified.the-variants.{Known}
+use Rattle.mrd_format.specs.declared.rules.Rules.{Rules}
 use Rattle.mrd_format.specs.Kinds.{fixedSize, identified}
 use Rattle.mrd_format.specs.Message.{idAt, fixedPart, sizeOf, WellFormed}
 
 -- what follows an id does not matter to it
 pub id-append : (m rest : List ℕ) → 2 ≤ length m → idAt (m ++ rest) ≡ idAt m
 id-append m rest h = num-append 2 m rest 0 h
+
+-- nor do other bytes after it
+pub id-kept : (m x : List ℕ) → 2 ≤ length m → idAt (take 2 m ++ x) ≡ idAt m
+id-kept m x h =
+    let two : length (take 2 m) ≡ 2 = length-take-le 2 m h in
+    id-append (take 2 m) x (le-of-eq (sym two)) ∙ sym (id-append (take 2 m) (drop 2 m) (le-of-eq (sym two))) ∙ ap idAt (take-append-drop 2 m)
 
 -- what follows a fixed part does not matter to it
 pub fixed-append : (k : Kind) (m rest : List ℕ) → 2 + fixedSize k ≤ length m → fixedPart k (m ++ rest) ≡ fixedPart k m
@@ -48,12 +56,12 @@ module _ (k : Kind) (z : ℕ) (t : List ℕ) (least : 2 + fixedSize k ≤ z) (fi
   fixed-take = sym (fixed-append k (take z t) (drop z t) long) ∙ ap (fixedPart k) (take-append-drop z t)
 
 -- a well-formed message holds its id and fixed part
-pub well-least : (m : List ℕ) (w : WellFormed m) → 2 + fixedSize (w .kind) ≤ length m
+pub well-least : {rules : Rules} (m : List ℕ) (w : WellFormed rules m) → 2 + fixedSize (w .kind) ≤ length m
 well-least m w = omega (arith, size-least (w .kind) (fixedPart (w .kind) m))
 
 -- a well-formed message with bytes after it: its kind, its fixed part and its size
-module _ (m rest : List ℕ) (w : WellFormed m) where
-  pub well-known : identified (idAt (m ++ rest)) ≡ Known (w .kind)
+module _ {rules : Rules} (m rest : List ℕ) (w : WellFormed rules m) where
+  pub well-known : identified rules (idAt (m ++ rest)) ≡ Known (w .kind)
   well-known =
       let h : 2 ≤ length m = omega (arith, well-least m w) in
       rw id-append (w .known)
@@ -65,7 +73,7 @@ module _ (m rest : List ℕ) (w : WellFormed m) where
   well-size = rw well-fixed (w .whole)
 
 -- two well-formed messages at the front of the same bytes are the same
-pub prefix-free : (m n a b : List ℕ) → WellFormed m → WellFormed n → m ++ a ≡ n ++ b → m ≡ n
+pub prefix-free : {rules : Rules} (m n a b : List ℕ) → WellFormed rules m → WellFormed rules n → m ++ a ≡ n ++ b → m ≡ n
 prefix-free m n a b w v e =
     let k : w .kind ≡ v .kind = cc (well-known m a w, well-known n b v) in
     let z : length m ≡ length n = cc (well-size m a w, well-size n b v) in

@@ -15,15 +15,19 @@ use Rattle.bytes.specs.Bytes.{indexOf, indexAfter}
 use Rattle.mrd_numbers.specs.Little.{toBytes, num}
 use Rattle.mrd_numbers.specs.ToBytesLaws.{length-toBytes}
 use Rattle.mrd_numbers.specs.Stored.{stored}
+use Rattle.mrd_format.specs.declared.rules.Layout.{Layout}
+use Rattle.mrd_format.specs.declared.rules.Rules.{Rules}
 use Rattle.mrd_format.specs.declared.kind.Kind.{Kind}
 use Rattle.mrd_format.specs.declared.kind.Kind.the-variants.{ConfigurationName, ConfigurationText, HeaderText, Close, Text, Acquisition, Image, Waveform}
 use Rattle.mrd_logic.specs.Checks.{first}
 use Rattle.mrd_logic.specs.CheckLaws.{first-passed}
 use Rattle.mrd_format.specs.Message.{limit, idAt, fixedPart, nameLength, ownChecks, bodySize, sizeOf, WellFormed}
-use Rattle.mrd_format.specs.MessageLaws.{id-append}
+use Rattle.mrd_format.specs.MessageLaws.{id-kept}
 use Rattle.mrd_format.specs.Segments.{total}
 use Rattle.mrd_format.specs.Image.{attributeLength}
 use Rattle.mrd_format.specs.ImageLaws.{restated-long, restated-id, restated-size, restated-sound, restated-record, restated-normal, image-normal, true-length}
+use Rattle.mrd_format.specs.Waveform.{cleared}
+use Rattle.mrd_format.specs.WaveformLaws.{waveform-normal, filled-long, filled-same, other-long, other-id, other-checks, other-size, other-record, other-normal}
 use Rattle.mrd_format.specs.Kinds.{formOf}
 use Rattle.mrd_format.specs.Content.{segmentsOf, extentOf, contentsOf, fieldsOf, recordOf, normalOf}
 use Rattle.mrd_format.specs.AdjoinLaws.{allPlain, segments-joined, total-append}
@@ -116,11 +120,7 @@ module _ (m : List ℕ) (whole : length m ≡ 1026) (short : nameLength (nameByt
   name-length = ap nameLength name-fixed ∙ name-filled (nameBytes m) name-long short
 
   name-id : idAt (normalOf ConfigurationName m) ≡ idAt m
-  name-id =
-      ap idAt name-normal ∙
-      id-append (take 2 m) (filled (nameBytes m)) (le-of-eq (sym two)) ∙
-      sym (id-append (take 2 m) (drop 2 m) (le-of-eq (sym two))) ∙
-      ap idAt (take-append-drop 2 m)
+  name-id = ap idAt name-normal ∙ id-kept m (filled (nameBytes m)) (omega (arith, whole))
 
   name-part :
       take (nameLength (nameBytes (normalOf ConfigurationName m))) (drop 2 (normalOf ConfigurationName m)) ≡
@@ -191,6 +191,24 @@ image-normalised m sound small whole =
       own = ap (normalOf Image) e ∙ restated-normal m w size whole long;
     }
 
+-- a waveform's message of its kind's size: its normal form has its filler zero
+waveform-normalised : (l : Layout) (m : List ℕ) → first (ownChecks (Waveform l) (fixedPart (Waveform l) m)) ≡ 0 →
+    sizeOf (Waveform l) (fixedPart (Waveform l) m) ≡ length m → Normalised (Waveform l) m
+unfolding ownChecks
+waveform-normalised l m sound whole =
+    let g = cleared l (fixedPart (Waveform l) m) in
+    let size = filled-long l m whole in
+    let fields = filled-same l m whole in
+    let e = waveform-normal l m whole in
+    record {
+      long = rw e (other-long l m whole g size fields);
+      id = rw e (other-id l m whole g size fields);
+      sound = rw (e, other-checks l m whole g size fields) sound;
+      size = rw e (other-size l m whole g size fields);
+      same = rw e (other-record l m whole g size fields);
+      own = ap (normalOf (Waveform l)) e ∙ other-normal l m whole g size fields;
+    }
+
 -- this holds of the normal form of every message of kind k that passes its own checks, is within the limit and has its size
 normalised : (k : Kind) (m : List ℕ) → first (ownChecks k (fixedPart k m)) ≡ 0 → sizeOf k (fixedPart k m) ≤ limit →
     sizeOf k (fixedPart k m) ≡ length m → Normalised k m
@@ -202,14 +220,14 @@ normalised Close m sound small whole = unchanged Close m sound (kept Close m ref
 normalised Text m sound small whole = unchanged Text m sound (kept Text m refl whole)
 normalised Acquisition m sound small whole = unchanged Acquisition m sound (kept Acquisition m refl whole)
 normalised Image m sound small whole = image-normalised m sound small whole
-normalised Waveform m sound small whole = unchanged Waveform m sound (kept Waveform m refl whole)
+normalised (Waveform l) m sound small whole = waveform-normalised l m sound whole
 
 -- this holds of every well-formed message's normal form
-pub well-normalised : (m : List ℕ) (w : WellFormed m) → Normalised (w .kind) m
+pub well-normalised : {rules : Rules} (m : List ℕ) (w : WellFormed rules m) → Normalised (w .kind) m
 well-normalised m w = normalised (w .kind) m (w .sound) (w .small) (w .whole)
 
 -- and it is well formed, of the same kind
-abbrev pub normal-well : (m : List ℕ) (w : WellFormed m) → WellFormed (normalOf (w .kind) m)
+abbrev pub normal-well : {rules : Rules} (m : List ℕ) (w : WellFormed rules m) → WellFormed rules (normalOf (w .kind) m)
 normal-well m w =
     let n = well-normalised m w in
     record {

@@ -22,4 +22,4 @@ own-numbered Close h = refl
 own-numbered Text h = refl
 own-numbered Acquisition h = refl
 own-numbered Image h = refl
-own-numbered Waveform h = refl
+own-numbered (Waveform l) h = refl

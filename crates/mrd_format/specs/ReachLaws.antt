@@ -47,7 +47,7 @@ fitting Close h e = tt
 fitting Text h e = (tt, (tt, tt))
 fitting Acquisition h e = (tt, (tt, (tt, tt)))
 fitting Image h e = (tt, (tt, (tt, (tt, tt))))
-fitting Waveform h e = (tt, (tt, tt))
+fitting (Waveform l) h e = (tt, (tt, tt))
 
 pub size-segments : (k : Kind) (h : List ℕ) → sizeOf k h ≡ 2 + total (segmentsOf k h)
 unfolding sizeOf bodySize
@@ -141,4 +141,4 @@ channel-is-share Acquisition m c q =
     let h = fixedPart Acquisition m in
     share m (342 + acquisition.trajectorySize h) (acquisition.get acquisition.active-channels h) (acquisition.channelSize h) c q
 channel-is-share Image m c q = absurd (not-there q)
-channel-is-share Waveform m c q = absurd (not-there q)
+channel-is-share (Waveform l) m c q = absurd (not-there q)

@@ -12,6 +12,7 @@ use Rattle.mrd_numbers.specs.Little.{toBytes, num, Bytes}
 use Rattle.mrd_numbers.specs.Laws.{num-take, num-drop}
 use Rattle.mrd_numbers.specs.ByteLaws.{bytes-take, bytes-drop, write-num}
 use Rattle.mrd_logic.specs.Checks.{first}
+use Rattle.mrd_format.specs.declared.rules.Rules.{Rules}
 use Rattle.mrd_format.specs.declared.kind.Kind.{Kind}
 use Rattle.mrd_format.specs.declared.kind.Kind.the-variants.{ConfigurationName, ConfigurationText, HeaderText, Close, Text, Acquisition, Image, Waveform}
 use Rattle.mrd_format.specs.Kinds.{idOf, formOf, fixedSize}
@@ -27,7 +28,7 @@ use Rattle.mrd_format.specs.Waveform as waveform
 use Rattle.mrd_format.specs.Parts.{Part, attributes, Parts, Contents, partLength}
 use Rattle.mrd_format.specs.Headers.{Cell, values, settled, written}
 use Rattle.mrd_format.specs.AdjoinLaws.{joined-channels}
-use Rattle.mrd_format.specs.HeaderLaws.{packed, acquisition-packed, image-packed, waveform-packed, SameFields, front-fields, settled-same, written-fields}
+use Rattle.mrd_format.specs.HeaderLaws.{lawful, acquisition-lawful, image-lawful, waveform-lawful, SameFields, front-fields, settled-same, written-fields}
 use Rattle.mrd_format.specs.ImageLaws.{image-settled}
 use Rattle.mrd_format.specs.NormalLaws.{nameBytes, name-short}
 
@@ -96,22 +97,24 @@ content Acquisition m b sound whole =
 content Image m b sound whole =
     let h = take 206 (drop 2 m) in
     then {a = take 2 m} refl (image-content (partLength (contentsOf Image m)) (partSize Image h) m b (image.attributeLength h) (image.pixelsSize h) refl whole refl refl)
-content Waveform m b sound whole =
-    let h = take 32 (drop 2 m) in
-    then {a = take 2 m} refl (then {a = settled (λ (p : Part). 0) waveform.cells h} refl (last (take (waveform.bodySize h) (drop 34 m))))
+content (Waveform l) m b sound whole =
+    let n = waveform.headerBytes l in
+    let h = take n (drop 2 m) in
+    then {a = take 2 m} refl
+    (then {a = settled (λ (p : Part). 0) (waveform.cells l) h} refl (last (take (waveform.bodySize l h) (drop (2 + n) m))))
 
 -- a message's id is its kind's
-id-bytes : (m : List ℕ) → Bytes m → (w : WellFormed m) → toBytes 2 (idOf (w .kind)) ≡ take 2 m
-id-bytes m b w =
-    ap (toBytes 2) (sym (known-id (idAt m) (w .known))) ∙ write-num 2 m 0 b (omega (arith, well-least m w))
+id-bytes : {rules : Rules} (m : List ℕ) → Bytes m → (w : WellFormed rules m) → toBytes 2 (idOf (w .kind)) ≡ take 2 m
+id-bytes {rules} m b w =
+    ap (toBytes 2) (sym (known-id rules (idAt m) (w .known))) ∙ write-num 2 m 0 b (omega (arith, well-least m w))
 
 -- a message made again of its own header and parts is its normal form
-pub rewritten-normal : (m : List ℕ) → Bytes m → (w : WellFormed m) → messageOf (w .kind) (contentsOf (w .kind) m) ≡ normalOf (w .kind) m
+pub rewritten-normal : {rules : Rules} (m : List ℕ) → Bytes m → (w : WellFormed rules m) → messageOf (w .kind) (contentsOf (w .kind) m) ≡ normalOf (w .kind) m
 unfolding messageOf
 rewritten-normal m b w = then (id-bytes m b w) refl ∙ content (w .kind) m b (w .sound) (w .whole)
 
 -- a header is its fields, written, once the true lengths are put in: the cells of n bytes, at the front of a fixed part of z
-fields-written : (l : Part → ℕ) (m : List ℕ) → Bytes m → (n z : ℕ) (cs : List Cell) → packed 0 n cs ≡ true → n ≤ z → 2 + z ≤ length m →
+fields-written : (l : Part → ℕ) (m : List ℕ) → Bytes m → (n z : ℕ) (cs : List Cell) → lawful 0 n cs ≡ true → n ≤ z → 2 + z ≤ length m →
     settled l cs (written cs (values cs (take z (drop 2 m)))) ≡ settled l cs (take n (drop 2 m))
 fields-written l m b n z cs p within long =
     let h = take z (drop 2 m) in
@@ -129,9 +132,10 @@ header-again l ConfigurationText m b long = refl
 header-again l HeaderText m b long = refl
 header-again l Close m b long = refl
 header-again l Text m b long = refl
-header-again l Acquisition m b long = fields-written l m b 340 340 acquisition.cells acquisition-packed (omega arith) long
-header-again l Image m b long = fields-written l m b 198 206 image.cells image-packed (omega arith) long
-header-again l Waveform m b long = fields-written l m b 32 32 waveform.cells waveform-packed (omega arith) long
+header-again l Acquisition m b long = fields-written l m b 340 340 acquisition.cells acquisition-lawful (omega arith) long
+header-again l Image m b long = fields-written l m b 198 206 image.cells image-lawful (omega arith) long
+header-again z (Waveform l) m b long =
+    fields-written z m b (waveform.headerBytes l) (waveform.headerBytes l) (waveform.cells l) (waveform-lawful l) (omega arith) long
 
 -- headers that are the same once the true lengths are put in make the same message of the same parts
 settled-message : (k : Kind) (g h : List ℕ) (ps : Parts) →
@@ -146,7 +150,7 @@ settled-message k g h ps e =
     toBytes 2 (idOf k) ++ (fixed ++ segmentsBytes z c (formOf k .bodySegments fixed))) e
 
 -- what its record is written as is its normal form too: records that are equal have one set of bytes
-pub record-writes : (m : List ℕ) → Bytes m → (w : WellFormed m) → bytesOf (recordOf (w .kind) m) ≡ normalOf (w .kind) m
+pub record-writes : {rules : Rules} (m : List ℕ) → Bytes m → (w : WellFormed rules m) → bytesOf (recordOf (w .kind) m) ≡ normalOf (w .kind) m
 unfolding bytesOf recordOf
 record-writes m b w =
     let k = w .kind in

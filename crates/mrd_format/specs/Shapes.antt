@@ -19,7 +19,7 @@ kindOf Close = Kind.Close
 kindOf (Text s) = Kind.Text
 kindOf (Acquisition s) = Kind.Acquisition
 kindOf (Image s) = Kind.Image
-kindOf (Waveform s) = Kind.Waveform
+kindOf (Waveform s) = Kind.Waveform (s .layout)
 
 abbrev pub acquisitionNumbers : AcquisitionShape → List ℕ
 acquisitionNumbers s =

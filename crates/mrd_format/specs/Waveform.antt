@@ -1,69 +1,118 @@
--- The waveform header (1026), packed, the check that it must pass, and the size it gives.
+-- The waveform header (1026) in its layouts, the check that it must pass, and the size it gives. All of it goes by the list of offsets.
 -- Assumes nothing.
 use Prim.Native.Nat.{ℕ, _*_}
 use mathlib.Core.Bool.{not}
 use mathlib.Core.List.{List, [], _∷_, map}
 use lib.Dec.{eqb}
-use Rattle.mrd_format.specs.Elements.{Run, one, element, u16, u32, u64, f32}
-use Rattle.mrd_format.specs.Headers.{Cell, field, runs}
+use Rattle.mrd_format.specs.Elements.{ElementType, Run, one, element, u16, u32, u64, f32}
+use Rattle.mrd_format.specs.Headers.{Cell, spaced, settled}
 use Rattle.mrd_logic.specs.Checks.{Check, _when_}
-use Rattle.mrd_format.specs.Parts.{waveform}
+use Rattle.mrd_format.specs.declared.rules.Layout.{Layout}
+use Rattle.mrd_format.specs.declared.rules.Layout.the-variants.{Packed, Aligned}
+use Rattle.mrd_format.specs.declared.rules.WaveformOffsets.{WaveformOffsets}
+use Rattle.mrd_format.specs.Parts.{Part, waveform}
 use Rattle.mrd_format.specs.Segments.{Segment, fixed, sized, Form}
 
 pub data Field : Type 0 where
   version flags measurement-uid scan-counter time-stamp number-of-samples channels sample-time-us waveform-id : Field
 
--- 'Waveform header, packed for this build'
-abbrev pub layout : Field → Run
-layout version = one 0 u16
-layout flags = one 2 u64
-layout measurement-uid = one 10 u32
-layout scan-counter = one 14 u32
-layout time-stamp = one 18 u32
-layout number-of-samples = one 22 u16
-layout channels = one 24 u16
-layout sample-time-us = one 26 f32
-layout waveform-id = one 30 u16
+abbrev pub typeOf : Field → ElementType
+typeOf version = u16
+typeOf flags = u64
+typeOf measurement-uid = u32
+typeOf scan-counter = u32
+typeOf time-stamp = u32
+typeOf number-of-samples = u16
+typeOf channels = u16
+typeOf sample-time-us = f32
+typeOf waveform-id = u16
+
+-- where each starts: document 01's 'Waveform header, packed for this build', and request E3's 'waveform headers of 40 bytes'
+abbrev pub offset : Layout → Field → ℕ
+offset Packed version = 0
+offset Packed flags = 2
+offset Packed measurement-uid = 10
+offset Packed scan-counter = 14
+offset Packed time-stamp = 18
+offset Packed number-of-samples = 22
+offset Packed channels = 24
+offset Packed sample-time-us = 26
+offset Packed waveform-id = 30
+offset Aligned version = 0
+offset Aligned flags = 8
+offset Aligned measurement-uid = 16
+offset Aligned scan-counter = 20
+offset Aligned time-stamp = 24
+offset Aligned number-of-samples = 28
+offset Aligned channels = 30
+offset Aligned sample-time-us = 32
+offset Aligned waveform-id = 36
+
+-- the same as the code has them
+abbrev pub offsetsOf : Layout → WaveformOffsets
+offsetsOf l =
+    record {
+      version = offset l version;
+      flags = offset l flags;
+      «measurement_uid» = offset l measurement-uid;
+      «scan_counter» = offset l scan-counter;
+      «time_stamp» = offset l time-stamp;
+      «number_of_samples» = offset l number-of-samples;
+      channels = offset l channels;
+      «sample_time_us» = offset l sample-time-us;
+      «waveform_id» = offset l waveform-id;
+    }
+
+abbrev pub headerBytes : Layout → ℕ
+headerBytes Packed = 32
+headerBytes Aligned = 40
 
 -- the header, in the order of its bytes
 abbrev pub header : List Field
 header =
     version ∷ flags ∷ measurement-uid ∷ scan-counter ∷ time-stamp ∷ number-of-samples ∷ channels ∷ sample-time-us ∷ waveform-id ∷ []
 
--- every one of them is a field of the record
-abbrev pub cells : List Cell
-cells = map (λ (f : Field). field (layout f)) header
+abbrev pub run : Layout → Field → Run
+run l f = one (offset l f) (typeOf f)
 
-abbrev pub table : List Run
-table = runs cells
+abbrev pub table : Layout → List Run
+table l = map (λ (f : Field). run l f) header
+
+-- every one of them is a field of the record; what they leave out 'carries nothing'
+abbrev pub cells : Layout → List Cell
+cells l = spaced 0 (headerBytes l) (table l)
+
+-- a header with its filler zero
+unfoldable pub cleared : Layout → List ℕ → List ℕ
+cleared l h = settled (λ (p : Part). 0) (cells l) h
 
 -- the number in a field
-abbrev pub get : Field → List ℕ → ℕ
-get f h = element (layout f) 0 h
+abbrev pub get : Layout → Field → List ℕ → ℕ
+get l f h = element (run l f) 0 h
 
 -- check 4
-unfoldable pub checks : List ℕ → List Check
-checks h = (4 when not (eqb (get version h) 1)) ∷ []
+unfoldable pub checks : Layout → List ℕ → List Check
+checks l h = (4 when not (eqb (get l version h) 1)) ∷ []
 
 -- what follows the header: 'channels x samples x 4'
-unfoldable pub bodySize : List ℕ → ℕ
-bodySize h = get channels h * get number-of-samples h * 4
+unfoldable pub bodySize : Layout → List ℕ → ℕ
+bodySize l h = get l channels h * get l number-of-samples h * 4
 
-abbrev pub body : List ℕ → List Segment
-body h = sized waveform (bodySize h) ∷ []
+abbrev pub body : Layout → List ℕ → List Segment
+body l h = sized waveform (bodySize l h) ∷ []
 
 -- 'samples and channels for a waveform'
-unfoldable pub numbers : List ℕ → List ℕ
-numbers h = get number-of-samples h ∷ get channels h ∷ []
+unfoldable pub numbers : Layout → List ℕ → List ℕ
+numbers l h = get l number-of-samples h ∷ get l channels h ∷ []
 
-abbrev pub form : Form
-form =
+abbrev pub form : Layout → Form
+form l =
     record {
-      cells = cells;
-      fixedSegments = fixed 32 ∷ [];
-      bodySegments = body;
-      checks = checks;
-      numbers = numbers;
-      counter = get scan-counter;
-      uid = get measurement-uid;
+      cells = cells l;
+      fixedSegments = fixed (headerBytes l) ∷ [];
+      bodySegments = body l;
+      checks = checks l;
+      numbers = numbers l;
+      counter = get l scan-counter;
+      uid = get l measurement-uid;
     }

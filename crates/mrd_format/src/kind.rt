@@ -2,6 +2,8 @@
 ghost use mathlib.Core.Path.{_≡_};
 ghost use Rattle.mrd_format.specs.Kinds.{idOf, fixedSize, identified};
 ghost use Rattle.mrd_format.specs.Kinds.{headerSize};
+use crate::rules::Layout;
+use crate::rules::Rules;
 
 pub enum Kind {
     ConfigurationName,
@@ -11,7 +13,8 @@ pub enum Kind {
     Text,
     Acquisition,
     Image,
-    Waveform,
+    // With the layout of its header, which the rules of its stream say.
+    Waveform(Layout),
 }
 
 // What an id says.
@@ -51,8 +54,6 @@ impl Kind {
 
     pub const IMAGE_FIXED: usize = 206;
 
-    pub const WAVEFORM_FIXED: usize = 32;
-
     // An image's header alone, without the 8-byte length that is in its fixed part.
     pub const IMAGE_HEADER: usize = 198;
 
@@ -60,9 +61,10 @@ impl Kind {
     pub const ATTRIBUTE_STRING_LEN: usize = 194;
 
     // The kind with this id.
-    pub fn of_id(id: u16) -> Identified
-        ensures { λ r. ⌜ r ≡ identified id ⌝ }
+    pub fn of_id(rules: Rules, id: u16) -> Identified
+        ensures { λ r. ⌜ r ≡ identified rules id ⌝ }
     {
+        let layout = rules.layout;
         match id {
             Kind::CONFIGURATION_NAME => Identified::Known(Kind::ConfigurationName),
             Kind::CONFIGURATION_TEXT => Identified::Known(Kind::ConfigurationText),
@@ -71,7 +73,7 @@ impl Kind {
             Kind::TEXT => Identified::Known(Kind::Text),
             Kind::ACQUISITION => Identified::Known(Kind::Acquisition),
             Kind::IMAGE => Identified::Known(Kind::Image),
-            Kind::WAVEFORM => Identified::Known(Kind::Waveform),
+            Kind::WAVEFORM => Identified::Known(Kind::Waveform(layout)),
             _ => Identified::Unknown,
         }
     }
@@ -88,7 +90,7 @@ impl Kind {
             Kind::Text => Kind::TEXT,
             Kind::Acquisition => Kind::ACQUISITION,
             Kind::Image => Kind::IMAGE,
-            Kind::Waveform => Kind::WAVEFORM,
+            Kind::Waveform(_) => Kind::WAVEFORM,
         }
     }
 
@@ -104,7 +106,7 @@ impl Kind {
             Kind::Text => Kind::TEXT_FIXED,
             Kind::Acquisition => Kind::ACQUISITION_FIXED,
             Kind::Image => Kind::IMAGE_FIXED,
-            Kind::Waveform => Kind::WAVEFORM_FIXED,
+            Kind::Waveform(layout) => layout.header_size(),
         }
     }
 
@@ -120,7 +122,7 @@ impl Kind {
             Kind::Text => 0,
             Kind::Acquisition => Kind::ACQUISITION_FIXED,
             Kind::Image => Kind::IMAGE_HEADER,
-            Kind::Waveform => Kind::WAVEFORM_FIXED,
+            Kind::Waveform(layout) => layout.header_size(),
         }
     }
 }

@@ -3,6 +3,7 @@ ghost use mathlib.Core.Path.{_≡_};
 ghost use Rattle.mrd_format.specs.Shapes.{kindOf};
 use crate::kind::Kind;
 use crate::mask::Mask;
+use crate::rules::Layout;
 
 // The length of a name or of a text, in bytes.
 pub struct TextShape {
@@ -26,6 +27,7 @@ pub struct ImageShape {
 }
 
 pub struct WaveformShape {
+    pub layout: Layout,
     pub number_of_samples: u16,
     pub channels: u16,
 }
@@ -55,7 +57,10 @@ impl Shape {
             Shape::Text(_) => Kind::Text,
             Shape::Acquisition(_) => Kind::Acquisition,
             Shape::Image(_) => Kind::Image,
-            Shape::Waveform(_) => Kind::Waveform,
+            Shape::Waveform(shape) => {
+                let layout = shape.layout;
+                Kind::Waveform(layout)
+            }
         }
     }
 }

@@ -13,6 +13,7 @@ use Rattle.mrd_stream.specs.Walk.{Trace, message}
 use Rattle.mrd_stream.specs.Index.{Entry, entryOf, entriesOf}
 use Rattle.mrd_stream.specs.Places.{Located}
 use Rattle.mrd_stream.specs.StepLaws.{Passes}
+use Rattle.mrd_format.specs.declared.rules.Rules.{Rules}
 
 -- the entry of the record that lies at l in s
 abbrev pub entryAt : List ℕ → Located → Entry
@@ -23,7 +24,7 @@ abbrev pub WithinStream : List ℕ → Located → Type 0
 WithinStream s l = l .start + (2 + fixedSize (l .kind)) ≤ length s
 
 -- a message that a step passes
-module _ {c d : Cursor} {s : List ℕ} {l : Located} (p : Passes c s l d) where
+module _ {rules : Rules} {c d : Cursor} {s : List ℕ} {l : Located} (p : Passes rules c s l d) where
   here : l .start ≡ c .start
   here = ap (λ (l : Located). l .start) (p .place)
 

@@ -6,11 +6,12 @@ use lib.ListN.{length}
 use Rattle.mrd_stream.specs.Index.{index}
 use Rattle.mrd_logic.specs.Answer.{Answer}
 use Rattle.mrd_stream.specs.Output.{answerFor, outputFor}
+use Rattle.mrd_format.specs.declared.rules.Rules.{Rules}
 
 -- the answer for the stream s and an output of so many bytes
-abbrev pub indexAnswer : List ℕ → ℕ → Answer ℕ
-indexAnswer s room = answerFor s (length (index s)) room
+abbrev pub indexAnswer : Rules → List ℕ → ℕ → Answer ℕ
+indexAnswer rules s room = answerFor rules s (length (index rules s)) room
 
 -- the output afterwards, which held o
-abbrev pub indexOutput : List ℕ → List ℕ → List ℕ
-indexOutput s o = outputFor s (length (index s)) (index s) o
+abbrev pub indexOutput : Rules → List ℕ → List ℕ → List ℕ
+indexOutput rules s o = outputFor rules s (length (index rules s)) (index rules s) o

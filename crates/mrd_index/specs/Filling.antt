@@ -14,6 +14,7 @@ use Rattle.mrd_stream.specs.Index.{Entry, entriesOf, entries, entryField, entry
 use Rattle.mrd_stream.specs.Places.{Located, over, step}
 use Rattle.mrd_stream.specs.StepLaws.{Passes, On, on-start, on-next, on-end}
 use Rattle.mrd_index.specs.Entries.{entryAt, passes-number, passes-entry}
+use Rattle.mrd_format.specs.declared.rules.Rules.{Rules}
 
 -- how entries are laid out, one after the other: where that of record n stands, what one and what all of them are written as
 pub record Arrangement : Type 0 where
@@ -49,37 +50,37 @@ inColumn number =
     }
 
 -- the walk over s stands at c; out, which was o, holds the entries of what was passed
-pub record Filling (f : Arrangement) (s o : List ℕ) (c : Cursor) (out : List ℕ) : Type 0 where
-  pub room : f .at 0 + length (f .all (entries s)) ≤ length o
+pub record Filling (rules : Rules) (f : Arrangement) (s o : List ℕ) (c : Cursor) (out : List ℕ) : Type 0 where
+  pub room : f .at 0 + length (f .all (entries rules s)) ≤ length o
   pub ready : List ℕ
   pub long : f .at (c .number) ≡ f .at 0 + length ready
   pub holds : out ≡ stored (f .at 0) ready o
-  pub whole : On (λ r. ready ++ f .all (entriesOf r)) (f .all (entries s)) c s
+  pub whole : On rules (λ r. ready ++ f .all (entriesOf r)) (f .all (entries rules s)) c s
 
-pub start : {f : Arrangement} {s o : List ℕ} → f .at 0 + length (f .all (entries s)) ≤ length o → Filling f s o beginning o
+pub start : (rules : Rules) {f : Arrangement} {s o : List ℕ} → f .at 0 + length (f .all (entries rules s)) ≤ length o → Filling rules f s o beginning o
 unfolding entries stored
-start {f} {s} {o} h =
+start rules {f} {s} {o} h =
     record {
       room = h;
       ready = [];
       long = omega arith;
       holds = rw add-zero (sym (take-append-drop (f .at 0) o));
-      whole = on-start (λ r. f .all (entriesOf r)) s;
+      whole = on-start rules (λ r. f .all (entriesOf r)) s;
     }
 
 -- the output keeps its length
-pub same-size : {f : Arrangement} {s o out : List ℕ} {c : Cursor} → Filling f s o c out → length out ≡ length o
+pub same-size : {rules : Rules} {f : Arrangement} {s o out : List ℕ} {c : Cursor} → Filling rules f s o c out → length out ≡ length o
 same-size {f} {s} {o} {out} {c} h =
     let all = simp length-append at (ap length (h .whole .kept)) in
     ap length (h .holds) ∙ length-stored (f .at 0) (h .ready) o (omega (arith, all, h .room))
 
 -- past a message with the entry e
-module _ {f : Arrangement} {s o out : List ℕ} {c d : Cursor} {l : Located} (h : Filling f s o c out) (p : Passes c s l d) where
-  more : On (λ r. (h .ready ++ f .one (entryAt s l)) ++ f .all (entriesOf r)) (f .all (entries s)) d s
+module _ {rules : Rules} {f : Arrangement} {s o out : List ℕ} {c d : Cursor} {l : Located} (h : Filling rules f s o c out) (p : Passes rules c s l d) where
+  more : On rules (λ r. (h .ready ++ f .one (entryAt s l)) ++ f .all (entriesOf r)) (f .all (entries rules s)) d s
   more =
       let a = h .ready in
       let n = f .one (entryAt s l) in
-      on-next (λ r. a ++ f .all (entriesOf r)) s (λ r. (a ++ n) ++ f .all (entriesOf r)) (h .whole) p
+      on-next rules (λ r. a ++ f .all (entriesOf r)) s (λ r. (a ++ n) ++ f .all (entriesOf r)) (h .whole) p
       (λ r. ap (λ (es : List Entry). a ++ f .all es) (passes-entry p r) ∙
       ap (λ (t : List ℕ). a ++ t) (f .more (entryAt s l) (entriesOf r)) ∙ sym (append-assoc a n (f .all (entriesOf r))))
 
@@ -94,7 +95,7 @@ module _ {f : Arrangement} {s o out : List ℕ} {c d : Cursor} {l : Located} (h 
       omega (arith, all, place, h .room, same-size h)
 
   -- and is written there
-  pub next : {out′ : List ℕ} → out′ ≡ stored (f .at (l .number)) (f .one (entryAt s l)) out → Filling f s o d out′
+  pub next : {out′ : List ℕ} → out′ ≡ stored (f .at (l .number)) (f .one (entryAt s l)) out → Filling rules f s o d out′
   next {out′} e =
       let a = h .ready in
       let n = f .one (entryAt s l) in
@@ -108,9 +109,9 @@ module _ {f : Arrangement} {s o out : List ℕ} {c d : Cursor} {l : Located} (h 
       }
 
 -- at the end
-pub finish : {f : Arrangement} {s o out : List ℕ} {c : Cursor} {v : Verdict} → Filling f s o c out → step c s ≡ over v →
-    out ≡ stored (f .at 0) (f .all (entries s)) o
-finish {f} {s} {o} {out} {c} {v} h e =
-    let all : h .ready ++ f .all [] ≡ f .all (entries s) = on-end (λ r. h .ready ++ f .all (entriesOf r)) s (h .whole) e in
+pub finish : {rules : Rules} {f : Arrangement} {s o out : List ℕ} {c : Cursor} {v : Verdict} → Filling rules f s o c out → step rules c s ≡ over v →
+    out ≡ stored (f .at 0) (f .all (entries rules s)) o
+finish {rules} {f} {s} {o} {out} {c} {v} h e =
+    let all : h .ready ++ f .all [] ≡ f .all (entries rules s) = on-end rules (λ r. h .ready ++ f .all (entriesOf r)) s (h .whole) e in
     let nothing : h .ready ++ f .all [] ≡ h .ready = ap (λ (t : List ℕ). h .ready ++ t) (f .none) ∙ append-nil (h .ready) in
     h .holds ∙ ap (λ (m : List ℕ). stored (f .at 0) m o) (sym nothing ∙ all)

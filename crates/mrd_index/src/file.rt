@@ -10,6 +10,7 @@ ghost use Rattle.mrd_stream.specs.Output.{writtenMeaning};
 ghost use Rattle.mrd_index.specs.File.{indexAnswer, indexOutput};
 use crate::entry::entry_of;
 use mrd_cursor::Cursor;
+use mrd_format::Rules;
 use mrd_format::refusal;
 use mrd_index_fields::END;
 use mrd_index_fields::ENTRY;
@@ -25,22 +26,22 @@ use mrd_stream::check;
 // Writes the index of the stream s to the front of out and answers its length, which is 23 bytes and 17 for
 // each record; else answers the stream's refusal, or 14 where out is shorter than that. The rest of out keeps
 // its content, and a refusal changes no byte.
-pub fn write_index(s: &[u8], out: &mut [u8]) -> Written
-    ensures { λ r. ⌜ writtenMeaning r ≡ indexAnswer (now (s .entry)) (length (now (out .entry))) ⌝ }
-    ensures { λ _. ⌜ now (out .exit) ≡ indexOutput (now (s .entry)) (now (out .entry)) ⌝ }
+pub fn write_index(rules: Rules, s: &[u8], out: &mut [u8]) -> Written
+    ensures { λ r. ⌜ writtenMeaning r ≡ indexAnswer rules (now (s .entry)) (length (now (out .entry))) ⌝ }
+    ensures { λ _. ⌜ now (out .exit) ≡ indexOutput rules (now (s .entry)) (now (out .entry)) ⌝ }
 {
-    let checked = check(s);
+    let checked = check(rules, s);
     match checked {
-        Checked::Accepted(count) => write(s, count, out),
+        Checked::Accepted(count) => write(rules, s, count, out),
         Checked::Refused(refusal) => Written::Stream(refusal),
     }
 }
 
 // The same for an accepted stream of so many records.
-fn write(s: &[u8], count: usize, out: &mut [u8]) -> Written
-    requires { ⌜ answer (now s) ≡ accepted count ⌝ }
-    ensures { λ r. ⌜ writtenMeaning r ≡ indexAnswer (now (s .entry)) (length (now (out .entry))) ⌝ }
-    ensures { λ _. ⌜ now (out .exit) ≡ indexOutput (now (s .entry)) (now (out .entry)) ⌝ }
+fn write(rules: Rules, s: &[u8], count: usize, out: &mut [u8]) -> Written
+    requires { ⌜ answer rules (now s) ≡ accepted count ⌝ }
+    ensures { λ r. ⌜ writtenMeaning r ≡ indexAnswer rules (now (s .entry)) (length (now (out .entry))) ⌝ }
+    ensures { λ _. ⌜ now (out .exit) ≡ indexOutput rules (now (s .entry)) (now (out .entry)) ⌝ }
 {
     let end = FRONT + ENTRY * count;
     let size = end + END;
@@ -48,19 +49,19 @@ fn write(s: &[u8], count: usize, out: &mut [u8]) -> Written
         return Written::Refused(refusal::OUTPUT_SHORT);
     }
     put_front(out, s.len() as u64);
-    put_entries(s, out);
+    put_entries(rules, s, out);
     put_end(out, end, count as u32);
     Written::Length(size)
 }
 
 // Writes the entry of each record of s, from byte 16 of out on: one step for each record.
-fn put_entries(s: &[u8], out: &mut [u8])
-    requires { ⌜ 16 + length (entryFields (entries (now s))) ≤ length (now out) ⌝ }
-    ensures { λ _. ⌜ now (out .exit) ≡ stored 16 (entryFields (entries (now (s .entry)))) (now (out .entry)) ⌝ }
+fn put_entries(rules: Rules, s: &[u8], out: &mut [u8])
+    requires { ⌜ 16 + length (entryFields (entries rules (now s))) ≤ length (now out) ⌝ }
+    ensures { λ _. ⌜ now (out .exit) ≡ stored 16 (entryFields (entries rules (now (s .entry)))) (now (out .entry)) ⌝ }
 {
     let mut c = Cursor::beginning();
     loop {
-        let step = mrd_stream::next(c, s);
+        let step = mrd_stream::next(rules, c, s);
         match step {
             Step::Message(record, next) => {
                 let place = record.place;

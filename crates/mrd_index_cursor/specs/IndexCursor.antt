@@ -8,6 +8,7 @@ use lib.ListN.{length, getD}
 use Rattle.mrd_logic.specs.Choice.{pick}
 use Rattle.mrd_logic.specs.Answer.{Answer, answered, number}
 use Rattle.mrd_format.specs.declared.kind.Kind.{Kind}
+use Rattle.mrd_format.specs.declared.rules.Rules.{Rules}
 use Rattle.mrd_format.specs.declared.kind.Kind.the-variants.{ConfigurationName, ConfigurationText, HeaderText, Close, Text, Acquisition, Image, Waveform}
 use Rattle.mrd_format.specs.declared.kind.Identified.{Identified}
 use Rattle.mrd_format.specs.declared.kind.Identified.the-variants.{Known, Unknown}
@@ -28,7 +29,7 @@ phaseBefore Close = Headed
 phaseBefore Text = Headed
 phaseBefore Acquisition = Headed
 phaseBefore Image = Headed
-phaseBefore Waveform = Headed
+phaseBefore (Waveform l) = Headed
 
 -- by what an id says; a message with an id that no kind has is refused in any phase
 abbrev pub phaseFor : Identified → Phase
@@ -36,10 +37,10 @@ phaseFor (Known k) = phaseBefore k
 phaseFor Unknown = Start
 
 -- the cursor at record n, by place n of the columns of starts and ids; 16, 'no such record', where one of them has no such place
-unfoldable pub cursorFor : List ℕ → List ℕ → ℕ → Answer Cursor
-cursorFor starts ids n =
+unfoldable pub cursorFor : Rules → List ℕ → List ℕ → ℕ → Answer Cursor
+cursorFor rules starts ids n =
     pick (ltb n (length starts) && ltb n (length ids))
-    (answered (record { number = n; start = getD starts n 0; phase = phaseFor (identified (getD ids n 0)) }))
+    (answered (record { number = n; start = getD starts n 0; phase = phaseFor (identified rules (getD ids n 0)) }))
     (number 16)
 
 -- what each case of the enum says

@@ -6,6 +6,7 @@ use mrd_cursor::Cursor;
 use mrd_cursor::Phase;
 use mrd_format::Identified;
 use mrd_format::Kind;
+use mrd_format::Rules;
 use mrd_format::refusal;
 
 // A cursor, or the number of refusal.
@@ -16,8 +17,8 @@ pub enum CursorAnswer {
 
 // The cursor at record n of a stream whose index these columns hold; 16 where a column has no place n. What the
 // columns hold is believed, so any other columns give a cursor too, where a step answers what it finds.
-pub fn cursor_for(starts: &[u64], ids: &[u16], n: usize) -> CursorAnswer
-    ensures { λ r. ⌜ cursorMeaning r ≡ cursorFor (now (starts .entry)) (now (ids .entry)) n ⌝ }
+pub fn cursor_for(rules: Rules, starts: &[u64], ids: &[u16], n: usize) -> CursorAnswer
+    ensures { λ r. ⌜ cursorMeaning r ≡ cursorFor rules (now (starts .entry)) (now (ids .entry)) n ⌝ }
 {
     if starts.len() <= n {
         return CursorAnswer::Refused(refusal::NO_RECORD);
@@ -28,15 +29,15 @@ pub fn cursor_for(starts: &[u64], ids: &[u16], n: usize) -> CursorAnswer
     CursorAnswer::At(Cursor {
         number: n,
         start: starts[n] as usize,
-        phase: phase_for(ids[n]),
+        phase: phase_for(rules, ids[n]),
     })
 }
 
 // A phase in which a message with this id may come. One with an id that no kind has is refused in any.
-fn phase_for(id: u16) -> Phase
-    ensures { λ r. ⌜ r ≡ phaseFor (identified id) ⌝ }
+fn phase_for(rules: Rules, id: u16) -> Phase
+    ensures { λ r. ⌜ r ≡ phaseFor (identified rules id) ⌝ }
 {
-    match Kind::of_id(id) {
+    match Kind::of_id(rules, id) {
         Identified::Known(kind) => phase_before(kind),
         Identified::Unknown => Phase::Start,
     }
@@ -55,6 +56,6 @@ fn phase_before(kind: Kind) -> Phase
         Kind::Text => Phase::Headed,
         Kind::Acquisition => Phase::Headed,
         Kind::Image => Phase::Headed,
-        Kind::Waveform => Phase::Headed,
+        Kind::Waveform(_) => Phase::Headed,
     }
 }

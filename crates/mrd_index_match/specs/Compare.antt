@@ -14,6 +14,7 @@ use Rattle.mrd_index_match.specs.declared.compare.Form.{Form}
 use Rattle.mrd_index_match.specs.declared.compare.Form
 use Rattle.mrd_index_match.specs.declared.compare.Matched.{Matched}
 use Rattle.mrd_index_match.specs.declared.compare.Matched
+use Rattle.mrd_format.specs.declared.rules.Rules.{Rules}
 
 -- what each case of the enum says: the paper's number and values
 abbrev pub matchedMeaning : Matched → Answer (Unit {0})
@@ -26,13 +27,13 @@ abbrev pub believed : Bool → Answer (Unit {0})
 believed x = pick x (answered tt) (number 15)
 
 -- 'its stream refusal first, then 15', for a given file, which is to be the index byte for byte
-unfoldable pub fileMatch : List ℕ → List ℕ → Answer (Unit {0})
-fileMatch s file = unlessRefused (answer s) (believed (equal file (index s)))
+unfoldable pub fileMatch : Rules → List ℕ → List ℕ → Answer (Unit {0})
+fileMatch rules s file = unlessRefused (answer rules s) (believed (equal file (index rules s)))
 
 -- 'columns equal the index when none is too short and the records' places hold its numbers'
-unfoldable pub columnsMatch : List ℕ → List ℕ → List ℕ → List ℕ → Answer (Unit {0})
-columnsMatch s starts ids counters =
-    unlessRefused (answer s) (believed (begins (startColumn s) starts && (begins (idColumn s) ids && begins (counterColumn s) counters)))
+unfoldable pub columnsMatch : Rules → List ℕ → List ℕ → List ℕ → List ℕ → Answer (Unit {0})
+columnsMatch rules s starts ids counters =
+    unlessRefused (answer rules s) (believed (begins (startColumn rules s) starts && (begins (idColumn rules s) ids && begins (counterColumn rules s) counters)))
 
 -- what is given: one form, and the lists of both
 pub record Given : Type 0 where

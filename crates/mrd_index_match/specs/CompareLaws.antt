@@ -15,6 +15,7 @@ use Rattle.mrd_stream.specs.Index.{Entry, entries, frontField, entryField, entr
 use Rattle.mrd_index.specs.FileLaws.{entries-long, index-fields}
 use Rattle.mrd_index_match.specs.declared.compare.Form.the-variants.{File, Columns}
 use Rattle.mrd_index_match.specs.Compare.{believed, fileMatch, columnsMatch, given, allSame, conclusion}
+use Rattle.mrd_format.specs.declared.rules.Rules.{Rules}
 
 -- in a file, the entries' fields stand one after the other
 fields-held : (f a b c : List ℕ) (i : ℕ) (es : List Entry) →
@@ -25,24 +26,24 @@ fields-held f a b c i (e ∷ es) =
     (sym (begins-next f (entryField e) (entryFields es) (16 + 17 * i) (16 + 17 * suc i) (omega arith)))
 
 -- so a file is compared whole
-module _ (s f a b c : List ℕ) where
-  file-whole : {n : ℕ} → answer s ≡ accepted n →
-      ((begins (frontField (length s)) f && allSame (given File f a b c) 0 (entries s)) && equal (drop (16 + 17 * n) f) (endField n)) ≡ equal f (index s)
+module _ (rules : Rules) (s f a b c : List ℕ) where
+  file-whole : {n : ℕ} → answer rules s ≡ accepted n →
+      ((begins (frontField (length s)) f && allSame (given File f a b c) 0 (entries rules s)) && equal (drop (16 + 17 * n) f) (endField n)) ≡ equal f (index rules s)
   file-whole {n} e =
       let front = frontField (length s) in
-      let es = entryFields (entries s) in
-      let end : drop (length es) (drop 16 f) ≡ drop (16 + 17 * n) f = drop-drop (length es) 16 f ∙ ap (λ (k : ℕ). drop (16 + k) f) (entries-long s e) in
-      rw (fields-held f a b c 0 (entries s), ← end)
-      (sym (ap (equal f) (index-fields s e) ∙ equal-append f front (es ++ endField n) ∙
+      let es = entryFields (entries rules s) in
+      let end : drop (length es) (drop 16 f) ≡ drop (16 + 17 * n) f = drop-drop (length es) 16 f ∙ ap (λ (k : ℕ). drop (16 + k) f) (entries-long rules s e) in
+      rw (fields-held f a b c 0 (entries rules s), ← end)
+      (sym (ap (equal f) (index-fields rules s e) ∙ equal-append f front (es ++ endField n) ∙
       ap (λ (x : Bool). begins front f && x) (equal-append (drop 16 f) es (endField n)) ∙ sym (and-assoc (begins front f) _ _)))
 
-  pub file-match : conclusion File f (begins (frontField (length s)) f && allSame (given File f a b c) 0 (entries s)) (answer s) ≡ fileMatch s f
+  pub file-match : conclusion File f (begins (frontField (length s)) f && allSame (given File f a b c) 0 (entries rules s)) (answer rules s) ≡ fileMatch rules s f
   unfolding fileMatch
-  file-match = by (answer s) refl
+  file-match = by (answer rules s) refl
     where
-      by : (v : Verdict) → answer s ≡ v →
-          conclusion File f (begins (frontField (length s)) f && allSame (given File f a b c) 0 (entries s)) v ≡
-          unlessRefused v (believed (equal f (index s)))
+      by : (v : Verdict) → answer rules s ≡ v →
+          conclusion File f (begins (frontField (length s)) f && allSame (given File f a b c) 0 (entries rules s)) v ≡
+          unlessRefused v (believed (equal f (index rules s)))
       by (accepted n) e = ap believed (file-whole e)
       by (refused n r x) e = refl
 
@@ -72,11 +73,11 @@ columns-held f a b c i (e ∷ es) =
     (zip (begins (e .start ∷ []) (drop i a)) (begins (e .id ∷ []) (drop i b)) (begins (e .counter ∷ []) (drop i c))
     (begins starts (drop (suc i) a)) (begins ids (drop (suc i) b)) (begins counters (drop (suc i) c)))
 
-pub columns-match : (s f a b c : List ℕ) → conclusion Columns f (allSame (given Columns f a b c) 0 (entries s)) (answer s) ≡ columnsMatch s a b c
+pub columns-match : (rules : Rules) (s f a b c : List ℕ) → conclusion Columns f (allSame (given Columns f a b c) 0 (entries rules s)) (answer rules s) ≡ columnsMatch rules s a b c
 unfolding columnsMatch startColumn idColumn counterColumn
-columns-match s f a b c = by (answer s)
+columns-match rules s f a b c = by (answer rules s)
   where
-    by : (v : Verdict) → conclusion Columns f (allSame (given Columns f a b c) 0 (entries s)) v ≡
-        unlessRefused v (believed (begins (startColumn s) a && (begins (idColumn s) b && begins (counterColumn s) c)))
-    by (accepted n) = ap believed (and-true _ ∙ columns-held f a b c 0 (entries s))
+    by : (v : Verdict) → conclusion Columns f (allSame (given Columns f a b c) 0 (entries rules s)) v ≡
+        unlessRefused v (believed (begins (startColumn rules s) a && (begins (idColumn rules s) b && begins (counterColumn rules s) c)))
+    by (accepted n) = ap believed (and-true _ ∙ columns-held f a b c 0 (entries rules s))
     by (refused n r x) = refl

@@ -15,24 +15,25 @@ use Rattle.mrd_stream.specs.StepLaws.{Passes, On, on-start, on-next, on-end}
 use Rattle.mrd_index.specs.Counted.{few}
 use Rattle.mrd_index.specs.Entries.{entryAt, passes-number, passes-one}
 use Rattle.mrd_index_match.specs.Compare.{Given, entryBy, allSame, Counts, conclusion}
+use Rattle.mrd_format.specs.declared.rules.Rules.{Rules}
 
 -- the walk over s stands at c, and b says whether all of g, which began as `begun` says, was the same so far
-pub record Comparing (g : Given) (begun : Bool) (s : List ℕ) (c : Cursor) (b : Bool) : Type 0 where
-  pub walk : On verdict (answer s) c s
-  pub rest : On (λ r. b && allSame g (c .number) (entriesOf r)) (begun && allSame g 0 (entries s)) c s
+pub record Comparing (rules : Rules) (g : Given) (begun : Bool) (s : List ℕ) (c : Cursor) (b : Bool) : Type 0 where
+  pub walk : On rules verdict (answer rules s) c s
+  pub rest : On rules (λ r. b && allSame g (c .number) (entriesOf r)) (begun && allSame g 0 (entries rules s)) c s
 
-pub start : (g : Given) (s : List ℕ) (b : Bool) → Comparing g b s beginning b
+pub start : (rules : Rules) (g : Given) (s : List ℕ) (b : Bool) → Comparing rules g b s beginning b
 unfolding answer entries
-start g s b = record { walk = on-start verdict s; rest = on-start (λ r. b && allSame g 0 (entriesOf r)) s }
+start rules g s b = record { walk = on-start rules verdict s; rest = on-start rules (λ r. b && allSame g 0 (entriesOf r)) s }
 
 -- past a message
-module _ {g : Given} {begun : Bool} {s : List ℕ} {c d : Cursor} {b : Bool} {l : Located} (h : Comparing g begun s c b) (p : Passes c s l d) where
-  past : (x : Bool) → x ≡ (b && entryBy (g .form) g (l .number) (entryAt s l)) → Comparing g begun s d x
+module _ {rules : Rules} {g : Given} {begun : Bool} {s : List ℕ} {c d : Cursor} {b : Bool} {l : Located} (h : Comparing rules g begun s c b) (p : Passes rules c s l d) where
+  past : (x : Bool) → x ≡ (b && entryBy (g .form) g (l .number) (entryAt s l)) → Comparing rules g begun s d x
   past x e =
       record {
-        walk = on-next verdict s verdict (h .walk) p (λ r. refl);
+        walk = on-next rules verdict s verdict (h .walk) p (λ r. refl);
         rest =
-            on-next (λ r. b && allSame g (c .number) (entriesOf r)) s (λ r. x && allSame g (d .number) (entriesOf r)) (h .rest) p
+            on-next rules (λ r. b && allSame g (c .number) (entriesOf r)) s (λ r. x && allSame g (d .number) (entriesOf r)) (h .rest) p
             (λ r.
             let here : entryBy (g .form) g (c .number) (entryOf (c .start) (p .kind) (p .bytes)) ≡ entryBy (g .form) g (l .number) (entryAt s l) =
             rw (passes-one p, passes-number p) in
@@ -42,24 +43,24 @@ module _ {g : Given} {begun : Bool} {s : List ℕ} {c d : Cursor} {b : Bool} {l 
       }
 
   -- whose entry was compared
-  pub next-same : {x : Bool} → b ≡ true → x ≡ entryBy (g .form) g (l .number) (entryAt s l) → Comparing g begun s d x
+  pub next-same : {x : Bool} → b ≡ true → x ≡ entryBy (g .form) g (l .number) (entryAt s l) → Comparing rules g begun s d x
   next-same {x} t e = past x (rw t e)
 
   -- after the index was found to differ
-  pub next-other : b ≡ false → Comparing g begun s d b
+  pub next-other : b ≡ false → Comparing rules g begun s d b
   next-other t = past b (rw t)
 
 -- at the end
-module _ {g : Given} {begun : Bool} {s : List ℕ} {c : Cursor} {b : Bool} {v : Verdict} (h : Comparing g begun s c b) (e : step c s ≡ over v) where
-  ended : v ≡ answer s
-  ended = on-end verdict s (h .walk) e
+module _ {rules : Rules} {g : Given} {begun : Bool} {s : List ℕ} {c : Cursor} {b : Bool} {v : Verdict} (h : Comparing rules g begun s c b) (e : step rules c s ≡ over v) where
+  ended : v ≡ answer rules s
+  ended = on-end rules verdict s (h .walk) e
 
   pub counts : Counts v
   counts = by v ended
     where
-      by : (v : Verdict) → v ≡ answer s → Counts v
-      by (accepted n) q = few s (sym q)
+      by : (v : Verdict) → v ≡ answer rules s → Counts v
+      by (accepted n) q = few rules s (sym q)
       by (refused f r a) q = tt
 
-  pub finish : conclusion (g .form) (g .file) b v ≡ conclusion (g .form) (g .file) (begun && allSame g 0 (entries s)) (answer s)
-  finish = rw (ended, ← on-end (λ r. b && allSame g (c .number) (entriesOf r)) s (h .rest) e, and-true b)
+  pub finish : conclusion (g .form) (g .file) b v ≡ conclusion (g .form) (g .file) (begun && allSame g 0 (entries rules s)) (answer rules s)
+  finish = rw (ended, ← on-end rules (λ r. b && allSame g (c .number) (entriesOf r)) s (h .rest) e, and-true b)

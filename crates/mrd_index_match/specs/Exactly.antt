@@ -15,26 +15,27 @@ use Rattle.mrd_stream.specs.Walk.{answer}
 use Rattle.mrd_stream.specs.Index.{index, startColumn, idColumn, counterColumn}
 use Rattle.mrd_cut.specs.Walked.{refused-not-accepted}
 use Rattle.mrd_index_match.specs.Compare.{believed, fileMatch, columnsMatch}
+use Rattle.mrd_format.specs.declared.rules.Rules.{Rules}
 
 -- columns: 'none is too short and the records' places hold its numbers'
-pub record Held (s starts ids counters : List ℕ) : Type 0 where
-  pub by-starts : take (length (startColumn s)) starts ≡ startColumn s
-  pub by-ids : take (length (idColumn s)) ids ≡ idColumn s
-  pub by-counters : take (length (counterColumn s)) counters ≡ counterColumn s
+pub record Held (rules : Rules) (s starts ids counters : List ℕ) : Type 0 where
+  pub by-starts : take (length (startColumn rules s)) starts ≡ startColumn rules s
+  pub by-ids : take (length (idColumn rules s)) ids ≡ idColumn rules s
+  pub by-counters : take (length (counterColumn rules s)) counters ≡ counterColumn rules s
 
 -- the stream is accepted, and what P says holds
-pub record Accepted (s : List ℕ) (P : Type 0) : Type 0 where
+pub record Accepted (rules : Rules) (s : List ℕ) (P : Type 0) : Type 0 where
   pub count : ℕ
-  pub passed : answer s ≡ accepted count
+  pub passed : answer rules s ≡ accepted count
   pub holds : P
 
 -- m is answered for an index given with s, where `own` says that it is the one that s yields: it is believed exactly when s is accepted and it is;
 -- refused with a number, which is 15, exactly when s is accepted and it is not; and else the stream's refusal
-pub record Exactly (s : List ℕ) (own : Type 0) (m : Answer (Unit {0})) : Type 0 where
-  pub own-believed : (m ≡ answered tt) ↔ Accepted s own
-  pub other-15 : (m ≡ number 15) ↔ Accepted s (own → ⊥)
+pub record Exactly (rules : Rules) (s : List ℕ) (own : Type 0) (m : Answer (Unit {0})) : Type 0 where
+  pub own-believed : (m ≡ answered tt) ↔ Accepted rules s own
+  pub other-15 : (m ≡ number 15) ↔ Accepted rules s (own → ⊥)
   pub no-other-number : {k : ℕ} → m ≡ number k → k ≡ 15
-  pub stream-first : {f r b : ℕ} → (m ≡ stream f r b) ↔ (answer s ≡ refused f r b)
+  pub stream-first : {f r b : ℕ} → (m ≡ stream f r b) ↔ (answer rules s ≡ refused f r b)
 
 -- two answers of one case are the same where their numbers are
 abbrev Same : Answer (Unit {0}) → Answer (Unit {0}) → Type 0
@@ -47,8 +48,8 @@ same-stream : {f r b g q c : ℕ} → Same (stream f r b) (stream g q c) → ref
 same-stream e = cc
 
 -- a test that tells whether the index is the stream's own
-module _ (s : List ℕ) {own : Type 0} (x : Bool) (meant : (x ≡ true) ↔ own) where
-  exactly : (v : Verdict) → answer s ≡ v → (b : Bool) → x ≡ b → Exactly s own (unlessRefused v (believed b))
+module _ (rules : Rules) (s : List ℕ) {own : Type 0} (x : Bool) (meant : (x ≡ true) ↔ own) where
+  exactly : (v : Verdict) → answer rules s ≡ v → (b : Bool) → x ≡ b → Exactly rules s own (unlessRefused v (believed b))
   exactly (accepted n) e true t =
       record {
         own-believed = (λ _. record { count = n; passed = e; holds = meant .0 t }, λ _. refl);
@@ -73,24 +74,24 @@ module _ (s : List ℕ) {own : Type 0} (x : Bool) (meant : (x ≡ true) ↔ own)
       }
 
 -- columns found to begin with the index's
-held-begins : (s a b c : List ℕ) → ((begins (startColumn s) a && (begins (idColumn s) b && begins (counterColumn s) c)) ≡ true) ↔ Held s a b c
-held-begins s a b c = (held, λ h. simp (take-begins _ a (h .by-starts), take-begins _ b (h .by-ids), take-begins _ c (h .by-counters)))
+held-begins : (rules : Rules) (s a b c : List ℕ) → ((begins (startColumn rules s) a && (begins (idColumn rules s) b && begins (counterColumn rules s) c)) ≡ true) ↔ Held rules s a b c
+held-begins rules s a b c = (held, λ h. simp (take-begins _ a (h .by-starts), take-begins _ b (h .by-ids), take-begins _ c (h .by-counters)))
   where
-    held : (begins (startColumn s) a && (begins (idColumn s) b && begins (counterColumn s) c)) ≡ true → Held s a b c
+    held : (begins (startColumn rules s) a && (begins (idColumn rules s) b && begins (counterColumn rules s) c)) ≡ true → Held rules s a b c
     held e =
-        let first = both (begins (startColumn s) a) (begins (idColumn s) b && begins (counterColumn s) c) e in
-        let others = both (begins (idColumn s) b) (begins (counterColumn s) c) (first .1) in
+        let first = both (begins (startColumn rules s) a) (begins (idColumn rules s) b && begins (counterColumn rules s) c) e in
+        let others = both (begins (idColumn rules s) b) (begins (counterColumn rules s) c) (first .1) in
         record {
-          by-starts = begins-take (startColumn s) a (first .0);
-          by-ids = begins-take (idColumn s) b (others .0);
-          by-counters = begins-take (counterColumn s) c (others .1);
+          by-starts = begins-take (startColumn rules s) a (first .0);
+          by-ids = begins-take (idColumn rules s) b (others .0);
+          by-counters = begins-take (counterColumn rules s) c (others .1);
         }
 
 -- a file is the index byte for byte, none short and none over; columns hold it
-pub believed-exactly : (s file starts ids counters : List ℕ) →
-    Exactly s (file ≡ index s) (fileMatch s file) × Exactly s (Held s starts ids counters) (columnsMatch s starts ids counters)
+pub believed-exactly : (rules : Rules) (s file starts ids counters : List ℕ) →
+    Exactly rules s (file ≡ index rules s) (fileMatch rules s file) × Exactly rules s (Held rules s starts ids counters) (columnsMatch rules s starts ids counters)
 unfolding fileMatch columnsMatch
-believed-exactly s f a b c = (
-  exactly s (equal f (index s)) (equal-same f (index s), λ e. ap (λ (g : List ℕ). equal g (index s)) e ∙ equal-refl (index s)) (answer s) refl _ refl,
-  exactly s _ (held-begins s a b c) (answer s) refl _ refl,
+believed-exactly rules s f a b c = (
+  exactly rules s (equal f (index rules s)) (equal-same f (index rules s), λ e. ap (λ (g : List ℕ). equal g (index rules s)) e ∙ equal-refl (index rules s)) (answer rules s) refl _ refl,
+  exactly rules s _ (held-begins rules s a b c) (answer rules s) refl _ refl,
 )

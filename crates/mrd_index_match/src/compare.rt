@@ -12,6 +12,7 @@ ghost use Rattle.mrd_stream.specs.ReaderMeaning.{checkedMeaning, recordMeaning}
 ghost use Rattle.mrd_index.specs.Entries.{entryAt, WithinStream};
 ghost use Rattle.mrd_index_match.specs.Compare.{matchedMeaning, fileMatch, columnsMatch, given, entryBy, allSame, endBy, Counts, conclusion};
 use mrd_cursor::Cursor;
+use mrd_format::Rules;
 use mrd_index::entry_of;
 use mrd_index_fields::ENTRY;
 use mrd_index_fields::Entry;
@@ -34,22 +35,37 @@ pub enum Matched {
 }
 
 // Whether a given file is the index of the stream s, byte for byte and in whole; else the stream's refusal.
-pub fn index_matches(s: &[u8], file: &[u8]) -> Matched
-    ensures { λ r. ⌜ matchedMeaning r ≡ fileMatch (now (s .entry)) (now (file .entry)) ⌝ }
+pub fn index_matches(rules: Rules, s: &[u8], file: &[u8]) -> Matched
+    ensures { λ r. ⌜ matchedMeaning r ≡ fileMatch rules (now (s .entry)) (now (file .entry)) ⌝ }
 {
     let starts = [0u64; 1];
     let ids = [0u16; 1];
     let counters = [0u32; 1];
     let front = front_same(file, s.len() as u64);
-    compare(s, front, Form::File, file, &starts, &ids, &counters)
+    compare(rules, s, front, Form::File, file, &starts, &ids, &counters)
 }
 
 // Whether three given columns hold the index of the stream s: none is too short, and each record's place holds
 // its numbers; else the stream's refusal. What a column holds after the records' places is not looked at.
-pub fn columns_match(s: &[u8], starts: &[u64], ids: &[u16], counters: &[u32]) -> Matched
-    ensures { λ r. ⌜ matchedMeaning r ≡ columnsMatch (now (s .entry)) (now (starts .entry)) (now (ids .entry)) (now (counters .entry)) ⌝ }
+pub fn columns_match(
+    rules: Rules,
+    s: &[u8],
+    starts: &[u64],
+    ids: &[u16],
+    counters: &[u32],
+) -> Matched
+    ensures { λ r. ⌜ matchedMeaning r ≡ columnsMatch rules (now (s .entry)) (now (starts .entry)) (now (ids .entry)) (now (counters .entry)) ⌝ }
 {
-    compare(s, true, Form::Columns, &s[..0], starts, ids, counters)
+    compare(
+        rules,
+        s,
+        true,
+        Form::Columns,
+        &s[..0],
+        starts,
+        ids,
+        counters,
+    )
 }
 
 // The two forms of an index.
@@ -61,6 +77,7 @@ pub(crate) enum Form {
 // Compares the given form with the index of s, record by record, where `front` says whether it begins as that
 // index does; the lists of the other form are not looked at.
 fn compare(
+    rules: Rules,
     s: &[u8],
     front: bool,
     form: Form,
@@ -69,12 +86,12 @@ fn compare(
     ids: &[u16],
     counters: &[u32],
 ) -> Matched
-    ensures { λ r. ⌜ matchedMeaning r ≡ conclusion form (now (file .entry)) (front && allSame (given form (now (file .entry)) (now (starts .entry)) (now (ids .entry)) (now (counters .entry))) 0 (entries (now (s .entry)))) (streamAnswer (now (s .entry))) ⌝ }
+    ensures { λ r. ⌜ matchedMeaning r ≡ conclusion form (now (file .entry)) (front && allSame (given form (now (file .entry)) (now (starts .entry)) (now (ids .entry)) (now (counters .entry))) 0 (entries rules (now (s .entry)))) (streamAnswer rules (now (s .entry))) ⌝ }
 {
     let mut same = front;
     let mut c = Cursor::beginning();
     loop {
-        let step = mrd_stream::next(c, s);
+        let step = mrd_stream::next(rules, c, s);
         match step {
             Step::Message(record, next) => {
                 if same {

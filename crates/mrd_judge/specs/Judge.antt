@@ -3,6 +3,7 @@
 use Prim.Native.Nat.{ℕ}
 use mathlib.Core.List.{List, _++_}
 use Rattle.mrd_format.specs.declared.kind.Kind.{Kind}
+use Rattle.mrd_format.specs.declared.rules.Rules.{Rules}
 use Rattle.mrd_format.specs.declared.kind.Identified.{Identified}
 use Rattle.mrd_format.specs.declared.kind.Identified.the-variants.{Known, Unknown}
 use Rattle.mrd_format.specs.Kinds.{identified}
@@ -20,7 +21,7 @@ pub data Judged : Type 0 where
 
 -- what each case of the enum says
 abbrev pub judgementMeaning : Judgement → Judged
-judgementMeaning (Judgement.Whole k z) = whole k z
+judgementMeaning (Judgement.Whole z k) = whole k z
 judgementMeaning (Judgement.Faulty n) = faulty n
 
 unfoldable pub judgeAs : Identified → Cursor → List ℕ → Judged
@@ -28,8 +29,8 @@ judgeAs Unknown c t = faulty (first (checksAs Unknown c t))
 judgeAs (Known k) c t = unless (first (checksAs (Known k) c t)) faulty (whole k (sizeOf k (fixedPart k t)))
 
 -- the message at the front of t, which is not empty, judged where the walk is at c
-unfoldable pub judge : Cursor → List ℕ → Judged
-judge c t = judgeAs (identified (idAt t)) c t
+unfoldable pub judge : Rules → Cursor → List ℕ → Judged
+judge rules c t = judgeAs (identified rules (idAt t)) c t
 
 -- a message of kind k by its last two stages alone
 unfoldable pub judgeBody : Kind → List ℕ → Judged

@@ -11,6 +11,7 @@ use lib.Seq.{length-take-le}
 use lib.Dec.{eqb}
 use borrow.Author.Tests.{leb-false, ltb-false, not-false, lt-leb, le-ltb, ne-eqb}
 use Rattle.mrd_format.specs.declared.kind.Kind.{Kind}
+use Rattle.mrd_format.specs.declared.rules.Rules.{Rules}
 use Rattle.mrd_format.specs.declared.kind.Identified.{Identified}
 use Rattle.mrd_format.specs.declared.kind.Identified.the-variants.{Known, Unknown}
 use Rattle.mrd_format.specs.Kinds.{fixedSize, identified}
@@ -28,9 +29,9 @@ use Rattle.mrd_logic.specs.CheckLaws.{numbered, first-passed, passed-first, fir
 use Rattle.mrd_format.specs.OwnCheckLaws.{own-numbered}
 
 -- the message at the front of t, of kind k and size z, passes every check where the walk is at c
-pub record WholeAt (c : Cursor) (t : List ℕ) (k : Kind) (z : ℕ) : Type 0 where
+pub record WholeAt (rules : Rules) (c : Cursor) (t : List ℕ) (k : Kind) (z : ℕ) : Type 0 where
   pub counted : c .number < maxMessages
-  pub known : identified (idAt t) ≡ Known k
+  pub known : identified rules (idAt t) ≡ Known k
   pub ordered : allowed k (c .phase) ≡ true
   pub sound : first (ownChecks k (fixedPart k t)) ≡ 0
   pub size : sizeOf k (fixedPart k t) ≡ z
@@ -45,8 +46,8 @@ all-numbered (Known k) c t =
     numbered-append (ownChecks k (fixedPart k t)) (sizeChecks (sizeOf k (fixedPart k t)) t) (own-numbered k (fixedPart k t)) refl
 
 -- every check of a message of kind k passed exactly when the facts of WholeAt hold
-module _ (c : Cursor) (t : List ℕ) (k : Kind) where
-  passed-facts : identified (idAt t) ≡ Known k → Every Passed (checksAs (Known k) c t) → WholeAt c t k (sizeOf k (fixedPart k t))
+module _ (rules : Rules) (c : Cursor) (t : List ℕ) (k : Kind) where
+  passed-facts : identified rules (idAt t) ≡ Known k → Every Passed (checksAs (Known k) c t) → WholeAt rules c t k (sizeOf k (fixedPart k t))
   unfolding checksAs frontChecks idChecks fixedChecks sizeChecks
   passed-facts e p =
       let own = ownChecks k (fixedPart k t) in
@@ -62,7 +63,7 @@ module _ (c : Cursor) (t : List ℕ) (k : Kind) where
         fits = ltb-false (length t) z (late .1 .1 .0);
       }
 
-  facts-passed : {z : ℕ} → WholeAt c t k z → Every Passed (checksAs (Known k) c t)
+  facts-passed : {z : ℕ} → WholeAt rules c t k z → Every Passed (checksAs (Known k) c t)
   unfolding checksAs frontChecks idChecks fixedChecks sizeChecks
   facts-passed {z} w =
       let own = ownChecks k (fixedPart k t) in
@@ -84,27 +85,27 @@ not-both : {f : ℕ} {k : Kind} {z : ℕ} → faulty f ≡ whole k z → ⊥
 not-both e = let z : _≡_ {A = ℕ} 0 1 = cc in omega arith
 
 -- what is judged whole passes every check
-pub judge-whole : (c : Cursor) (t : List ℕ) {k : Kind} {z : ℕ} → judge c t ≡ whole k z → WholeAt c t k z
+pub judge-whole : (rules : Rules) (c : Cursor) (t : List ℕ) {k : Kind} {z : ℕ} → judge rules c t ≡ whole k z → WholeAt rules c t k z
 unfolding judge judgeAs
-judge-whole c t {k} {z} e = by-id (identified (idAt t)) refl e
+judge-whole rules c t {k} {z} e = by-id (identified rules (idAt t)) refl e
   where
-    by-id : (i : Identified) → identified (idAt t) ≡ i → judgeAs i c t ≡ whole k z → WholeAt c t k z
+    by-id : (i : Identified) → identified rules (idAt t) ≡ i → judgeAs i c t ≡ whole k z → WholeAt rules c t k z
     by-id Unknown n e = absurd (not-both e)
     by-id (Known j) n e =
         let u = unless-passed (first (checksAs (Known j) c t)) faulty (whole j (sizeOf j (fixedPart j t))) (λ f. not-both) e in
         let kind : j ≡ k = cc (u .1) in
         let size : sizeOf j (fixedPart j t) ≡ z = cc (u .1) in
-        rw (← kind, ← size) (passed-facts c t j n (first-passed (checksAs (Known j) c t) (all-numbered (Known j) c t) (u .0)))
+        rw (← kind, ← size) (passed-facts rules c t j n (first-passed (checksAs (Known j) c t) (all-numbered (Known j) c t) (u .0)))
 
 -- what passes every check is judged whole
-pub whole-judge : (c : Cursor) (t : List ℕ) {k : Kind} {z : ℕ} → WholeAt c t k z → judge c t ≡ whole k z
+pub whole-judge : {rules : Rules} (c : Cursor) (t : List ℕ) {k : Kind} {z : ℕ} → WholeAt rules c t k z → judge rules c t ≡ whole k z
 unfolding judge judgeAs
-whole-judge c t {k} {z} w = rw (w .known, passed-first _ (facts-passed c t k w), w .size)
+whole-judge {rules} c t {k} {z} w = rw (w .known, passed-first _ (facts-passed rules c t k w), w .size)
 
 -- what is judged faulty is refused by the first check that refuses
-pub judge-faulty : (c : Cursor) (t : List ℕ) {f : ℕ} → judge c t ≡ faulty f → FirstFault f (checksAs (identified (idAt t)) c t)
+pub judge-faulty : (rules : Rules) (c : Cursor) (t : List ℕ) {f : ℕ} → judge rules c t ≡ faulty f → FirstFault f (checksAs (identified rules (idAt t)) c t)
 unfolding judge judgeAs
-judge-faulty c t {f} e = by-id (identified (idAt t)) e
+judge-faulty rules c t {f} e = by-id (identified rules (idAt t)) e
   where
     by-id : (i : Identified) → judgeAs i c t ≡ faulty f → FirstFault f (checksAs i c t)
     by-id Unknown e =
@@ -116,9 +117,9 @@ judge-faulty c t {f} e = by-id (identified (idAt t)) e
         first-fault (checksAs (Known k) c t) f n (λ z. u .1 (n ∙ z))
 
 -- where a check refuses, the message is judged faulty by the first that does
-pub faulty-judge : (c : Cursor) (t : List ℕ) {f : ℕ} → FirstFault f (checksAs (identified (idAt t)) c t) → judge c t ≡ faulty f
+pub faulty-judge : (rules : Rules) (c : Cursor) (t : List ℕ) {f : ℕ} → FirstFault f (checksAs (identified rules (idAt t)) c t) → judge rules c t ≡ faulty f
 unfolding judge judgeAs
-faulty-judge c t {f} r = by-id (identified (idAt t)) r
+faulty-judge rules c t {f} r = by-id (identified rules (idAt t)) r
   where
     by-id : (i : Identified) → FirstFault f (checksAs i c t) → judgeAs i c t ≡ faulty f
     by-id Unknown r = ap faulty (fault-first (checksAs Unknown c t) r)
@@ -127,7 +128,7 @@ faulty-judge c t {f} r = by-id (identified (idAt t)) r
         rw (fault-first (checksAs (Known k) c t) r) (unless-refused f faulty (whole k (sizeOf k (fixedPart k t))) n)
 
 -- the bytes of a whole message are a well-formed message
-abbrev pub wellFormed : (c : Cursor) (t : List ℕ) {k : Kind} {z : ℕ} → WholeAt c t k z → WellFormed (take z t)
+abbrev pub wellFormed : {rules : Rules} (c : Cursor) (t : List ℕ) {k : Kind} {z : ℕ} → WholeAt rules c t k z → WellFormed rules (take z t)
 wellFormed c t {k} {z} w =
     let least : 2 + fixedSize k ≤ z = omega (arith, size-least k (fixedPart k t)) in
     let same : fixedPart k (take z t) ≡ fixedPart k t = fixed-take k z t least (w .fits) in
@@ -141,8 +142,8 @@ wellFormed c t {k} {z} w =
     }
 
 -- a well-formed message that the order and the count allow is whole, whatever follows it
-pub well-whole : (c : Cursor) (m rest : List ℕ) (w : WellFormed m) → allowed (w .kind) (c .phase) ≡ true → c .number < maxMessages →
-    WholeAt c (m ++ rest) (w .kind) (length m)
+pub well-whole : {rules : Rules} (c : Cursor) (m rest : List ℕ) (w : WellFormed rules m) → allowed (w .kind) (c .phase) ≡ true → c .number < maxMessages →
+    WholeAt rules c (m ++ rest) (w .kind) (length m)
 well-whole c m rest w a n =
     record {
       counted = n;
@@ -155,6 +156,6 @@ well-whole c m rest w a n =
     }
 
 -- so it is judged whole, with its kind and length
-pub well-judge : (c : Cursor) (m rest : List ℕ) (w : WellFormed m) → allowed (w .kind) (c .phase) ≡ true → c .number < maxMessages →
-    judge c (m ++ rest) ≡ whole (w .kind) (length m)
+pub well-judge : {rules : Rules} (c : Cursor) (m rest : List ℕ) (w : WellFormed rules m) → allowed (w .kind) (c .phase) ≡ true → c .number < maxMessages →
+    judge rules c (m ++ rest) ≡ whole (w .kind) (length m)
 well-judge c m rest w a n = whole-judge c (m ++ rest) (well-whole c m rest w a n)

@@ -11,6 +11,7 @@ ghost use Rattle.mrd_judge.specs.Judge.{judgementMeaning, judge, judgeBo
 use mrd_cursor::Cursor;
 use mrd_format::Identified;
 use mrd_format::Kind;
+use mrd_format::Rules;
 use mrd_format::refusal;
 use mrd_format::size::MAX_MESSAGE_SIZE;
 use mrd_numbers::read_u16;
@@ -20,22 +21,23 @@ pub const MAX_MESSAGES: usize = 1000000;
 
 // What judging a message finds. It is small, so that a check keeps it, and its cursor, in registers.
 pub enum Judgement {
-    // Every check passed: its kind and its size.
-    Whole(Kind, usize),
+    // Every check passed: its size and its kind. The kind comes last, where no case has its number: as it is
+    // stored whole it is read back whole, which is faster.
+    Whole(usize, Kind),
     // The number of the first check that refuses.
     Faulty(u8),
 }
 
 // The message at the front of t, which is not empty.
-pub fn judge(c: Cursor, t: &[u8]) -> Judgement
+pub fn judge(rules: Rules, c: Cursor, t: &[u8]) -> Judgement
     requires { ⌜ 0 < length (now t) ⌝ }
-    ensures { λ r. ⌜ judgementMeaning r ≡ judge c (now (t .entry)) ⌝ }
+    ensures { λ r. ⌜ judgementMeaning r ≡ judge rules c (now (t .entry)) ⌝ }
 {
     let front = judge_front(c, t);
     if front != 0 {
         return Judgement::Faulty(front);
     }
-    let identified = Kind::of_id(read_u16(t, 0));
+    let identified = Kind::of_id(rules, read_u16(t, 0));
     let id = judge_id(c, identified);
     match identified {
         Identified::Known(kind) => {
@@ -99,7 +101,7 @@ fn judge_body(kind: Kind, t: &[u8]) -> Judgement
     if t.len() < end {
         return Judgement::Faulty(judge_size(end, t));
     }
-    Judgement::Whole(kind, end)
+    Judgement::Whole(end, kind)
 }
 
 // The fixed part: 3 where it does not fit, else 4 to 9.

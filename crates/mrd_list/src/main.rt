@@ -1,11 +1,13 @@
 // Lists the records of the stream on standard input: a line for each with its number, id, start and
 // size, and ` mask` with the count of ones where a channel mask differs from the active channels; or one
-// line with the refusal. At most 65,536 bytes are listed; of more, nothing is, and what comes after the
-// first byte too many is not read.
+// line with the refusal. Waveform headers are packed. At most 65,536 bytes are listed; of more, nothing is,
+// and what comes after the first byte too many is not read.
 use libc::STDIN_FILENO;
 use libc::STDOUT_FILENO;
 use mrd_cursor::Cursor;
+use mrd_format::Layout;
 use mrd_format::Mask;
+use mrd_format::Rules;
 use mrd_format::Shape;
 use mrd_stream::Checked;
 use mrd_stream::PlacedRecord;
@@ -27,10 +29,13 @@ fn main() {
 
 // The whole listing of s: nothing of a refused stream but its refusal.
 fn list(s: &[u8]) {
-    match mrd_stream::check(s) {
+    let rules = Rules {
+        layout: Layout::Packed,
+    };
+    match mrd_stream::check(rules, s) {
         Checked::Accepted(count) => {
             io::write_all(STDOUT_FILENO, b"record id start bytes\n");
-            list_records(s);
+            list_records(rules, s);
             io::write_all(STDOUT_FILENO, b"ok ");
             io::print_decimal(STDOUT_FILENO, count as u64);
             io::write_all(STDOUT_FILENO, b" records ");
@@ -44,10 +49,10 @@ fn list(s: &[u8]) {
 }
 
 // A line for each record.
-fn list_records(s: &[u8]) {
+fn list_records(rules: Rules, s: &[u8]) {
     let mut c = Cursor::beginning();
     loop {
-        let step = mrd_stream::next(c, s);
+        let step = mrd_stream::next(rules, c, s);
         match step {
             Step::Message(record, next) => {
                 list_record(record);

@@ -11,10 +11,9 @@ use mrd_format::Kind;
 use mrd_numbers::read_u16;
 use mrd_numbers::read_u32;
 
-// Of an acquisition and of a waveform.
+// Of an acquisition. A waveform's are where its layout has them.
 const SCAN_COUNTER: usize = 14;
 
-// Of an acquisition and of a waveform; an image has it elsewhere.
 const MEASUREMENT_UID: usize = 10;
 
 const IMAGE_MEASUREMENT_UID: usize = 12;
@@ -30,7 +29,8 @@ pub fn scan_counter(kind: Kind, h: &[u8]) -> u32
     ensures { λ r. ⌜ r ≡ counterOf kind (now (h .entry)) ⌝ }
 {
     match kind {
-        Kind::Acquisition | Kind::Waveform => read_u32(h, SCAN_COUNTER),
+        Kind::Acquisition => read_u32(h, SCAN_COUNTER),
+        Kind::Waveform(layout) => mrd_waveform::scan_counter(layout, h),
         _ => 0,
     }
 }
@@ -41,8 +41,9 @@ pub fn measurement_uid(kind: Kind, h: &[u8]) -> u32
     ensures { λ r. ⌜ r ≡ uidOf kind (now (h .entry)) ⌝ }
 {
     match kind {
-        Kind::Acquisition | Kind::Waveform => read_u32(h, MEASUREMENT_UID),
+        Kind::Acquisition => read_u32(h, MEASUREMENT_UID),
         Kind::Image => read_u32(h, IMAGE_MEASUREMENT_UID),
+        Kind::Waveform(layout) => mrd_waveform::measurement_uid(layout, h),
         _ => 0,
     }
 }

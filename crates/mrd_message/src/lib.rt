@@ -5,7 +5,6 @@
 // Assumes nothing.
 mod identity;
 mod message;
-mod waveform;
 
 pub use identity::COUNTER_COUNT;
 pub use identity::encoding_counter;

@@ -8,7 +8,6 @@ ghost use Rattle.mrd_logic.specs.Checks.{first};
 ghost use Rattle.mrd_format.specs.Message.{ownChecks, bodySize, sizeOf, numbersOf, nameLength, textLength};
 ghost use Rattle.mrd_format.specs.Sizes.{capped};
 ghost use Rattle.mrd_format.specs.Shapes.{kindOf, shapeNumbers};
-use crate::waveform;
 use mrd_format::Kind;
 use mrd_format::Shape;
 use mrd_format::TextShape;
@@ -25,7 +24,7 @@ pub fn fault(kind: Kind, h: &[u8]) -> u8
         Kind::ConfigurationName => name_fault(h),
         Kind::Acquisition => mrd_acquisition::fault(h),
         Kind::Image => mrd_image::fault(h),
-        Kind::Waveform => waveform::fault(h),
+        Kind::Waveform(layout) => mrd_waveform::fault(layout, h),
         _ => 0,
     }
 }
@@ -77,7 +76,7 @@ fn body_size(kind: Kind, h: &[u8]) -> usize
         Kind::ConfigurationText | Kind::HeaderText | Kind::Text => text_length(h),
         Kind::Acquisition => mrd_acquisition::body_size(h),
         Kind::Image => mrd_image::body_size(h),
-        Kind::Waveform => waveform::body_size(h),
+        Kind::Waveform(layout) => mrd_waveform::body_size(layout, h),
     }
 }
 
@@ -102,6 +101,6 @@ pub fn shape(kind: Kind, h: &[u8]) -> Shape
         }),
         Kind::Acquisition => Shape::Acquisition(mrd_acquisition::shape(h)),
         Kind::Image => Shape::Image(mrd_image::shape(h)),
-        Kind::Waveform => Shape::Waveform(waveform::shape(h)),
+        Kind::Waveform(layout) => Shape::Waveform(mrd_waveform::shape(layout, h)),
     }
 }

@@ -1,4 +1,5 @@
--- One well-formed message and its normal form: the message with the bytes after its name made zero, with the true length in its header, or as it is.
+-- One well-formed message and its normal form: the message with the bytes after its name made zero, with the true length or zeros for filler in its
+-- header, or as it is.
 -- Assumes nothing.
 use Prim.Native.Nat.{ℕ, _+_, _-_, _^_, _≤_, _<_}
 use native.Mathlib.Nat.{le-of-eq}
@@ -9,33 +10,37 @@ use lib.ListN.{length, take, drop, replicate, length-drop, length-replicate, dro
 use lib.Seq.{length-take-le, take-length}
 use Rattle.mrd_numbers.specs.Little.{toBytes}
 use Rattle.mrd_numbers.specs.Stored.{stored}
+use Rattle.mrd_format.specs.declared.rules.Layout.{Layout}
+use Rattle.mrd_format.specs.declared.rules.Rules.{Rules}
 use Rattle.mrd_format.specs.declared.kind.Kind.{Kind}
-use Rattle.mrd_format.specs.declared.kind.Kind.the-variants.{ConfigurationName, Image}
+use Rattle.mrd_format.specs.declared.kind.Kind.the-variants.{ConfigurationName, Image, Waveform}
 use Rattle.mrd_format.specs.Kinds.{fixedSize}
 use Rattle.mrd_format.specs.Image.{attributeLength}
+use Rattle.mrd_format.specs.Waveform.{headerBytes, cleared}
 use Rattle.mrd_format.specs.Message.{limit, fixedPart, nameLength, bodySize, sizeOf, WellFormed}
 use Rattle.mrd_format.specs.MessageLaws.{well-least}
 use Rattle.mrd_format.specs.Content.{normalOf}
 use Rattle.mrd_format.specs.NormalLaws.{nameBytes, name-short, name-ends, well-normalised}
 use Rattle.mrd_format.specs.ImageLaws.{image-normal}
+use Rattle.mrd_format.specs.WaveformLaws.{waveform-normal, cleared-long}
 
--- m is a well-formed message of kind k
+-- m is a well-formed message of kind k, by some rules
 abbrev pub MessageOf : Kind → List ℕ → Type 0
-MessageOf k m = (w : WellFormed m) × (w .kind ≡ k)
+MessageOf k m = (rules : Rules) × (w : WellFormed rules m) × (w .kind ≡ k)
 
 module _ (k : Kind) (m : List ℕ) (it : MessageOf k m) where
   -- it has its kind's size, within the limit
   pub its-size : sizeOf k (fixedPart k m) ≡ length m
-  its-size = rw (it .1) at (it .0 .whole)
+  its-size = rw (it .2) at (it .1 .whole)
 
   its-limit : sizeOf k (fixedPart k m) ≤ limit
-  its-limit = rw (it .1) at (it .0 .small)
+  its-limit = rw (it .2) at (it .1 .small)
 
   pub its-least : 2 + fixedSize k ≤ length m
-  its-least = rw (it .1) at (well-least m (it .0))
+  its-least = rw (it .2) at (well-least m (it .1))
 
   pub normal-length : length (normalOf k m) ≡ length m
-  normal-length = rw (it .1) at (well-normalised m (it .0) .long)
+  normal-length = rw (it .2) at (well-normalised m (it .1) .long)
 
   its-fixed : length (fixedPart k m) ≡ fixedSize k
   unfolding fixedPart
@@ -48,7 +53,7 @@ module _ (k : Kind) (m : List ℕ) (it : MessageOf k m) where
   name-cleared e =
       let n = nameLength (nameBytes m) in
       let whole : length m ≡ 1026 = sym (rw e at its-size) in
-      let short : n < 1024 = name-short m (rw (it .1 ∙ e) at (it .0 .sound)) in
+      let short : n < 1024 = name-short m (rw (it .2 ∙ e) at (it .1 .sound)) in
       let end : 2 + n + (1024 - n) ≡ 1026 = omega arith in
       let none : drop 1026 m ≡ [] = drop-of-length-le m (le-of-eq whole) in
       rw (e, length-replicate {A = ℕ} (1024 - n) 0, end, none, append-nil) (name-ends m whole short)
@@ -60,6 +65,16 @@ module _ (k : Kind) (m : List ℕ) (it : MessageOf k m) where
   pub length-small : k ≡ Image → attributeLength (fixedPart k m) < 2 ^ 32
   unfolding sizeOf bodySize
   length-small e = rw e (omega (arith, rw e at its-limit))
+
+  -- a waveform's has zeros for the filler of its header
+  pub waveform-cleared : {l : Layout} → k ≡ Waveform l → normalOf k m ≡ stored 2 (cleared l (take (headerBytes l) (drop 2 m))) m
+  unfolding stored fixedPart
+  waveform-cleared {l} e =
+      let h = take (headerBytes l) (drop 2 m) in
+      let least : 2 + headerBytes l ≤ length m = rw e at its-least in
+      let long : length (cleared l h) ≡ headerBytes l =
+      cleared-long l h (length-take-le (headerBytes l) (drop 2 m) (simp length-drop (omega (arith, least)))) in
+      rw (e, long) (waveform-normal l m (rw e at its-size))
 
 -- a copy of all of m over as many bytes is m
 pub copied-whole : (m o : List ℕ) → length o ≡ length m → take (length m) m ++ drop (length m) o ≡ m
@@ -83,3 +98,11 @@ module _ (k : Kind) (m : List ℕ) (it : MessageOf k m) {h x : List ℕ} (fixed 
 
   pub image-done : k ≡ Image → {y : List ℕ} → y ≡ stored 196 (toBytes 4 (attributeLength h)) x → y ≡ normalOf k m
   image-done e p = p ∙ rw (fixed, copied) (sym (image-cleaned k m it e))
+
+-- the same of a waveform, whose layout is all that is needed to clean it
+module _ (k : Kind) (m : List ℕ) (it : MessageOf k m) {x : List ℕ} (copied : x ≡ m) {l : Layout} (e : k ≡ Waveform l) where
+  pub waveform-ready : 2 + headerBytes l ≤ length x
+  waveform-ready = rw copied (rw e at (its-least k m it))
+
+  pub waveform-done : {y : List ℕ} → y ≡ stored 2 (cleared l (take (headerBytes l) (drop 2 x))) x → y ≡ normalOf k m
+  waveform-done p = p ∙ rw copied (sym (waveform-cleared k m it e))

@@ -4,6 +4,7 @@ use Prim.Native.Nat.{ℕ, _+_, _-_}
 use native.Mathlib.Omega.{arith}
 use mathlib.Core.Path.{_≡_, refl}
 use mathlib.Core.List.{List}
+use Rattle.mrd_format.specs.declared.rules.Layout.{Layout}
 use Rattle.mrd_format.specs.declared.kind.Kind.{Kind}
 use Rattle.mrd_format.specs.declared.kind.Kind
 use Rattle.mrd_format.specs.Message.{sizeOf, bodySize}
@@ -20,7 +21,7 @@ pub image-rest : {h : List ℕ} {z : ℕ} → Sized Kind.Image h z → z ≡ 208
 unfolding sizeOf bodySize
 image-rest x = omega (arith, x .size)
 
-pub waveform-rest : {h : List ℕ} {z : ℕ} → Sized Kind.Waveform h z → z ≡ 34 + waveform.bodySize h
+pub waveform-rest : {l : Layout} {h : List ℕ} {z : ℕ} → Sized (Kind.Waveform l) h z → z ≡ 2 + waveform.headerBytes l + waveform.bodySize l h
 unfolding sizeOf bodySize
 waveform-rest x = omega (arith, x .size)
 
@@ -31,8 +32,11 @@ image-pixels {h} {z} x a e =
     let left : z - 208 - image.attributeLength h ≡ image.pixelsSize h = omega (arith, image-rest x) in
     rw (e, left)
 
-pub waveform-data : {h : List ℕ} {z : ℕ} → Sized Kind.Waveform h z → lies (extent 34 (z - 34)) ≡ lies (extent 34 (waveform.bodySize h))
-waveform-data {h} {z} x = let left : z - 34 ≡ waveform.bodySize h = omega (arith, waveform-rest x) in rw left
+pub waveform-data : {l : Layout} {h : List ℕ} {z : ℕ} → Sized (Kind.Waveform l) h z → (a : ℕ) → a ≡ waveform.headerBytes l →
+    lies (extent (2 + a) (z - (2 + a))) ≡ lies (extent (2 + waveform.headerBytes l) (waveform.bodySize l h))
+waveform-data {l} {h} {z} x a e =
+    let left : z - (2 + waveform.headerBytes l) ≡ waveform.bodySize l h = omega (arith, waveform-rest x) in
+    rw (e, left)
 
 -- a close has none of the parts that a view can show
 pub close-lacks : (p : Part) (h : List ℕ) → extentOf (partMeaning p) Kind.Close h ≡ lacks

@@ -6,6 +6,7 @@ ghost use Rattle.mrd_format.specs.Parts.{lies, extent};
 ghost use Rattle.mrd_format.specs.Content.{extentOf};
 ghost use Rattle.mrd_parts.specs.Sought.{partMeaning, soughtMeaning, Sized};
 use mrd_format::Kind;
+use mrd_format::Layout;
 
 pub enum Part {
     Name,
@@ -50,7 +51,7 @@ pub fn locate(kind: Kind, h: &[u8], size: usize, part: Part) -> Sought
         Kind::Close => Sought::Lacks,
         Kind::Acquisition => in_acquisition(h, part),
         Kind::Image => in_image(h, size, part),
-        Kind::Waveform => in_waveform(h, size, part),
+        Kind::Waveform(layout) => in_waveform(layout, h, size, part),
     }
 }
 
@@ -122,11 +123,11 @@ fn in_image(h: &[u8], size: usize, part: Part) -> Sought
 }
 
 // The waveform data are what is left after the header.
-fn in_waveform(h: &[u8], size: usize, part: Part) -> Sought
-    requires { ⌜ Sized Kind.Waveform (now h) size ⌝ }
-    ensures { λ r. ⌜ soughtMeaning r ≡ extentOf (partMeaning part) Kind.Waveform (now (h .entry)) ⌝ }
+fn in_waveform(layout: Layout, h: &[u8], size: usize, part: Part) -> Sought
+    requires { ⌜ Sized (Kind.Waveform layout) (now h) size ⌝ }
+    ensures { λ r. ⌜ soughtMeaning r ≡ extentOf (partMeaning part) (Kind.Waveform layout) (now (h .entry)) ⌝ }
 {
-    let after = Kind::ID_SIZE + Kind::WAVEFORM_FIXED;
+    let after = Kind::ID_SIZE + layout.header_size();
     match part {
         Part::Waveform => lies(after, size - after),
         _ => Sought::Lacks,

@@ -2,20 +2,22 @@
 -- Assumes nothing.
 use Prim.Native.Nat.{ℕ, _+_, _-_, _^_, _≤_, _<_}
 use native.Mathlib.Omega.{arith}
-use mathlib.Core.Path.{_≡_, refl, ap, ap₂, _∙_}
-use mathlib.Core.List.{List, _++_, append-nil}
+use mathlib.Core.Path.{_≡_, refl, sym, ap, ap₂, _∙_}
+use mathlib.Core.List.{List, _++_, append-nil, append-assoc}
 use lib.ListN.{length, take, drop, replicate, length-append, length-replicate}
-use lib.Seq.{take-length}
+use lib.Seq.{take-length, take-at, drop-at}
 use Rattle.mrd_numbers.specs.Little.{toBytes}
 use Rattle.mrd_numbers.specs.ToBytesLaws.{length-toBytes}
-use Rattle.mrd_numbers.specs.Stored.{front, partFrom, returned, front-next, front-two}
+use Rattle.mrd_numbers.specs.Stored.{front, partFrom, returned, part-from, stored-part, stored-front, front-first, front-next, front-two}
+use Rattle.mrd_format.specs.declared.rules.Layout.{Layout}
 use Rattle.mrd_format.specs.declared.kind.Kind.{Kind}
 use Rattle.mrd_format.specs.declared.kind.Kind.the-variants.{ConfigurationName, Acquisition, Image, Waveform}
 use Rattle.mrd_format.specs.Acquisition as acquisition
-use Rattle.mrd_format.specs.Waveform as waveform
+use Rattle.mrd_format.specs.Waveform.{headerBytes, cleared}
 use Rattle.mrd_format.specs.Kinds.{headerSize}
 use Rattle.mrd_format.specs.Parts.{Contents, partLength}
-use Rattle.mrd_format.specs.HeaderLaws.{whole-settled, acquisition-packed, waveform-packed}
+use Rattle.mrd_format.specs.HeaderLaws.{whole-settled, acquisition-lawful}
+use Rattle.mrd_format.specs.WaveformLaws.{cleared-long}
 use Rattle.mrd_format.specs.ImageLaws.{image-settled}
 use Rattle.mrd_format.specs.Content.{fixedOf, bodyOf, bytesAfterId}
 use Rattle.mrd_put.specs.Room.{Ready}
@@ -52,42 +54,66 @@ pub text-put : (a o x y : List ℕ) → 4 + length a ≤ length o → x ≡ toBy
 text-put a o x y h p q =
     front-two 4 (length a) o (toBytes 4 (length a)) a x y (length-toBytes 4 (length a)) refl (omega arith) p (q ∙ copied-whole a _)
 
--- the record's fields a of an image's header, its attributes' length n in four bytes and in eight, and its two parts b
-pub image-put : (a : List ℕ) (n : ℕ) (b o x y z w : List ℕ) → length a ≡ 194 → 206 + length b ≤ length o → x ≡ copied a (partFrom 0 o) →
-    y ≡ toBytes 4 n ++ drop 4 (partFrom 194 (returned 0 o x)) →
-    z ≡ toBytes 8 n ++ drop 8 (partFrom 198 (returned 194 (returned 0 o x) y)) →
-    w ≡ front b (partFrom 206 (returned 198 (returned 194 (returned 0 o x) y) z)) →
-    returned 206 (returned 198 (returned 194 (returned 0 o x) y) z) w ≡ front (((a ++ toBytes 4 n) ++ toBytes 8 n) ++ b) o
-image-put a n b o x y z w e room p q r t =
-    let four = length-toBytes 4 n in
-    let eight = length-toBytes 8 n in
-    let header : length (a ++ toBytes 4 n) ≡ 198 = length-append a (toBytes 4 n) ∙ ap₂ (λ (i j : ℕ). i + j) e four in
-    let fixed : length ((a ++ toBytes 4 n) ++ toBytes 8 n) ≡ 206 = length-append (a ++ toBytes 4 n) (toBytes 8 n) ∙ ap₂ (λ (i j : ℕ). i + j) header eight in
-    let all : length (((a ++ toBytes 4 n) ++ toBytes 8 n) ++ b) ≡ 206 + length b = length-append ((a ++ toBytes 4 n) ++ toBytes 8 n) b ∙ ap (λ (i : ℕ). i + length b) fixed in
-    let two : returned 194 (returned 0 o x) y ≡ (a ++ toBytes 4 n) ++ drop 198 o =
-    rw header at (front-two 194 4 o a (toBytes 4 n) x y e four (omega arith) (rw e at (p ∙ copied-whole a _)) q) in
-    let three : returned 198 (returned 194 (returned 0 o x) y) z ≡ ((a ++ toBytes 4 n) ++ toBytes 8 n) ++ drop 206 o =
-    front-next 198 8 o (returned 194 (returned 0 o x) y) (a ++ toBytes 4 n) (toBytes 8 n) z two header (omega arith) eight r in
-    rw all
-    (front-next 206 (length b) o (returned 198 (returned 194 (returned 0 o x) y) z) ((a ++ toBytes 4 n) ++ toBytes 8 n) b w three fixed
-    (omega arith) refl t)
+-- the record's fields a of an image's header, and its attributes' length n in four bytes and in eight
+abbrev pub imageFixed : List ℕ → ℕ → List ℕ
+imageFixed a n = (a ++ toBytes 4 n) ++ toBytes 8 n
+
+module _ (a : List ℕ) (n : ℕ) (e : length a ≡ 194) where
+  header-long : length (a ++ toBytes 4 n) ≡ 198
+  header-long = length-append a (toBytes 4 n) ∙ ap₂ (λ (i j : ℕ). i + j) e (length-toBytes 4 n)
+
+  fixed-long : length (imageFixed a n) ≡ 206
+  fixed-long = length-append (a ++ toBytes 4 n) (toBytes 8 n) ∙ ap₂ (λ (i j : ℕ). i + j) header-long (length-toBytes 8 n)
+
+  pub header-put : (o x y z : List ℕ) → 206 ≤ length o → x ≡ copied a (partFrom 0 o) →
+      y ≡ toBytes 4 n ++ drop 4 (partFrom 194 (returned 0 o x)) →
+      z ≡ toBytes 8 n ++ drop 8 (partFrom 198 (returned 194 (returned 0 o x) y)) →
+      returned 198 (returned 194 (returned 0 o x) y) z ≡ front (imageFixed a n) o
+  header-put o x y z room p q r =
+      let two : returned 194 (returned 0 o x) y ≡ (a ++ toBytes 4 n) ++ drop 198 o =
+      rw header-long at (front-two 194 4 o a (toBytes 4 n) x y e (length-toBytes 4 n) (omega arith) (rw e at (p ∙ copied-whole a _)) q) in
+      rw fixed-long
+      (front-next 198 8 o (returned 194 (returned 0 o x) y) (a ++ toBytes 4 n) (toBytes 8 n) z two header-long (omega arith) (length-toBytes 8 n) r)
+
+  -- and the two parts b
+  pub image-put : (b o x y : List ℕ) → 206 + length b ≤ length o → x ≡ front (imageFixed a n) (partFrom 0 o) →
+      y ≡ front b (partFrom 206 (returned 0 o x)) → returned 206 (returned 0 o x) y ≡ front (imageFixed a n ++ b) o
+  image-put b o x y room p q = front-two 206 (length b) o (imageFixed a n) b x y fixed-long refl (omega arith) (rw fixed-long at p) q
+
+-- a waveform's header h and its data w, and then the header's filler made zero
+pub waveform-put : (l : Layout) (h w o x y : List ℕ) → length h ≡ headerBytes l → length h + length w ≤ length o →
+    x ≡ front (h ++ w) (partFrom 0 o) →
+    y ≡ front (cleared l (take (headerBytes l) (partFrom 0 (returned 0 o x)))) (partFrom 0 (returned 0 o x)) →
+    returned 0 (returned 0 o x) y ≡ front (cleared l h ++ w) o
+waveform-put l h w o x y e room p q =
+    let n = length (h ++ w) in
+    let rest = drop n o in
+    let put : returned 0 o x ≡ h ++ (w ++ rest) = front-first n o (h ++ w) x refl p ∙ append-assoc h w rest in
+    let header : take (headerBytes l) (h ++ (w ++ rest)) ≡ h = take-at h (w ++ rest) (headerBytes l) e in
+    let long : length (cleared l h) ≡ headerBytes l = cleared-long l h e in
+    let same : length (cleared l h ++ w) ≡ n = simp (length-append, long, e) in
+    let clear : y ≡ front (cleared l h) (partFrom 0 (returned 0 o x)) =
+    q ∙ rw (part-from 0 (returned 0 o x), put, header) in
+    let made : front (cleared l h) (returned 0 o x) ≡ front (cleared l h ++ w) o =
+    rw (put, long, drop-at h (w ++ rest) (headerBytes l) e, same) (sym (append-assoc (cleared l h) w rest)) in
+    stored-part 0 (returned 0 o x) (cleared l h) y clear ∙ stored-front (cleared l h) (returned 0 o x) ∙ made
 
 -- a name's message ends with its fixed part
 pub content-name : (c : Contents) → bytesAfterId ConfigurationName c ≡ c .parts .name ++ replicate (1024 - length (c .parts .name)) 0
 unfolding bytesAfterId fixedOf bodyOf
 content-name c = append-nil _
 
--- a header without a length in it is put as it is
+-- a header without a length or filler in it is put as it is
 content-acquisition : (c : Contents) → length (c .header) ≡ 340 → bytesAfterId Acquisition c ≡ c .header ++ (c .parts .trajectory ++ c .parts .samples)
 unfolding bytesAfterId fixedOf bodyOf
 content-acquisition c e =
     ap (λ (h : List ℕ). h ++ (c .parts .trajectory ++ c .parts .samples))
-    (whole-settled (partLength c) 340 acquisition.cells (c .header) refl acquisition-packed e)
+    (whole-settled (partLength c) 340 acquisition.cells (c .header) refl acquisition-lawful e)
 
-content-waveform : (c : Contents) → length (c .header) ≡ 32 → bytesAfterId Waveform c ≡ c .header ++ c .parts .waveform
-unfolding bytesAfterId fixedOf bodyOf
-content-waveform c e =
-    ap (λ (h : List ℕ). h ++ c .parts .waveform) (whole-settled (partLength c) 32 waveform.cells (c .header) refl waveform-packed e)
+-- a waveform's with its filler zero
+content-waveform : (l : Layout) (c : Contents) → bytesAfterId (Waveform l) c ≡ cleared l (c .header) ++ c .parts .waveform
+unfolding bytesAfterId fixedOf bodyOf cleared
+content-waveform l c = refl
 
 -- an image's header is put with its attributes' length
 pub content-image : (c : Contents) →
@@ -133,8 +159,11 @@ module _ (k : Kind) (c : Contents) (o : List ℕ) (ready : Ready k c) (room : le
       let fits : length (fixedOf Image c) + length (c .parts .attributes ++ c .parts .pixels) ≤ length o = rw length-append at (content-room e) in
       (header-whole e, ready .attributes, rw (rw e at (ready .fixed), length-append) at fits)
 
-  pub waveform-made : k ≡ Waveform → bytesAfterId Waveform c ≡ c .header ++ c .parts .waveform
-  waveform-made e = content-waveform c (header-whole e)
+  pub waveform-made : {l : Layout} → k ≡ Waveform l → bytesAfterId k c ≡ cleared l (c .header) ++ c .parts .waveform
+  waveform-made {l} e = rw e (content-waveform l c)
 
-  pub waveform-room : k ≡ Waveform → length (c .header) + length (c .parts .waveform) ≤ length o
-  waveform-room e = simp length-append at (rw (waveform-made e) at (content-room e))
+  pub waveform-room : {l : Layout} → k ≡ Waveform l → (length (c .header) ≡ headerBytes l) × (length (c .header) + length (c .parts .waveform) ≤ length o)
+  waveform-room {l} e =
+      let whole : length (c .header) ≡ headerBytes l = header-whole e in
+      let long = cleared-long l (c .header) whole in
+      (whole, omega (arith, whole, long, simp length-append at (rw (waveform-made e) at room)))

@@ -7,14 +7,17 @@ ghost use lib.ListN.{length, take, replicate};
 ghost use Rattle.mrd_numbers.specs.Little.{toBytes};
 ghost use Rattle.mrd_numbers.specs.Stored.{front};
 ghost use Rattle.mrd_format.specs.Kinds.{fixedSize, headerSize};
-ghost use Rattle.mrd_format.specs.Image.{layout, «attribute-string-len»};
+ghost use Rattle.mrd_format.specs.Image as image;
+ghost use Rattle.mrd_format.specs.Waveform.{headerBytes, cleared};
 ghost use Rattle.mrd_format.specs.Parts.{contents};
 ghost use Rattle.mrd_format.specs.Content.{bytesAfterId};
 ghost use Rattle.mrd_put.specs.Room.{Roomy};
 use mrd_format::Kind;
+use mrd_format::Layout;
 use mrd_numbers::put_u32;
 use mrd_numbers::put_u64;
 use mrd_numbers::put_zeros;
+use mrd_waveform::clear_filler;
 
 // The bytes after the id, by kind.
 pub fn put_content(
@@ -43,7 +46,7 @@ pub fn put_content(
         Kind::Close => {}
         Kind::Acquisition => put_acquisition(header, trajectory, samples, out),
         Kind::Image => put_image(header, attributes, pixels, out),
-        Kind::Waveform => put_joined(header, waveform, out),
+        Kind::Waveform(layout) => put_waveform(layout, header, waveform, out),
     }
 }
 
@@ -76,22 +79,40 @@ fn put_acquisition(header: &[u8], trajectory: &[u8], samples: &[u8], out: &mut [
     put_joined(trajectory, samples, &mut out[body..]);
 }
 
-// An image's header with the attributes' length in its last four bytes, whatever was given there, and in
-// the eight after it; its attributes and its pixels.
+// An image's fixed part, its attributes and its pixels.
 fn put_image(header: &[u8], attributes: &[u8], pixels: &[u8], out: &mut [u8])
     requires { ⌜ (length (now header) ≡ headerSize Kind.Image) × (length (now attributes) < 2 ^ 32) ×
         (fixedSize Kind.Image + (length (now attributes) + length (now pixels)) ≤ length (now out)) ⌝ }
     ensures { λ _. ⌜ now (out .exit) ≡ front
-        (((take (layout «attribute-string-len» .offset) (now (header .entry)) ++ toBytes 4 (length (now (attributes .entry))))
+        (((take (image.layout image.«attribute-string-len» .offset) (now (header .entry)) ++ toBytes 4 (length (now (attributes .entry))))
         ++ toBytes 8 (length (now (attributes .entry)))) ++ (now (attributes .entry) ++ now (pixels .entry)))
         (now (out .entry)) ⌝ }
 {
-    let length = attributes.len();
+    put_image_header(header, attributes.len(), &mut out[0..]);
+    put_joined(attributes, pixels, &mut out[Kind::IMAGE_FIXED..]);
+}
+
+// An image's header with the attributes' length in its last four bytes, whatever was given there, and in
+// the eight after it.
+fn put_image_header(header: &[u8], count: usize, out: &mut [u8])
+    requires { ⌜ (length (now header) ≡ headerSize Kind.Image) × (count < 2 ^ 32) × (fixedSize Kind.Image ≤ length (now out)) ⌝ }
+    ensures { λ _. ⌜ now (out .exit) ≡ front
+        ((take (image.layout image.«attribute-string-len» .offset) (now (header .entry)) ++ toBytes 4 count) ++ toBytes 8 count)
+        (now (out .entry)) ⌝ }
+{
     let end = Kind::ATTRIBUTE_STRING_LEN;
     bytes::copy(&header[0..end], &mut out[0..]);
-    put_u32(&mut out[end..], length as u32);
-    put_u64(&mut out[Kind::IMAGE_HEADER..], length as u64);
-    put_joined(attributes, pixels, &mut out[Kind::IMAGE_FIXED..]);
+    put_u32(&mut out[end..], count as u32);
+    put_u64(&mut out[Kind::IMAGE_HEADER..], count as u64);
+}
+
+// A waveform's header, with its filler zero, and its data.
+fn put_waveform(layout: Layout, header: &[u8], waveform: &[u8], out: &mut [u8])
+    requires { ⌜ (length (now header) ≡ headerBytes layout) × (length (now header) + length (now waveform) ≤ length (now out)) ⌝ }
+    ensures { λ _. ⌜ now (out .exit) ≡ front (cleared layout (now (header .entry)) ++ now (waveform .entry)) (now (out .entry)) ⌝ }
+{
+    put_joined(header, waveform, &mut out[0..]);
+    clear_filler(layout, &mut out[0..]);
 }
 
 // Two parts, one after the other.

@@ -7,6 +7,7 @@ use Rattle.mrd_logic.specs.Answer.{accepted, refused, Answer, answered, stream,
 use Rattle.mrd_cursor.specs.declared.cursor.Cursor.{Cursor}
 use Rattle.mrd_stream.specs.Places.{Located, Stepped, yields, over, step}
 use Rattle.mrd_cut.specs.Inside.{Inside}
+use Rattle.mrd_format.specs.declared.rules.Rules.{Rules}
 
 -- the record that a step hands out; where the walk is over, the stream's refusal, or 16: 'no such record'
 abbrev pub placeBy : Stepped → Answer Located
@@ -14,16 +15,20 @@ placeBy (yields l d) = answered l
 placeBy (over (accepted n)) = number 16
 placeBy (over (refused f r b)) = stream f r b
 
-unfoldable pub placeAt : Cursor → List ℕ → Answer Located
-placeAt c s = placeBy (step c s)
+unfoldable pub placeAt : Rules → Cursor → List ℕ → Answer Located
+placeAt rules c s = placeBy (step rules c s)
+
+-- the place l lies in s, at a message that is well formed by some rules
+abbrev pub Lies : List ℕ → Located → Type 0
+Lies s l = (rules : Rules) × Inside rules s l
 
 -- an answered place lies in s
 abbrev pub LiesIn : List ℕ → Answer Located → Type 0
-LiesIn s (answered l) = Inside s l
+LiesIn s (answered l) = Lies s l
 LiesIn s (stream f r b) = Unit {0}
 LiesIn s (number n) = Unit {0}
 
 -- d is where a walk over s stands n steps after c
-abbrev pub Reached : List ℕ → Cursor → ℕ → Cursor → Type 0
-Reached s c zero d = c ≡ d
-Reached s c (suc n) d = (l : Located) × ((next : Cursor) × ((step c s ≡ yields l next) × Reached s next n d))
+abbrev pub Reached : Rules → List ℕ → Cursor → ℕ → Cursor → Type 0
+Reached rules s c zero d = c ≡ d
+Reached rules s c (suc n) d = (l : Located) × ((next : Cursor) × ((step rules c s ≡ yields l next) × Reached rules s next n d))

@@ -7,6 +7,7 @@ use lib.ListN.{replicate}
 use lib.IntN.{ℤ, pos, negsuc}
 use Rattle.mrd_numbers.specs.Little.{num}
 use Rattle.mrd_format.specs.declared.kind.Kind.{Kind}
+use Rattle.mrd_format.specs.declared.rules.Rules.{Rules}
 use Rattle.mrd_format.specs.declared.kind.Kind
 use Rattle.mrd_format.specs.Kinds.{identified}
 use Rattle.mrd_format.specs.Message.{fixedPart, ownChecks, bodySize, sizeOf, textLength}
@@ -30,12 +31,12 @@ pub data Example : Type 0 where
   flags : ℕ → ℕ → Example
   steps : ℕ → ℕ → ℤ → Example
 
-abbrev pub ExampleHolds : Example → Type 0
-ExampleHolds (answers s v) = answer s ≡ v
-ExampleHolds (indexed s x) = index s ≡ x
-ExampleHolds (measures k h n) = sizeOf k h ≡ n
-ExampleHolds (flags n x) = flagSet n 0 ≡ x
-ExampleHolds (steps a b z) = counterStep a b ≡ z
+abbrev pub ExampleHolds : Rules → Example → Type 0
+ExampleHolds rules (answers s v) = answer rules s ≡ v
+ExampleHolds rules (indexed s x) = index rules s ≡ x
+ExampleHolds rules (measures k h n) = sizeOf k h ≡ n
+ExampleHolds rules (flags n x) = flagSet n 0 ≡ x
+ExampleHolds rules (steps a b z) = counterStep a b ≡ z
 
 -- the header of an acquisition of 256 samples in 2 channels, with this many dimensions
 abbrev pub readout : ℕ → List ℕ
@@ -70,7 +71,7 @@ examples =
     indexed (3 ∷ 0 ∷ 0 ∷ 0 ∷ 0 ∷ 0 ∷ 4 ∷ 0 ∷ []) paperIndex ∷  -- 'Index and listing'
     []
 
-pub worked-examples : Every ExampleHolds examples
+pub worked-examples : (rules : Rules) → Every (ExampleHolds rules) examples
 unfolding answer trace walk judge judgeAs checksAs frontChecks idChecks fixedChecks sizeChecks ended identified num fixedPart ownChecks bodySize sizeOf textLength acquisition.bodySize acquisition.trajectorySize acquisition.channelSize flagSet withBit bit counterStep signed index entries counterOf
-worked-examples =
+worked-examples rules =
     (refl, (refl, (refl, (refl, (refl, (refl, (refl, (refl, (refl, (refl, (refl, (refl, (refl, (refl, (refl, tt)))))))))))))))

@@ -6,6 +6,7 @@ use lib.ListN.{length}
 use Rattle.mrd_numbers.specs.Little.{toBytes}
 use Rattle.mrd_tagged.specs.Tagged.{tagged}
 use Rattle.mrd_format.specs.declared.kind.Kind.{Kind}
+use Rattle.mrd_format.specs.declared.rules.Rules.{Rules}
 use Rattle.mrd_format.specs.Kinds.{idOf}
 use Rattle.mrd_format.specs.Message.{fixedPart}
 use Rattle.mrd_format.specs.Content.{counterOf}
@@ -26,8 +27,8 @@ entriesOf (message c k m r) = entryOf (c .start) k m ∷ entriesOf r
 entriesOf (done v) = []
 
 -- an entry for each record, in order
-unfoldable pub entries : List ℕ → List Entry
-entries s = entriesOf (trace s)
+unfoldable pub entries : Rules → List ℕ → List Entry
+entries rules s = entriesOf (trace rules s)
 
 -- 'Tag 1: edition 1 (u16). Tag 2: stream length (u64)'
 abbrev pub frontField : ℕ → List ℕ
@@ -45,15 +46,15 @@ entryFields (e ∷ es) = entryField e ++ entryFields es
 abbrev pub endField : ℕ → List ℕ
 endField n = tagged 4 (toBytes 4 n)
 
-unfoldable pub index : List ℕ → List ℕ
-index s = frontField (length s) ++ (entryFields (entries s) ++ endField (length (entries s)))
+unfoldable pub index : Rules → List ℕ → List ℕ
+index rules s = frontField (length s) ++ (entryFields (entries rules s) ++ endField (length (entries rules s)))
 
 -- 'in memory the same index is three lent columns, start, id and counter'
-unfoldable pub startColumn : List ℕ → List ℕ
-startColumn s = map (λ (e : Entry). e .start) (entries s)
+unfoldable pub startColumn : Rules → List ℕ → List ℕ
+startColumn rules s = map (λ (e : Entry). e .start) (entries rules s)
 
-unfoldable pub idColumn : List ℕ → List ℕ
-idColumn s = map (λ (e : Entry). e .id) (entries s)
+unfoldable pub idColumn : Rules → List ℕ → List ℕ
+idColumn rules s = map (λ (e : Entry). e .id) (entries rules s)
 
-unfoldable pub counterColumn : List ℕ → List ℕ
-counterColumn s = map (λ (e : Entry). e .counter) (entries s)
+unfoldable pub counterColumn : Rules → List ℕ → List ℕ
+counterColumn rules s = map (λ (e : Entry). e .counter) (entries rules s)

@@ -4,6 +4,7 @@ use Prim.Native.Nat.{ℕ, zero, suc}
 use mathlib.Core.List.{List, [], _∷_}
 use lib.ListN.{length, take, drop}
 use Rattle.mrd_format.specs.declared.kind.Kind.{Kind}
+use Rattle.mrd_format.specs.declared.rules.Rules.{Rules}
 use Rattle.mrd_format.specs.Message.{fixedPart, numbersOf}
 use Rattle.mrd_cursor.specs.declared.cursor.Cursor.{Cursor}
 use Rattle.mrd_logic.specs.Answer.{Verdict, refused, Answer, answered, number, unlessRefused}
@@ -36,8 +37,8 @@ nth (l ∷ ls) zero = answered l
 nth (l ∷ ls) (suc n) = nth ls n
 
 -- the place and kind of record n: the stream's refusal first, then 16
-unfoldable pub place : List ℕ → ℕ → Answer Located
-place s n = unlessRefused (answer s) (nth (places (trace s)) n)
+unfoldable pub place : Rules → List ℕ → ℕ → Answer Located
+place rules s n = unlessRefused (answer rules s) (nth (places (trace rules s)) n)
 
 -- what one step of a walk hands out: a message and the next cursor, or the stream's answer
 pub data Stepped : Type 0 where
@@ -49,13 +50,13 @@ stepBy (faulty f) c t = over (refused f (c .number) (c .start))
 stepBy (whole k z) c t = yields (located c k (take z t)) (after c k z)
 
 -- the step at the front of t
-unfoldable pub stepAt : Cursor → List ℕ → Stepped
-stepAt c [] = over (ended c)
-stepAt c (b ∷ t) = stepBy (judge c (b ∷ t)) c (b ∷ t)
+unfoldable pub stepAt : Rules → Cursor → List ℕ → Stepped
+stepAt rules c [] = over (ended c)
+stepAt rules c (b ∷ t) = stepBy (judge rules c (b ∷ t)) c (b ∷ t)
 
 -- the step from a cursor, any cursor, over a stream
-unfoldable pub step : Cursor → List ℕ → Stepped
-step c s = stepAt c (drop (c .start) s)
+unfoldable pub step : Rules → Cursor → List ℕ → Stepped
+step rules c s = stepAt rules c (drop (c .start) s)
 
 -- a message of kind k and size z as a record, by its fixed part h
 abbrev pub yielded : Cursor → Kind → List ℕ → ℕ → Stepped

@@ -8,6 +8,7 @@ use mathlib.Core.List.{List, [], _∷_}
 use borrow.Author.Tests.{eq-eqb, ne-eqb}
 use lib.Dec.{eqb}
 use Rattle.mrd_format.specs.declared.kind.Kind.{Kind}
+use Rattle.mrd_format.specs.declared.rules.Rules.{Rules}
 use Rattle.mrd_cursor.specs.declared.cursor.Cursor.{Cursor}
 use Rattle.mrd_logic.specs.Answer.{Answer, answered, number, unlessRefused}
 use Rattle.mrd_logic.specs.Choice.{pick}
@@ -52,21 +53,21 @@ seek-ahead (suc d) i (message c k m r) u =
     rw (ne-eqb (c .number) (i + suc d) (λ e. omega (arith, u .0)), next) (seek-ahead d (suc i) r (u .1))
 
 -- the messages that a walk meets are numbered from its cursor's number on
-pub walk-numbered : (t : List ℕ) (k : ℕ) (c : Cursor) → Numbered (c .number) (walk t k c)
+pub walk-numbered : (rules : Rules) (t : List ℕ) (k : ℕ) (c : Cursor) → Numbered (c .number) (walk rules t k c)
 unfolding walk
-walk-numbered [] k c = tt
-walk-numbered (b ∷ t) (suc k) c = walk-numbered t k c
-walk-numbered (b ∷ t) zero c = judged (λ k z. walk-numbered t (pred z) (after c k z)) (judge c (b ∷ t)) refl
+walk-numbered rules [] k c = tt
+walk-numbered rules (b ∷ t) (suc k) c = walk-numbered rules t k c
+walk-numbered rules (b ∷ t) zero c = judged (λ k z. walk-numbered rules t (pred z) (after c k z)) (judge rules c (b ∷ t)) refl
   where
-    judged : ((k : Kind) (z : ℕ) → Numbered (c .number + 1) (walk t (pred z) (after c k z))) → (j : Judged) → judge c (b ∷ t) ≡ j →
-        Numbered (c .number) (walk (b ∷ t) 0 c)
+    judged : ((k : Kind) (z : ℕ) → Numbered (c .number + 1) (walk rules t (pred z) (after c k z))) → (j : Judged) → judge rules c (b ∷ t) ≡ j →
+        Numbered (c .number) (walk rules (b ∷ t) 0 c)
     judged ih (faulty f) e = rw (e, walk) tt
     judged ih (whole k z) e =
-        rw (e, walk) (refl, subst (λ (n : ℕ). Numbered n (walk t (pred z) (after c k z))) (add-one (c .number)) (ih k z))
+        rw (e, walk) (refl, subst (λ (n : ℕ). Numbered n (walk rules t (pred z) (after c k z))) (add-one (c .number)) (ih k z))
 
 -- seeking record n from the beginning finds its place
-pub seek-place : (s : List ℕ) (n : ℕ) → seek n (number 16) (trace s) ≡ place s n
+pub seek-place : (rules : Rules) (s : List ℕ) (n : ℕ) → seek n (number 16) (trace rules s) ≡ place rules s n
 unfolding place answer trace
-seek-place s n =
+seek-place rules s n =
     let same : 0 + n ≡ n = omega arith in
-    rw same at (seek-ahead n 0 (walk s 0 beginning) (walk-numbered s 0 beginning))
+    rw same at (seek-ahead n 0 (walk rules s 0 beginning) (walk-numbered rules s 0 beginning))

@@ -5,6 +5,7 @@ use mathlib.Core.Bool.{Bool, true, false}
 use mathlib.Core.List.{List, [], _∷_}
 use lib.ListN.{take, drop}
 use Rattle.mrd_format.specs.declared.kind.Kind.{Kind}
+use Rattle.mrd_format.specs.declared.rules.Rules.{Rules}
 use Rattle.mrd_logic.specs.Answer.{Verdict, accepted, refused}
 use Rattle.mrd_cursor.specs.declared.cursor.Cursor.{Cursor}
 use Rattle.mrd_cursor.specs.Order.{isClosed}
@@ -25,26 +26,26 @@ pub data Trace : Type 0 where
   done : Verdict → Trace
 
 -- the walk from c on, with k bytes of the last message still to pass before the next is due
-unfoldable pub walk : List ℕ → ℕ → Cursor → Trace
-walk [] k c = done (ended c)
-walk (b ∷ t) (suc k) c = walk t k c
-walk (b ∷ t) zero c =
-    elim (judge c (b ∷ t)) [
+unfoldable pub walk : Rules → List ℕ → ℕ → Cursor → Trace
+walk rules [] k c = done (ended c)
+walk rules (b ∷ t) (suc k) c = walk rules t k c
+walk rules (b ∷ t) zero c =
+    elim (judge rules c (b ∷ t)) [
       | faulty f ↦ done (refused f (c .number) (c .start))
-      | whole k z ↦ message c k (take z (b ∷ t)) (walk t (pred z) (after c k z))
+      | whole k z ↦ message c k (take z (b ∷ t)) (walk rules t (pred z) (after c k z))
     ]
 
 -- the trace of s from a cursor on
-abbrev pub from : Cursor → List ℕ → Trace
-from c s = walk (drop (c .start) s) 0 c
+abbrev pub from : Rules → Cursor → List ℕ → Trace
+from rules c s = walk rules (drop (c .start) s) 0 c
 
-unfoldable pub trace : List ℕ → Trace
-trace s = walk s 0 beginning
+unfoldable pub trace : Rules → List ℕ → Trace
+trace rules s = walk rules s 0 beginning
 
 abbrev pub verdict : Trace → Verdict
 verdict (message c k m r) = verdict r
 verdict (done v) = v
 
 -- the stream's answer
-unfoldable pub answer : List ℕ → Verdict
-answer s = verdict (trace s)
+unfoldable pub answer : Rules → List ℕ → Verdict
+answer rules s = verdict (trace rules s)

@@ -17,6 +17,7 @@ use crate::answer::Refusal;
 use crate::answer::Step;
 use mrd_cursor::Cursor;
 use mrd_format::Kind;
+use mrd_format::Rules;
 use mrd_format::refusal;
 use mrd_judge::Judgement;
 use mrd_judge::fixed_part;
@@ -26,16 +27,16 @@ use mrd_judge::judge;
 // what follows, or the stream's answer. From Cursor::beginning() on, the steps hand out the stream's
 // messages in order and then its answer; any other cursor gets some answer too. A step reads the fixed
 // part of one message and none of its payload.
-pub fn next(c: Cursor, s: &[u8]) -> Step
-    ensures { λ r. ⌜ stepMeaning r ≡ step c (now (s .entry)) ⌝ }
+pub fn next(rules: Rules, c: Cursor, s: &[u8]) -> Step
+    ensures { λ r. ⌜ stepMeaning r ≡ step rules c (now (s .entry)) ⌝ }
 {
     let start = c.start;
     if start >= s.len() {
         return Step::End(ended(c));
     }
-    let judgement = judge(c, &s[start..]);
+    let judgement = judge(rules, c, &s[start..]);
     match judgement {
-        Judgement::Whole(kind, size) => yields(c, kind, fixed_part(kind, &s[start..]), size),
+        Judgement::Whole(size, kind) => yields(c, kind, fixed_part(kind, &s[start..]), size),
         Judgement::Faulty(number) => Step::End(refused(c, number)),
     }
 }
@@ -81,16 +82,16 @@ fn yields(c: Cursor, kind: Kind, h: &[u8], size: usize) -> Step
 
 // Checks a whole stream: accepted with the number of its records, or the refusal of its first faulty
 // message.
-pub fn check(s: &[u8]) -> Checked
-    ensures { λ r. ⌜ checkedMeaning r ≡ answer (now (s .entry)) ⌝ }
+pub fn check(rules: Rules, s: &[u8]) -> Checked
+    ensures { λ r. ⌜ checkedMeaning r ≡ answer rules (now (s .entry)) ⌝ }
 {
-    check_from(Cursor::beginning(), s)
+    check_from(rules, Cursor::beginning(), s)
 }
 
 // Checks what a walk still has before it: the answer that its steps from c on end in. Where c comes
 // from a walk over s, that is the stream's answer; any other cursor gets some answer too.
-pub fn check_from(c: Cursor, s: &[u8]) -> Checked
-    ensures { λ r. ⌜ checkedMeaning r ≡ verdict (from c (now (s .entry))) ⌝ }
+pub fn check_from(rules: Rules, c: Cursor, s: &[u8]) -> Checked
+    ensures { λ r. ⌜ checkedMeaning r ≡ verdict (from rules c (now (s .entry))) ⌝ }
 {
     let mut c = c;
     loop {
@@ -98,9 +99,9 @@ pub fn check_from(c: Cursor, s: &[u8]) -> Checked
         if s.len() <= start {
             return ended(c);
         }
-        let judgement = judge(c, &s[start..]);
+        let judgement = judge(rules, c, &s[start..]);
         match judgement {
-            Judgement::Whole(kind, size) => {
+            Judgement::Whole(size, kind) => {
                 c = c.after(kind, size);
             }
             Judgement::Faulty(number) => {
@@ -112,13 +113,13 @@ pub fn check_from(c: Cursor, s: &[u8]) -> Checked
 
 // The place and kind of record n; else the stream's refusal, or 16 where there is no such record. One
 // walk over the whole stream.
-pub fn place(s: &[u8], n: usize) -> Placed
-    ensures { λ r. ⌜ placedMeaning r ≡ place (now (s .entry)) n ⌝ }
+pub fn place(rules: Rules, s: &[u8], n: usize) -> Placed
+    ensures { λ r. ⌜ placedMeaning r ≡ place rules (now (s .entry)) n ⌝ }
 {
     let mut c = Cursor::beginning();
     let mut found = Placed::Refused(refusal::NO_RECORD);
     loop {
-        let step = next(c, s);
+        let step = next(rules, c, s);
         match step {
             Step::Message(record, after) => {
                 found = kept(found, record, n);

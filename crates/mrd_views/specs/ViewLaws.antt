@@ -19,9 +19,10 @@ use Rattle.mrd_record.specs.AtCursor.{LiesIn}
 use Rattle.mrd_record.specs.RecordLaws.{fixed-long}
 use Rattle.mrd_views.specs.declared.views.Span.{Span}
 use Rattle.mrd_views.specs.Views.{shownAt, startOf, viewBy, ViewIn}
+use Rattle.mrd_format.specs.declared.rules.Rules.{Rules}
 
 -- a record that lies in s
-module _ (s : List ℕ) (l : Located) (i : Inside s l) where
+module _ {rules : Rules} (s : List ℕ) (l : Located) (i : Inside rules s l) where
   -- its fixed part gives its size
   pub fixed-sized : Sized (l .kind) (fixedPart (l .kind) (partAt s l)) (l .size)
   fixed-sized =
@@ -47,6 +48,6 @@ module _ (s : List ℕ) (l : Located) (i : Inside s l) where
 
 -- a view of a record that lies in the stream does
 pub view-fits : (s : List ℕ) (a : Answer Located) (p : asked.Part) → LiesIn s a → ViewIn s (viewBy a p s)
-view-fits s (answered l) p x = part-fits s l x (partMeaning p)
+view-fits s (answered l) p x = part-fits s l (x .1) (partMeaning p)
 view-fits s (stream f r b) p x = tt
 view-fits s (number k) p x = tt

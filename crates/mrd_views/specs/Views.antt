@@ -14,6 +14,7 @@ use Rattle.mrd_cut.specs.CutPlaces.{partAt}
 use Rattle.mrd_views.specs.declared.views.Span.{Span}
 use Rattle.mrd_views.specs.declared.views.ViewPlace.{ViewPlace}
 use Rattle.mrd_views.specs.declared.views.ViewPlace.the-variants.{At, Stream, Refused}
+use Rattle.mrd_format.specs.declared.rules.Rules.{Rules}
 
 -- a view's place in a stream: its first byte and its length
 abbrev pub span : ℕ → ℕ → Span
@@ -30,8 +31,8 @@ viewBy a p s =
     andThen a (λ l. shownAt (extentOf (partMeaning p) (l .kind) (fixedPart (l .kind) (partAt s l))) (l .start))
 
 -- the place of a part of record n: the stream's refusal first, then 16, then 17
-unfoldable pub viewOf : List ℕ → ℕ → Part → Answer Span
-viewOf s n p = viewBy (place s n) p s
+unfoldable pub viewOf : Rules → List ℕ → ℕ → Part → Answer Span
+viewOf rules s n p = viewBy (place rules s n) p s
 
 -- the view itself: 'a refused view is the empty part at the stream's front'
 abbrev pub shown : Answer Span → List ℕ → List ℕ

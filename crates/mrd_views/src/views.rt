@@ -5,10 +5,10 @@ ghost use lib.ListN.{take, drop};
 ghost use lib.ListN.{length as List·length};
 ghost use Rattle.mrd_logic.specs.Answer.{answered};
 ghost use Rattle.mrd_stream.specs.ReaderMeaning.{recordMeaning, placedMeaning};
-ghost use Rattle.mrd_cut.specs.Inside.{Inside};
 ghost use Rattle.mrd_parts.specs.Sought.{soughtMeaning};
-ghost use Rattle.mrd_record.specs.AtCursor.{LiesIn};
+ghost use Rattle.mrd_record.specs.AtCursor.{Lies, LiesIn};
 ghost use Rattle.mrd_views.specs.Views.{viewOf, viewBy, shownAt, shown, startOf, viewMeaning, ViewIn};
+use mrd_format::Rules;
 use mrd_format::refusal;
 use mrd_parts::Part;
 use mrd_parts::Sought;
@@ -33,20 +33,20 @@ pub enum ViewPlace {
 }
 
 // Where a part of record n lies. One walk over the stream.
-pub fn view_place(s: &[u8], n: usize, part: Part) -> ViewPlace
-    ensures { λ r. ⌜ viewMeaning r ≡ viewOf (now (s .entry)) n part ⌝ }
+pub fn view_place(rules: Rules, s: &[u8], n: usize, part: Part) -> ViewPlace
+    ensures { λ r. ⌜ viewMeaning r ≡ viewOf rules (now (s .entry)) n part ⌝ }
 {
-    let placed = mrd_stream::place(s, n);
+    let placed = mrd_stream::place(rules, s, n);
     placed_view(placed, s, part)
 }
 
 // A part of record n: that part of the stream, or the empty part at the stream's front where
 // view_place is a refusal. One walk over the stream.
-pub fn view(s: &[u8], n: usize, part: Part) -> &[u8]
-    ensures { λ r. ⌜ now r ≡ shown (viewOf (now (s .entry)) n part) (now (s .entry)) ⌝ }
-    ensures { λ r. ⌜ (r .ptr .0 ≡ s .entry .ptr .0) × (r .ptr .1 ≡ s .entry .ptr .1 + startOf (viewOf (now (s .entry)) n part)) ⌝ }
+pub fn view(rules: Rules, s: &[u8], n: usize, part: Part) -> &[u8]
+    ensures { λ r. ⌜ now r ≡ shown (viewOf rules (now (s .entry)) n part) (now (s .entry)) ⌝ }
+    ensures { λ r. ⌜ (r .ptr .0 ≡ s .entry .ptr .0) × (r .ptr .1 ≡ s .entry .ptr .1 + startOf (viewOf rules (now (s .entry)) n part)) ⌝ }
 {
-    let place = view_place(s, n, part);
+    let place = view_place(rules, s, n, part);
     viewed(place, s)
 }
 
@@ -87,7 +87,7 @@ fn spanned(s: &[u8], start: usize, length: usize) -> &[u8]
 
 // Where a part of a record that lies in s is.
 fn record_view(s: &[u8], here: PlacedRecord, part: Part) -> ViewPlace
-    requires { ⌜ Inside (now s) (recordMeaning here) ⌝ }
+    requires { ⌜ Lies (now s) (recordMeaning here) ⌝ }
     ensures { λ r. ⌜ viewMeaning r ≡ viewBy (answered (recordMeaning here)) part (now (s .entry)) ⌝ }
 {
     let place = here.place;

@@ -9,6 +9,7 @@ use lib.Dec.{ltb}
 use lib.ListN.{length}
 use Rattle.mrd_numbers.specs.Little.{toBytes}
 use borrow.Author.Tests.{lt-ltb, le-ltb, eq-eqb, ne-eqb}
+use Rattle.mrd_format.specs.declared.rules.Layout.{Layout}
 use Rattle.mrd_format.specs.declared.kind.Kind.{Kind}
 use Rattle.mrd_format.specs.declared.kind.Kind.the-variants.{ConfigurationText, HeaderText, Close, Text, Acquisition, Image, Waveform}
 use Rattle.mrd_logic.specs.Answer.{answered, number}
@@ -19,9 +20,11 @@ use Rattle.mrd_format.specs.OwnCheckLaws.{own-numbered}
 use Rattle.mrd_format.specs.Acquisition as acquisition
 use Rattle.mrd_format.specs.Image as image
 use Rattle.mrd_format.specs.Waveform as waveform
+use Rattle.mrd_format.specs.Waveform.{cleared}
 use Rattle.mrd_format.specs.Kinds.{formOf, headerSize}
 use Rattle.mrd_format.specs.Parts as part
-use Rattle.mrd_format.specs.HeaderLaws.{whole-settled, acquisition-packed, waveform-packed}
+use Rattle.mrd_format.specs.HeaderLaws.{whole-settled, acquisition-lawful}
+use Rattle.mrd_format.specs.WaveformLaws.{same-checks, cleared-fields}
 use Rattle.mrd_format.specs.Headers.{settled}
 use Rattle.mrd_format.specs.ImageLaws.{agree-checks, made-agrees}
 use Rattle.mrd_format.specs.Sizes.{capped}
@@ -132,15 +135,15 @@ pub sized-acquisition : (h name : List ℕ) (n : Lengths) → length h ≡ heade
     sizedAnswer Acquisition h name n ≡ sizedBy (ownChecks Acquisition h) (sizeOf Acquisition h)
 unfolding givenFixed givenSize dueLengths sizeOf bodySize ownChecks acquisition.checks
 sized-acquisition h name n e =
-    let same = whole-settled (lengthIn n) 340 acquisition.cells h refl acquisition-packed e in
+    let same = whole-settled (lengthIn n) 340 acquisition.cells h refl acquisition-lawful e in
     sized-fixed Acquisition h name n refl (ap acquisition.checks same) (omega arith)
 
-pub sized-waveform : (h name : List ℕ) (n : Lengths) → length h ≡ headerSize Waveform →
-    sizedAnswer Waveform h name n ≡ sizedBy (ownChecks Waveform h) (sizeOf Waveform h)
-unfolding givenFixed givenSize dueLengths sizeOf bodySize ownChecks waveform.checks
-sized-waveform h name n e =
-    let same = whole-settled (lengthIn n) 32 waveform.cells h refl waveform-packed e in
-    sized-fixed Waveform h name n refl (ap waveform.checks same) (omega arith)
+pub sized-waveform : (l : Layout) (h name : List ℕ) (n : Lengths) → length h ≡ headerSize (Waveform l) →
+    sizedAnswer (Waveform l) h name n ≡ sizedBy (ownChecks (Waveform l) h) (sizeOf (Waveform l) h)
+unfolding givenFixed givenSize dueLengths sizeOf bodySize ownChecks waveform.checks cleared
+sized-waveform l h name n e =
+    let same = same-checks l (cleared l h) h (cleared-fields l h e) in
+    sized-fixed (Waveform l) h name n refl same (omega arith)
 
 pub sized-image : (h name : List ℕ) (n : Lengths) → length h ≡ headerSize Image →
     sizedAnswer Image h name n ≡ sizedBy (image.headerChecks h) (imageSize h (n .attributes))
@@ -168,9 +171,10 @@ module _ (k : Kind) (h : List ℕ) (n : Lengths) {z : ℕ} (whole : z ≡ givenS
       let rest : z - 208 - n .attributes ≡ image.pixelsSize h = omega arith in
       (omega arith, rw e (ap (λ (s : ℕ). partLengths 0 0 0 0 (n .attributes) s 0) rest))
 
-  pub due-waveform : k ≡ Waveform → (34 ≤ z) × (partLengths 0 0 0 0 0 0 (z - 34) ≡ dueLengths k h n)
+  pub due-waveform : {l : Layout} → k ≡ Waveform l →
+      (2 + waveform.headerBytes l ≤ z) × (partLengths 0 0 0 0 0 0 (z - (2 + waveform.headerBytes l)) ≡ dueLengths k h n)
   unfolding givenSize dueLengths
-  due-waveform e =
-      let size : z ≡ givenSize Waveform h n = rw e at whole in
-      let rest : z - 34 ≡ waveform.bodySize h = omega arith in
+  due-waveform {l} e =
+      let size : z ≡ givenSize (Waveform l) h n = rw e at whole in
+      let rest : z - (2 + waveform.headerBytes l) ≡ waveform.bodySize l h = omega arith in
       (omega arith, rw e (ap (λ (s : ℕ). partLengths 0 0 0 0 0 0 s) rest))

@@ -56,7 +56,7 @@ fn checked_size(kind: Kind, header: &[u8], name: &[u8], given: Lengths) -> Conte
         Kind::Text => checked_text(given.text),
         Kind::Acquisition => checked_fixed(Kind::Acquisition, header),
         Kind::Image => checked_image(header, given.attributes),
-        Kind::Waveform => checked_fixed(Kind::Waveform, header),
+        Kind::Waveform(layout) => checked_fixed(Kind::Waveform(layout), header),
     }
 }
 
@@ -146,8 +146,8 @@ fn as_due(kind: Kind, header: &[u8], size: usize, given: Lengths) -> bool
             due.pixels = size - (Kind::ID_SIZE + Kind::IMAGE_FIXED) - given.attributes;
             given.same(due)
         }
-        Kind::Waveform => {
-            due.waveform = size - (Kind::ID_SIZE + Kind::WAVEFORM_FIXED);
+        Kind::Waveform(layout) => {
+            due.waveform = size - (Kind::ID_SIZE + layout.header_size());
             given.same(due)
         }
     }

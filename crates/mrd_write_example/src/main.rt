@@ -4,6 +4,8 @@ mod views;
 
 use libc::STDOUT_FILENO;
 use mrd_format::Kind;
+use mrd_format::Layout;
+use mrd_format::Rules;
 use mrd_stream::Checked;
 use mrd_writer::WriteAnswer;
 
@@ -15,6 +17,13 @@ const NUMBER_OF_SAMPLES: usize = 34;
 const AVAILABLE_CHANNELS: usize = 36;
 
 const ACTIVE_CHANNELS: usize = 38;
+
+// What is written here has no waveforms, so that either layout would do.
+fn packed() -> Rules {
+    Rules {
+        layout: Layout::Packed,
+    }
+}
 
 fn main() {
     let mut out = [0u8; 2048];
@@ -47,6 +56,7 @@ fn after(written: WriteAnswer, position: usize) -> usize {
 fn put_name(out: &mut [u8], position: usize) -> usize {
     let id = Kind::CONFIGURATION_NAME;
     let written = mrd_writer::write(
+        packed(),
         id,
         b"",
         b"default.xml",
@@ -65,6 +75,7 @@ fn put_name(out: &mut [u8], position: usize) -> usize {
 fn put_header(out: &mut [u8], position: usize) -> usize {
     let id = Kind::HEADER_TEXT;
     let written = mrd_writer::write(
+        packed(),
         id,
         b"",
         b"",
@@ -91,6 +102,7 @@ fn put_readout(out: &mut [u8], position: usize) -> usize {
     let samples = b"sample 0sample 1sample 2sample 3";
     let id = Kind::ACQUISITION;
     let written = mrd_writer::write(
+        packed(),
         id,
         &header,
         b"",
@@ -108,7 +120,20 @@ fn put_readout(out: &mut [u8], position: usize) -> usize {
 
 fn put_close(out: &mut [u8], position: usize) -> usize {
     let id = Kind::CLOSE;
-    let written = mrd_writer::write(id, b"", b"", b"", b"", b"", b"", b"", b"", out, position);
+    let written = mrd_writer::write(
+        packed(),
+        id,
+        b"",
+        b"",
+        b"",
+        b"",
+        b"",
+        b"",
+        b"",
+        b"",
+        out,
+        position,
+    );
     after(written, position)
 }
 
@@ -117,7 +142,7 @@ fn read_back(out: &[u8], end: usize) {
     if out.len() < end {
         return;
     }
-    match mrd_stream::check(&out[0..end]) {
+    match mrd_stream::check(packed(), &out[0..end]) {
         Checked::Accepted(count) => {
             io::write_all(STDOUT_FILENO, b"accepted, records ");
             io::print_decimal(STDOUT_FILENO, count as u64);
@@ -128,5 +153,5 @@ fn read_back(out: &[u8], end: usize) {
         }
     }
     io::write_all(STDOUT_FILENO, b"\n");
-    views::show(&out[0..end]);
+    views::show(packed(), &out[0..end]);
 }

@@ -4,4 +4,4 @@ pub mod Written
 pub mod WriteLaws
 pub mod ReadBack
 pub mod OwnContents
-pub mod HeaderNumber
+pub mod Disregarded

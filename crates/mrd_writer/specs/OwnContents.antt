@@ -3,7 +3,7 @@
 use Prim.Native.Nat.{ℕ, _+_, _*_, _≤_, _<_}
 use native.Mathlib.Nat.{le-of-eq}
 use native.Mathlib.Omega.{arith}
-use mathlib.Core.Path.{_≡_, refl, sym, ap, ap₂, _∙_}
+use mathlib.Core.Path.{_≡_, refl, sym, ap, ap₂, subst, _∙_}
 use mathlib.Core.Bool.{Bool, true, false}
 use mathlib.Core.List.{List, [], _∷_, _++_}
 use borrow.Author.Tests.{le-ltb}
@@ -13,9 +13,11 @@ use lib.Seq.{take-take}
 use Rattle.bytes.specs.Bytes.{indexOf, indexAfter}
 use Rattle.mrd_numbers.specs.Little.{toBytes, Bytes}
 use Rattle.mrd_logic.specs.Every.{Every, every-split}
-use Rattle.mrd_logic.specs.Checks.{_when_, first, Passed}
+use Rattle.mrd_logic.specs.Checks.{Check, _when_, first, Passed}
 use Rattle.mrd_logic.specs.CheckLaws.{first-passed}
 use Rattle.mrd_format.specs.OwnCheckLaws.{own-numbered}
+use Rattle.mrd_format.specs.declared.rules.Layout.{Layout}
+use Rattle.mrd_format.specs.declared.rules.Rules.{Rules}
 use Rattle.mrd_format.specs.declared.kind.Kind.{Kind}
 use Rattle.mrd_format.specs.declared.kind.Kind.the-variants.{ConfigurationName, ConfigurationText, HeaderText, Close, Text, Acquisition, Image, Waveform}
 use Rattle.mrd_format.specs.Segments.{nameLength}
@@ -26,12 +28,13 @@ use Rattle.mrd_format.specs.NormalLaws.{nameBytes, name-short}
 use Rattle.mrd_format.specs.Rewritten.{part-length, rewritten-normal}
 use Rattle.mrd_format.specs.Parts.{Part, partLength}
 use Rattle.mrd_format.specs.Headers.{settled}
-use Rattle.mrd_format.specs.HeaderLaws.{whole-settled, acquisition-packed, waveform-packed}
+use Rattle.mrd_format.specs.HeaderLaws.{whole-settled, acquisition-lawful}
+use Rattle.mrd_format.specs.WaveformLaws.{waveform-settled, cleared-fields, same-checks}
 use Rattle.mrd_format.specs.ImageLaws.{Agree, agree-checks, agree-pixels, agree-header, made-agrees}
 use Rattle.mrd_format.specs.Acquisition as acquisition
 use Rattle.mrd_format.specs.Image as image
 use Rattle.mrd_format.specs.Waveform as waveform
-use Rattle.mrd_write_checks.specs.WriteChecks.{nameUnfit, givenFixed, givenOwnChecks, givenSize, partLengths, lengthsOf, dueLengths}
+use Rattle.mrd_write_checks.specs.WriteChecks.{nameUnfit, givenFixed, ofWriter, givenOwnChecks, givenSize, partLengths, lengthsOf, dueLengths}
 use Rattle.mrd_write_checks.specs.NameLaws.{name-passes}
 use Rattle.mrd_writer.specs.Sound.{Sound}
 
@@ -79,6 +82,14 @@ module _ (m : List ℕ) (a p : ℕ) (whole : 208 + (a + p) ≡ length m) where
   header-passes z x passed =
       rw (agree-checks _ header (made-agrees z header x header-long), agree-checks header (take 206 (drop 2 m)) header-agrees) passed
 
+-- what is made of a waveform's header passes the check of that header
+waveform-passes : (l : Layout) (z : Part → ℕ) (h : List ℕ) → length h ≡ waveform.headerBytes l → Every Passed (waveform.checks l h) →
+    Every Passed (ofWriter (waveform.checks l (settled z (waveform.cells l) h)))
+unfolding waveform.checks
+waveform-passes l z h long passed =
+    subst (λ (cs : List Check). Every Passed (ofWriter cs))
+    (sym (ap (waveform.checks l) (waveform-settled z l h) ∙ same-checks l _ h (cleared-fields l h long))) passed
+
 -- a fixed part with no fault passes each of its checks
 passes : (k : Kind) (f : List ℕ) → first (ownChecks k f) ≡ 0 → Every Passed (ownChecks k f)
 passes k f = first-passed (ownChecks k f) (own-numbered k f)
@@ -107,7 +118,7 @@ own-sound Acquisition m sound small whole =
     let samples = part-length m (342 + t) z (omega (arith, whole)) in
     record {
       header = long;
-      own = (refl, rw (whole-settled _ 340 acquisition.cells f refl acquisition-packed long) (passes Acquisition f sound));
+      own = (refl, rw (whole-settled _ 340 acquisition.cells f refl acquisition-lawful long) (passes Acquisition f sound));
       small = omega (arith, small);
       lengths = ap₂ (λ (j s : ℕ). partLengths 0 0 j s 0 0 0) trajectory samples;
     }
@@ -123,17 +134,18 @@ own-sound Image m sound small whole =
       small = omega (arith, whole, small, part-length m 208 a (omega (arith, whole)), pixels, part-length m (208 + a) p (omega (arith, whole)));
       lengths = ap (λ (n : ℕ). partLengths 0 0 0 0 (length (take a (drop 208 m))) n 0) pixels;
     }
-own-sound Waveform m sound small whole =
-    let f = take 32 (drop 2 m) in
-    let long = part-length m 2 32 (omega (arith, whole)) in
+own-sound (Waveform l) m sound small whole =
+    let n = waveform.headerBytes l in
+    let f = take n (drop 2 m) in
+    let long = part-length m 2 n (omega (arith, whole)) in
     record {
       header = long;
-      own = (refl, rw (whole-settled _ 32 waveform.cells f refl waveform-packed long) (passes Waveform f sound));
+      own = (refl, waveform-passes l (partLength (contentsOf (Waveform l) m)) f long (passes (Waveform l) f sound));
       small = omega (arith, small);
-      lengths = ap (λ (n : ℕ). partLengths 0 0 0 0 0 0 n) (part-length m 34 (waveform.bodySize f) (le-of-eq whole));
+      lengths = ap (λ (n : ℕ). partLengths 0 0 0 0 0 0 n) (part-length m (2 + n) (waveform.bodySize l f) (le-of-eq whole));
     }
 
 -- writing the header and the parts of a well-formed message is not refused, and gives its normal form
-pub own-contents : (m : List ℕ) (w : WellFormed m) → Bytes m →
+pub own-contents : {rules : Rules} (m : List ℕ) (w : WellFormed rules m) → Bytes m →
     Sound (w .kind) (contentsOf (w .kind) m) × (messageOf (w .kind) (contentsOf (w .kind) m) ≡ normalOf (w .kind) m)
 own-contents m w bytes = (own-sound (w .kind) m (w .sound) (w .small) (w .whole), rewritten-normal m bytes w)

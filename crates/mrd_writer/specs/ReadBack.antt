@@ -15,6 +15,7 @@ use Rattle.mrd_logic.specs.AnswerLaws.{answered-not-number}
 use Rattle.mrd_logic.specs.Every.{every-split}
 use Rattle.mrd_logic.specs.Checks.{_when_, first, Passed}
 use Rattle.mrd_logic.specs.CheckLaws.{first-passed, passed-first, numbered-append}
+use Rattle.mrd_format.specs.declared.rules.Rules.{Rules}
 use Rattle.mrd_format.specs.declared.kind.Kind.{Kind}
 use Rattle.mrd_format.specs.declared.kind.Identified.{Identified}
 use Rattle.mrd_format.specs.declared.kind.Identified.the-variants.{Known, Unknown}
@@ -34,24 +35,24 @@ use Rattle.mrd_writer.specs.Write.{contentsSize, contentsChecks, writeCh
 use Rattle.mrd_writer.specs.Sound.{Sound, passed-sound}
 use Rattle.mrd_writer.specs.Written.{sound-fitting, message-length, written-well}
 
--- what the writer left in the output o, given the id, c and the position `at`, where it answers the position p
-pub record ReadsBack (id : ℕ) (c : Contents) (at : ℕ) (o : List ℕ) (p : ℕ) : Type 0 where
+-- what the writer left in the output o, by these rules, given the id, c and the position `at`, where it answers the position p
+pub record ReadsBack (rules : Rules) (id : ℕ) (c : Contents) (at : ℕ) (o : List ℕ) (p : ℕ) : Type 0 where
   -- the id is in the table, and m is the message of its kind that c makes
   pub kind : Kind
-  pub known : identified id ≡ Known kind
+  pub known : identified rules id ≡ Known kind
   pub m : List ℕ
   pub made : m ≡ messageOf kind c
   -- it lies in the output from the position on, up to p, and all else there is as it was
   pub end : p ≡ at + length m
-  pub there : take (length m) (drop at (writeOutput id c at o)) ≡ m
-  pub output : writeOutput id c at o ≡ stored at m o
+  pub there : take (length m) (drop at (writeOutput rules id c at o)) ≡ m
+  pub output : writeOutput rules id c at o ≡ stored at m o
   -- it is well formed, of that kind, and its record is that of what was given
-  pub well : WellFormed m
+  pub well : WellFormed rules m
   pub its-kind : well .kind ≡ kind
   pub same-record : recordOf kind m ≡ contentsRecord kind c
   -- and where order and count allow it, a walk over any stream that has it there meets it, and goes on after it
   pub met : (d : Cursor) (s rest : List ℕ) → drop (d .start) s ≡ m ++ rest → allowed kind (d .phase) ≡ true → d .number < maxMessages →
-      from d s ≡ message d kind m (walk rest 0 (after d kind (length m)))
+      from rules d s ≡ message d kind m (walk rules rest 0 (after d kind (length m)))
 
 -- an answer that is no refusal: every check passed
 answered-sound : (k : Kind) (c : Contents) (at : ℕ) (o : List ℕ) {p : ℕ} → answerAs (Known k) c at o ≡ answered p →
@@ -73,17 +74,18 @@ stored-there at m o h =
     (take-at m (drop (at + length m) o) (length m) refl)
 
 -- what we write reads back as the same record
-pub written-reads-back : (id : ℕ) (c : Contents) (at : ℕ) (o : List ℕ) (p : ℕ) → writeAnswer id c at o ≡ answered p → ReadsBack id c at o p
+pub written-reads-back : (rules : Rules) (id : ℕ) (c : Contents) (at : ℕ) (o : List ℕ) (p : ℕ) → writeAnswer rules id c at o ≡ answered p →
+    ReadsBack rules id c at o p
 unfolding writeAnswer writeOutput answerAs outputAs
-written-reads-back id c at o p e = by-id (identified id) refl e
+written-reads-back rules id c at o p e = by-id (identified rules id) refl e
   where
-    by-id : (i : Identified) → identified id ≡ i → answerAs i c at o ≡ answered p → ReadsBack id c at o p
+    by-id : (i : Identified) → identified rules id ≡ i → answerAs i c at o ≡ answered p → ReadsBack rules id c at o p
     by-id Unknown n e = absurd (answered-not-number (sym e))
     by-id (Known k) n e =
         let s = answered-sound k c at o e in
         let long : length (messageOf k c) ≡ contentsSize k c = message-length k c (s .0) in
-        let left : writeOutput id c at o ≡ stored at (messageOf k c) o = rw (n, e) in
-        let well : WellFormed (messageOf k c) = written-well k c (s .0) in
+        let left : writeOutput rules id c at o ≡ stored at (messageOf k c) o = rw (n, e) in
+        let well : WellFormed rules (messageOf k c) = written-well rules id k c n (s .0) in
         record {
           kind = k;
           known = n;
@@ -95,5 +97,5 @@ written-reads-back id c at o p e = by-id (identified id) refl e
           well = well;
           its-kind = refl;
           same-record = made-record k c (sound-fitting k c (s .0));
-          met = λ d t rest q a b. ap (λ (u : List ℕ). walk u 0 d) q ∙ walk-well d (messageOf k c) rest well a b;
+          met = λ d t rest q a b. ap (λ (u : List ℕ). walk rules u 0 d) q ∙ walk-well d (messageOf k c) rest well a b;
         }

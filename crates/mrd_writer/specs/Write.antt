@@ -8,6 +8,7 @@ use lib.ListN.{length}
 use Rattle.mrd_numbers.specs.Stored.{stored}
 use Rattle.mrd_logic.specs.Answer.{Answer, answered, stream, number}
 use Rattle.mrd_logic.specs.Checks.{Check, _when_, first, unless}
+use Rattle.mrd_format.specs.declared.rules.Rules.{Rules}
 use Rattle.mrd_format.specs.declared.kind.Kind.{Kind}
 use Rattle.mrd_format.specs.declared.kind.Identified.{Identified}
 use Rattle.mrd_format.specs.declared.kind.Identified.the-variants.{Known, Unknown}
@@ -44,8 +45,8 @@ answerAs Unknown c at o = number 2
 answerAs (Known k) c at o = unless (first (writeChecks k c at o)) number (answered (at + contentsSize k c))
 
 -- the answer
-unfoldable pub writeAnswer : ℕ → Contents → ℕ → List ℕ → Answer ℕ
-writeAnswer id c at o = answerAs (identified id) c at o
+unfoldable pub writeAnswer : Rules → ℕ → Contents → ℕ → List ℕ → Answer ℕ
+writeAnswer rules id c at o = answerAs (identified rules id) c at o
 
 -- 'the bytes before and after the message keep their content', and 'no refusal writes any byte'
 abbrev pub storedBy : Answer ℕ → List ℕ → ℕ → List ℕ → List ℕ
@@ -58,12 +59,12 @@ outputAs Unknown c at o = o
 outputAs (Known k) c at o = storedBy (answerAs (Known k) c at o) (messageOf k c) at o
 
 -- the output as it is left
-unfoldable pub writeOutput : ℕ → Contents → ℕ → List ℕ → List ℕ
-writeOutput id c at o = outputAs (identified id) c at o
+unfoldable pub writeOutput : Rules → ℕ → Contents → ℕ → List ℕ → List ℕ
+writeOutput rules id c at o = outputAs (identified rules id) c at o
 
--- a call that answers r and leaves out, where the id, c, the position and the output o were given
-abbrev pub Writes : WriteAnswer → List ℕ → ℕ → Contents → ℕ → List ℕ → Type 0
-Writes r out id c at o = (writeMeaning r ≡ writeAnswer id c at o) × (out ≡ writeOutput id c at o)
+-- a call by these rules that answers r and leaves out, where the id, c, the position and the output o were given
+abbrev pub Writes : Rules → WriteAnswer → List ℕ → ℕ → Contents → ℕ → List ℕ → Type 0
+Writes rules r out id c at o = (writeMeaning r ≡ writeAnswer rules id c at o) × (out ≡ writeOutput rules id c at o)
 
 -- the same for a kind that is known
 abbrev pub Stores : WriteAnswer → List ℕ → Kind → Contents → ℕ → List ℕ → Type 0

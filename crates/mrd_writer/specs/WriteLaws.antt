@@ -14,6 +14,7 @@ use Rattle.mrd_logic.specs.Answer.{Answer, answered, number}
 use Rattle.mrd_logic.specs.AnswerLaws.{answered-not-number}
 use Rattle.mrd_logic.specs.Checks.{Check, _when_, first, unless, without}
 use Rattle.mrd_logic.specs.CheckLaws.{first-next, unless-fault, lacking, lacking-append, lacking-without, lacking-never}
+use Rattle.mrd_format.specs.declared.rules.Rules.{Rules}
 use Rattle.mrd_format.specs.declared.kind.Kind.{Kind}
 use Rattle.mrd_format.specs.declared.kind.Identified.{Identified}
 use Rattle.mrd_format.specs.declared.kind.Identified.the-variants.{Known, Unknown}
@@ -81,15 +82,15 @@ module _ (k : Kind) (c : Contents) (at : ℕ) (o : List ℕ) where
         (sym a, rw (a, ← i) (second ∙ ap (stored (at + 2) (bytesAfterId k c)) first ∙ whole))
 
 -- a kind that is known, and an id that is not in the table
-pub write-known : (id : ℕ) (k : Kind) (c : Contents) (at : ℕ) (o o′ : List ℕ) (a : Answer ℕ) → identified id ≡ Known k → Ends k c at o a o′ →
-    (a ≡ writeAnswer id c at o) × (o′ ≡ writeOutput id c at o)
+pub write-known : (rules : Rules) (id : ℕ) (k : Kind) (c : Contents) (at : ℕ) (o o′ : List ℕ) (a : Answer ℕ) → identified rules id ≡ Known k →
+    Ends k c at o a o′ → (a ≡ writeAnswer rules id c at o) × (o′ ≡ writeOutput rules id c at o)
 unfolding writeAnswer writeOutput
-write-known id k c at o o′ a e p = (rw e (p .0), rw e (p .1))
+write-known rules id k c at o o′ a e p = (rw e (p .0), rw e (p .1))
 
-pub write-unknown : (id : ℕ) (c : Contents) (at : ℕ) (o : List ℕ) → identified id ≡ Unknown →
-    (number 2 ≡ writeAnswer id c at o) × (o ≡ writeOutput id c at o)
+pub write-unknown : (rules : Rules) (id : ℕ) (c : Contents) (at : ℕ) (o : List ℕ) → identified rules id ≡ Unknown →
+    (number 2 ≡ writeAnswer rules id c at o) × (o ≡ writeOutput rules id c at o)
 unfolding writeAnswer writeOutput answerAs outputAs
-write-unknown id c at o e = (rw e, rw e)
+write-unknown rules id c at o e = (rw e, rw e)
 
 -- the writer gives no 9: no check of what is given has that number
 no-9 : (k : Kind) (c : Contents) (at : ℕ) (o : List ℕ) → lacking 9 (writeChecks k c at o) ≡ true
@@ -100,9 +101,9 @@ no-9 k c at o =
     (lacking-append 9 (sizedChecks k (c .header) (c .parts .name) (lengthsOf c)) _ (lacking-append 9 (without 9 own) _ (lacking-without 9 own) refl) refl)
     refl
 
-pub never-9 : (id : ℕ) (c : Contents) (at : ℕ) (o : List ℕ) → writeAnswer id c at o ≡ number 9 → ⊥
+pub never-9 : (rules : Rules) (id : ℕ) (c : Contents) (at : ℕ) (o : List ℕ) → writeAnswer rules id c at o ≡ number 9 → ⊥
 unfolding writeAnswer answerAs
-never-9 id c at o e = by-id (identified id) e
+never-9 rules id c at o e = by-id (identified rules id) e
   where
     by-id : (i : Identified) → answerAs i c at o ≡ number 9 → ⊥
     by-id Unknown e = let z : _≡_ {A = ℕ} 2 9 = cc in omega arith

@@ -13,10 +13,13 @@ use Rattle.mrd_numbers.specs.HalfLaws.{read-after-write}
 use Rattle.mrd_logic.specs.Every.{Every}
 use Rattle.mrd_logic.specs.Checks.{first, Passed}
 use Rattle.mrd_logic.specs.CheckLaws.{passed-first}
+use Rattle.mrd_format.specs.declared.rules.Layout.{Layout}
+use Rattle.mrd_format.specs.declared.rules.Rules.{Rules}
 use Rattle.mrd_format.specs.declared.kind.Kind.{Kind}
 use Rattle.mrd_format.specs.declared.kind.Kind.the-variants.{ConfigurationName, ConfigurationText, HeaderText, Close, Text, Acquisition, Image, Waveform}
 use Rattle.mrd_format.specs.declared.kind.Identified.the-variants.{Known}
-use Rattle.mrd_format.specs.Kinds.{identified}
+use Rattle.mrd_format.specs.Kinds.{idOf, identified}
+use Rattle.mrd_format.specs.IdLaws.{known-id}
 use Rattle.mrd_format.specs.Segments.{nameLength}
 use Rattle.mrd_format.specs.Texts.{textLength}
 use Rattle.mrd_format.specs.Message.{idAt, fixedPart, ownChecks, bodySize, sizeOf, WellFormed}
@@ -25,7 +28,8 @@ use Rattle.mrd_format.specs.Acquisition as acquisition
 use Rattle.mrd_format.specs.Image as image
 use Rattle.mrd_format.specs.Waveform as waveform
 use Rattle.mrd_format.specs.Headers.{Cell, settled}
-use Rattle.mrd_format.specs.HeaderLaws.{packed, acquisition-packed, image-packed, waveform-packed, settled-long, whole-settled}
+use Rattle.mrd_format.specs.HeaderLaws.{lawful, acquisition-lawful, image-lawful, waveform-lawful, settled-long, whole-settled}
+use Rattle.mrd_format.specs.WaveformLaws.{waveform-settled, cleared-fields, same-size}
 use Rattle.mrd_format.specs.ImageLaws.{agree-pixels, made-agrees, made-number, made-count, number-passes}
 use Rattle.mrd_format.specs.Content.{segmentsOf, extentOf, partSize, settledBy, fixedOf, bytesAfterId, messageOf}
 use Rattle.mrd_format.specs.Made.{Holds, Fitting, made-length, fixed-length, made-fixed}
@@ -37,16 +41,20 @@ use Rattle.mrd_writer.specs.Write.{contentsSize}
 use Rattle.mrd_writer.specs.Sound.{Sound, text-small, attributes-small}
 
 -- the id reads back
-pub written-known : (k : Kind) (c : Contents) → identified (idAt (messageOf k c)) ≡ Known k
-unfolding identified num messageOf
-written-known ConfigurationName c = refl
-written-known ConfigurationText c = refl
-written-known HeaderText c = refl
-written-known Close c = refl
-written-known Text c = refl
-written-known Acquisition c = refl
-written-known Image c = refl
-written-known Waveform c = refl
+written-id : (k : Kind) (c : Contents) → idAt (messageOf k c) ≡ idOf k
+unfolding num messageOf
+written-id ConfigurationName c = refl
+written-id ConfigurationText c = refl
+written-id HeaderText c = refl
+written-id Close c = refl
+written-id Text c = refl
+written-id Acquisition c = refl
+written-id Image c = refl
+written-id (Waveform l) c = refl
+
+-- so by rules that gave its kind, the message is of that kind again
+pub written-known : (rules : Rules) (id : ℕ) (k : Kind) (c : Contents) → identified rules id ≡ Known k → identified rules (idAt (messageOf k c)) ≡ Known k
+written-known rules id k c known = rw (written-id k c, ← known-id rules id known) known
 
 -- the checked fixed part is the one that is made
 checked-is-made : (k : Kind) (c : Contents) → givenFixed k (c .header) (c .parts .name) (lengthsOf c) ≡ fixedOf k c
@@ -58,7 +66,7 @@ checked-is-made Close c = refl
 checked-is-made Text c = refl
 checked-is-made Acquisition c = refl
 checked-is-made Image c = refl
-checked-is-made Waveform c = refl
+checked-is-made (Waveform l) c = refl
 
 -- a name's zeros begin after it
 name-length : (c : Contents) → Sound ConfigurationName c → nameLength (fixedOf ConfigurationName c) ≡ length (c .parts .name)
@@ -84,14 +92,16 @@ module _ (c : Contents) (s : Sound Image c) where
   image-pixels : image.pixelsSize (settled (partLength c) image.cells (c .header) ++ count) ≡ image.pixelsSize (c .header)
   image-pixels = agree-pixels _ (c .header) (made-agrees (partLength c) (c .header) count (s .header))
 
--- an acquisition's and a waveform's fixed part is the header that was given
+-- an acquisition's fixed part is the header that was given
 acquisition-fixed : (c : Contents) → Sound Acquisition c → fixedOf Acquisition c ≡ c .header
 unfolding fixedOf
-acquisition-fixed c s = whole-settled (partLength c) 340 acquisition.cells (c .header) refl acquisition-packed (s .header)
+acquisition-fixed c s = whole-settled (partLength c) 340 acquisition.cells (c .header) refl acquisition-lawful (s .header)
 
-waveform-fixed : (c : Contents) → Sound Waveform c → fixedOf Waveform c ≡ c .header
-unfolding fixedOf
-waveform-fixed c s = whole-settled (partLength c) 32 waveform.cells (c .header) refl waveform-packed (s .header)
+-- a waveform's has as much data as the header that was given says
+waveform-size : (l : Layout) (c : Contents) → Sound (Waveform l) c →
+    waveform.bodySize l (settled (partLength c) (waveform.cells l) (c .header)) ≡ waveform.bodySize l (c .header)
+waveform-size l c s =
+    ap (waveform.bodySize l) (waveform-settled (partLength c) l (c .header)) ∙ same-size l _ (c .header) (cleared-fields l (c .header) (s .header))
 
 -- the lengths that the fixed part says are those that were given
 sound-sizes : (k : Kind) (c : Contents) → Sound k c → lengthsBy (partSize k (fixedOf k c)) ≡ lengthsOf c
@@ -103,7 +113,7 @@ sound-sizes Close c s = sym (s .lengths)
 sound-sizes Text c s = ap (λ (n : ℕ). partLengths 0 n 0 0 0 0 0) (text-length Text c s) ∙ sym (s .lengths)
 sound-sizes Acquisition c s = ap (λ (h : List ℕ). lengthsBy (partSize Acquisition h)) (acquisition-fixed c s) ∙ sym (s .lengths)
 sound-sizes Image c s = ap₂ (λ (n p : ℕ). partLengths 0 0 0 0 n p 0) (image-length c s) (image-pixels c s) ∙ sym (s .lengths)
-sound-sizes Waveform c s = ap (λ (h : List ℕ). lengthsBy (partSize Waveform h)) (waveform-fixed c s) ∙ sym (s .lengths)
+sound-sizes (Waveform l) c s = ap (λ (n : ℕ). partLengths 0 0 0 0 0 0 n) (waveform-size l c s) ∙ sym (s .lengths)
 
 -- one of them
 has : (k : Kind) (c : Contents) → Sound k c → (f : Lengths → ℕ) →
@@ -111,7 +121,7 @@ has : (k : Kind) (c : Contents) → Sound k c → (f : Lengths → ℕ) →
 has k c s f = ap f (sound-sizes k c s)
 
 -- a header with the true lengths in it is as long as the one that was given
-header-long : (c : Contents) (n : ℕ) (cs : List Cell) → packed 0 n cs ≡ true → length (c .header) ≡ n → length (settled (partLength c) cs (c .header)) ≡ n
+header-long : (c : Contents) (n : ℕ) (cs : List Cell) → lawful 0 n cs ≡ true → length (c .header) ≡ n → length (settled (partLength c) cs (c .header)) ≡ n
 header-long c n cs p e = settled-long (partLength c) n cs (c .header) p (le-of-eq (sym e))
 
 -- so each segment's bytes are as many as it says
@@ -122,9 +132,9 @@ sound-holds ConfigurationText c s = (tt, (sym (has ConfigurationText c s (λ n. 
 sound-holds HeaderText c s = (tt, (sym (has HeaderText c s (λ n. n .text)), tt))
 sound-holds Close c s = tt
 sound-holds Text c s = (tt, (sym (has Text c s (λ n. n .text)), tt))
-sound-holds Acquisition c s = (header-long c 340 acquisition.cells acquisition-packed (s .header), (sym (has Acquisition c s (λ n. n .trajectory)), (sym (has Acquisition c s (λ n. n .samples)), tt)))
-sound-holds Image c s = (header-long c 198 image.cells image-packed (s .header), (tt, (sym (has Image c s (λ n. n .attributes)), (sym (has Image c s (λ n. n .pixels)), tt))))
-sound-holds Waveform c s = (header-long c 32 waveform.cells waveform-packed (s .header), (sym (has Waveform c s (λ n. n .waveform)), tt))
+sound-holds Acquisition c s = (header-long c 340 acquisition.cells acquisition-lawful (s .header), (sym (has Acquisition c s (λ n. n .trajectory)), (sym (has Acquisition c s (λ n. n .samples)), tt)))
+sound-holds Image c s = (header-long c 198 image.cells image-lawful (s .header), (tt, (sym (has Image c s (λ n. n .attributes)), (sym (has Image c s (λ n. n .pixels)), tt))))
+sound-holds (Waveform l) c s = (header-long c (waveform.headerBytes l) (waveform.cells l) (waveform-lawful l) (s .header), (sym (has (Waveform l) c s (λ n. n .waveform)), tt))
 
 pub sound-fitting : (k : Kind) (c : Contents) → Sound k c → Fitting k c
 sound-fitting k c s = record { header = s .header; holds = sound-holds k c s; sizes = ap lengthList (sound-sizes k c s) }
@@ -157,7 +167,7 @@ written-own Image c s =
     let own = own-passed Image c s in
     let true-number = number-passes _ _ (inr (image-number c s ∙ sym (image-length c s))) in
     passed-first (ownChecks Image (fixedOf Image c)) (own .0, (own .1 .0, (true-number, tt)))
-written-own Waveform c s = passed-first (ownChecks Waveform (fixedOf Waveform c)) (own-passed Waveform c s)
+written-own (Waveform l) c s = passed-first (ownChecks (Waveform l) (fixedOf (Waveform l) c)) (own-passed (Waveform l) c s)
 
 -- the size by the fixed part is that by what was given
 pub written-size : (k : Kind) (c : Contents) → Sound k c → sizeOf k (fixedOf k c) ≡ contentsSize k c
@@ -169,7 +179,7 @@ written-size Close c s = refl
 written-size Text c s = omega (arith, text-length Text c s)
 written-size Acquisition c s = ap (sizeOf Acquisition) (acquisition-fixed c s) ∙ omega arith
 written-size Image c s = omega (arith, image-length c s, image-pixels c s)
-written-size Waveform c s = ap (sizeOf Waveform) (waveform-fixed c s) ∙ omega arith
+written-size (Waveform l) c s = omega (arith, waveform-size l c s)
 
 -- the whole, id included; and what follows the id
 pub message-length : (k : Kind) (c : Contents) → Sound k c → length (messageOf k c) ≡ contentsSize k c
@@ -179,14 +189,14 @@ pub content-length : (k : Kind) (c : Contents) → Sound k c → 2 + length (byt
 unfolding messageOf
 content-length k c s = omega (arith, message-length k c s)
 
--- so what is written is a well-formed message
-abbrev pub written-well : (k : Kind) (c : Contents) → Sound k c → WellFormed (messageOf k c)
-written-well k c s =
+-- so what is written by rules that gave the kind is a well-formed message
+abbrev pub written-well : (rules : Rules) (id : ℕ) (k : Kind) (c : Contents) → identified rules id ≡ Known k → Sound k c → WellFormed rules (messageOf k c)
+written-well rules id k c known s =
     let fixed : fixedPart k (messageOf k c) ≡ fixedOf k c = made-fixed k c (sound-fitting k c s) in
     let size : sizeOf k (fixedPart k (messageOf k c)) ≡ contentsSize k c = rw fixed (written-size k c s) in
     record {
       kind = k;
-      known = written-known k c;
+      known = written-known rules id k c known;
       sound = rw fixed (written-own k c s);
       small = rw size (s .small);
       whole = size ∙ sym (message-length k c s);

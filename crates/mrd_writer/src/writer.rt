@@ -8,6 +8,7 @@ ghost use Rattle.mrd_writer.specs.Write.{judgedContents, Writes, Stores}
 use crate::answer::WriteAnswer;
 use mrd_format::Identified;
 use mrd_format::Kind;
+use mrd_format::Rules;
 use mrd_format::refusal;
 use mrd_numbers::put_u16;
 use mrd_put::put_content;
@@ -15,11 +16,12 @@ use mrd_write_checks::ContentsJudged;
 use mrd_write_checks::Lengths;
 use mrd_write_checks::judge;
 
-// Puts one message into out from `position` on, and gives the position after it: the id, the fixed
-// header's bytes (none for a name, a text or a close), and the parts, of which those that the kind
-// lacks are empty. The bytes before and after the message keep their content, and a refusal
+// Puts one message into out from `position` on, by these rules, and gives the position after it: the
+// id, the fixed header's bytes (none for a name, a text or a close), and the parts, of which those that
+// the kind lacks are empty. The bytes before and after the message keep their content, and a refusal
 // changes none.
 pub fn write(
+    rules: Rules,
     id: u16,
     header: &[u8],
     name: &[u8],
@@ -32,12 +34,12 @@ pub fn write(
     out: &mut [u8],
     position: usize,
 ) -> WriteAnswer
-    ensures { λ r. ⌜ Writes r (now (out .exit)) id
+    ensures { λ r. ⌜ Writes rules r (now (out .exit)) id
         (contents (now (header .entry)) (now (name .entry)) (now (text .entry)) (now (trajectory .entry)) (now (samples .entry))
         (now (attributes .entry)) (now (pixels .entry)) (now (waveform .entry)))
         position (now (out .entry)) ⌝ }
 {
-    let identified = Kind::of_id(id);
+    let identified = Kind::of_id(rules, id);
     let Identified::Known(kind) = identified else {
         return WriteAnswer::Refused(refusal::UNKNOWN_ID);
     };

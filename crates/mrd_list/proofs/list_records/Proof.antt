@@ -11,10 +11,10 @@ use Rattle.mrd_list.proofs.list_records.Statement.{statement}
 use Rattle.mrd_list.proofs.list_records.Tie as tie
 
 abbrev Inv-loop : tie.InvT-loop
-Inv-loop s c₀ c = Unit
+Inv-loop rules s c₀ c = Unit
 
 abbrev μ-loop : tie.MeasureT-loop
-μ-loop s c₀ c = length s - c .start
+μ-loop rules s c₀ c = length s - c .start
 
 beginning-requires : tie.Need-beginning-requires Inv-loop μ-loop
 beginning-requires c κs = search needs
@@ -36,7 +36,7 @@ loop-less c =
     let a = c .before .before .before .before .before .before .before .before .args in
     let loop = c .before .before .before .before .before .loop in
     let next = c .before .before .before .before .next in
-    on-less (now (a .s)) (step-yields (loop .c) (now (a .s)) (sym (next .ensures) ∙ ap stepMeaning (c .before .before .step .given .1)))
+    on-less (now (a .s)) (step-yields _ (loop .c) (now (a .s)) (sym (next .ensures) ∙ ap stepMeaning (c .before .before .step .given .1)))
 
 loop-again : tie.Need-loop-again Inv-loop μ-loop
 loop-again c = search needs

@@ -19,7 +19,7 @@ returns-2 : tie.Need-returns-2
 returns-2 c =
     let check = c .before .before .before in
     let a = check .before .before .before .args in
-    stream-refused (now (a .s)) (length (now (a .s))) (normal (now (a .s))) (now (a .out))
+    stream-refused (a .rules) (now (a .s)) (length (now (a .s))) (normal (a .rules) (now (a .s))) (now (a .out))
     (sym (check .check .ensures) ∙ ap checkedMeaning (c .before .checked .given .1))
 
 pub normal-form-spec : {M : Type 1} → statement M

@@ -13,7 +13,7 @@ returns : tie.Need-returns
 returns c =
     let start = c .before .before .before in
     let s = now (start .args .s) in
-    output-short s (length s) (normal s) (now (start .args .out)) (start .pre .1) (c .if1 .taken)
+    output-short (start .args .rules) s (length s) (normal (start .args .rules) s) (now (start .args .out)) (start .pre .1) (c .if1 .taken)
 
 put-messages-requires : tie.Need-put-messages-requires
 put-messages-requires c κs =
@@ -24,7 +24,7 @@ returns-2 : tie.Need-returns-2
 returns-2 c =
     let test = c .before .before .before .before in
     let start = test .before .before .before in
-    all-written (now (start .args .s)) (now (start .args .out)) (start .pre .1) (test .if1 .left) (c .before .before .put-messages .ensures)
+    all-written (start .args .rules) (now (start .args .s)) (now (start .args .out)) (start .pre .1) (test .if1 .left) (c .before .before .put-messages .ensures)
 
 pub write-spec : {M : Type 1} → statement M
 write-spec = tie.close (tie.spec returns put-messages-requires (λ c. search needs) returns-2)

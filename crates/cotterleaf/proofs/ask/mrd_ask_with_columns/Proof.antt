@@ -7,8 +7,8 @@ use Rattle.cotterleaf.proofs.ask.mrd_ask_with_columns.Statement.{statem
 use Rattle.cotterleaf.proofs.ask.mrd_ask_with_columns.Tie as tie
 
 returns : tie.Need-returns
-returns c = c .of .ensures ∙ ap cReply (rw (c .before .before .before .before .question-of .ensures) at (c .before .ask-with-columns .ensures .says))
+returns c = c .of .ensures ∙ ap cReply (rw (c .before .before .before .before .before .question-of .ensures, c .before .before .before .before .rules-of .ensures) at (c .before .ask-with-columns .ensures .says))
 
 pub mrd-ask-with-columns-spec : {M : Type 1} → statement M
 mrd-ask-with-columns-spec =
-    tie.close (tie.spec (λ c κs. search needs) (λ c κs. search needs) (λ c κs. search needs) returns)
+    tie.close (tie.spec (λ c κs. search needs) (λ c κs. search needs) (λ c κs. search needs) (λ c κs. search needs) returns)

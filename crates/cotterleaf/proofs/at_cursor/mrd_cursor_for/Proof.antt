@@ -7,7 +7,7 @@ use Rattle.cotterleaf.proofs.at_cursor.mrd_cursor_for.Statement.{statem
 use Rattle.cotterleaf.proofs.at_cursor.mrd_cursor_for.Tie as tie
 
 returns : tie.Need-returns
-returns c = c .of .ensures ∙ ap cCursorAnswer (c .before .cursor-for .ensures)
+returns c = c .of .ensures ∙ ap cCursorAnswer (rw (c .before .before .rules-of .ensures) at (c .before .cursor-for .ensures))
 
 pub mrd-cursor-for-spec : {M : Type 1} → statement M
-mrd-cursor-for-spec = tie.close (tie.spec (λ c κs. search needs) (λ c κs. search needs) returns)
+mrd-cursor-for-spec = tie.close (tie.spec (λ c κs. search needs) (λ c κs. search needs) (λ c κs. search needs) returns)

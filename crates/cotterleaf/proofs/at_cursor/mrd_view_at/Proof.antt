@@ -7,10 +7,10 @@ use Rattle.cotterleaf.proofs.at_cursor.mrd_view_at.Statement.{statement
 use Rattle.cotterleaf.proofs.at_cursor.mrd_view_at.Tie as tie
 
 returns : tie.Need-returns
-returns c = c .of .ensures ∙ ap cView (rw (c .before .before .part-of .ensures, c .before .before .before .cursor-of .ensures) at
+returns c = c .of .ensures ∙ ap cView (rw (c .before .before .before .part-of .ensures, c .before .before .before .before .cursor-of .ensures, c .before .before .rules-of .ensures) at
     (c .before .view-place-at .ensures))
 
 pub mrd-view-at-spec : {M : Type 1} → statement M
 mrd-view-at-spec =
     tie.close
-    (tie.spec (λ c κs. search needs) (λ c κs. search needs) (λ c κs. search needs) (λ c κs. search needs) returns)
+    (tie.spec (λ c κs. search needs) (λ c κs. search needs) (λ c κs. search needs) (λ c κs. search needs) (λ c κs. search needs) returns)

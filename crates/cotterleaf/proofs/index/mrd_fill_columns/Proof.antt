@@ -8,6 +8,7 @@ use Rattle.mrd_stream.specs.Index.{startColumn, idColumn, counterColumn}
 use Rattle.mrd_logic.specs.Answer.{Answer}
 use Rattle.mrd_stream.specs.Output.{outputBy}
 use Rattle.c_written.specs.WrittenStructs.{cWritten}
+use Rattle.c_rules.specs.RulesStruct.{rulesOf}
 use borrow.Author.Needs.{needs}
 use Rattle.cotterleaf.proofs.index.mrd_fill_columns.Statement.{statement}
 use Rattle.cotterleaf.proofs.index.mrd_fill_columns.Tie as tie
@@ -19,17 +20,18 @@ by e w o = ap (λ (x : Answer ℕ). outputBy x w o) e
 returns : tie.Need-returns
 returns c =
     let call = c .before .before .before .before .before .before .before in
-    let inner = call .fill-columns .ensures in
-    let a = call .before .before .before .before .before .before .before .before .args in
+    let inner = rw (call .before .before .before .before .rules-of .ensures) at (call .fill-columns .ensures) in
+    let a = call .before .before .before .before .before .before .before .before .before .args in
+    let rules = rulesOf (a .rules) in
     let s = now (a .stream) in (
       c .of .ensures ∙ ap cWritten (inner .0),
       (
-        inner .1 .0 ∙ by (inner .0) (startColumn s) (now (a .starts)),
-        (inner .1 .1 .0 ∙ by (inner .0) (idColumn s) (now (a .ids)), inner .1 .1 .1 ∙ by (inner .0) (counterColumn s) (now (a .counters))),
+        inner .1 .0 ∙ by (inner .0) (startColumn rules s) (now (a .starts)),
+        (inner .1 .1 .0 ∙ by (inner .0) (idColumn rules s) (now (a .ids)), inner .1 .1 .1 ∙ by (inner .0) (counterColumn rules s) (now (a .counters))),
       ),
     )
 
 pub mrd-fill-columns-spec : {M : Type 1} → statement M
 mrd-fill-columns-spec =
     tie.close
-    (tie.spec (λ c κs. search needs) (λ c κs. search needs) (λ c. search needs) (λ c. search needs) (λ c. search needs) returns)
+    (tie.spec (λ c κs. search needs) (λ c κs. search needs) (λ c κs. search needs) (λ c. search needs) (λ c. search needs) (λ c. search needs) returns)

@@ -7,7 +7,7 @@ use Rattle.cotterleaf.proofs.index.mrd_index_matches.Statement.{stateme
 use Rattle.cotterleaf.proofs.index.mrd_index_matches.Tie as tie
 
 returns : tie.Need-returns
-returns c = c .of .ensures ∙ ap cMatched (c .before .index-matches .ensures)
+returns c = c .of .ensures ∙ ap cMatched (rw (c .before .before .rules-of .ensures) at (c .before .index-matches .ensures))
 
 pub mrd-index-matches-spec : {M : Type 1} → statement M
-mrd-index-matches-spec = tie.close (tie.spec (λ c κs. search needs) (λ c κs. search needs) returns)
+mrd-index-matches-spec = tie.close (tie.spec (λ c κs. search needs) (λ c κs. search needs) (λ c κs. search needs) returns)

@@ -10,7 +10,7 @@ of-requires : tie.Need-of-requires
 of-requires c κs = c .field .ensures .apart
 
 returns : tie.Need-returns
-returns c = c .of .ensures ∙ ap cField (c .before .field .ensures .says)
+returns c = c .of .ensures ∙ ap cField (rw (c .before .before .rules-of .ensures) at (c .before .field .ensures .says))
 
 pub mrd-field-spec : {M : Type 1} → statement M
-mrd-field-spec = tie.close (tie.spec (λ c κs. search needs) of-requires returns)
+mrd-field-spec = tie.close (tie.spec (λ c κs. search needs) (λ c κs. search needs) of-requires returns)

@@ -7,7 +7,7 @@ use Rattle.cotterleaf.proofs.record.mrd_find.Statement.{statement}
 use Rattle.cotterleaf.proofs.record.mrd_find.Tie as tie
 
 returns : tie.Need-returns
-returns c = c .of .ensures ∙ ap cFound (c .before .find .ensures)
+returns c = c .of .ensures ∙ ap cFound (rw (c .before .before .rules-of .ensures) at (c .before .find .ensures))
 
 pub mrd-find-spec : {M : Type 1} → statement M
-mrd-find-spec = tie.close (tie.spec (λ c κs. search needs) (λ c κs. search needs) returns)
+mrd-find-spec = tie.close (tie.spec (λ c κs. search needs) (λ c κs. search needs) (λ c κs. search needs) returns)

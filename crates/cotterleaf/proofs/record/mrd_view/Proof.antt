@@ -1,8 +1,6 @@
 -- `cotterleaf::mrd_view` meets its contract: the inner function meets the same, for the part with the number.
 -- Assumes nothing.
 use mathlib.Core.Path.{ap, _∙_}
-use denote.Ref.{now}
-use Rattle.mrd_views.specs.Views.{viewOf}
 use Rattle.c_record.specs.RecordStructs.{cView}
 use borrow.Author.Needs.{needs}
 use Rattle.cotterleaf.proofs.record.mrd_view.Statement.{statement}
@@ -10,8 +8,7 @@ use Rattle.cotterleaf.proofs.record.mrd_view.Tie as tie
 
 returns : tie.Need-returns
 returns c =
-    let a = c .before .before .before .before .args in
-    c .of .ensures ∙ ap cView (c .before .view-place .ensures ∙ ap (viewOf (now (a .stream)) (a .n)) (c .before .before .part-of .ensures))
+    c .of .ensures ∙ ap cView (rw (c .before .before .part-of .ensures, c .before .before .before .rules-of .ensures) at (c .before .view-place .ensures))
 
 pub mrd-view-spec : {M : Type 1} → statement M
-mrd-view-spec = tie.close (tie.spec (λ c κs. search needs) (λ c κs. search needs) (λ c κs. search needs) returns)
+mrd-view-spec = tie.close (tie.spec (λ c κs. search needs) (λ c κs. search needs) (λ c κs. search needs) (λ c κs. search needs) returns)

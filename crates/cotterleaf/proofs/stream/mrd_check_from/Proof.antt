@@ -1,8 +1,6 @@
 -- `cotterleaf::mrd_check_from` meets its contract: the inner function meets the same, at the cursor that the struct stands for.
 -- Assumes nothing.
 use mathlib.Core.Path.{ap, _∙_}
-use denote.Ref.{now}
-use Rattle.mrd_stream.specs.Walk.{from, verdict}
 use Rattle.c_walk.specs.WalkStructs.{cChecked}
 use borrow.Author.Needs.{needs}
 use Rattle.cotterleaf.proofs.stream.mrd_check_from.Statement.{statement}
@@ -10,8 +8,7 @@ use Rattle.cotterleaf.proofs.stream.mrd_check_from.Tie as tie
 
 returns : tie.Need-returns
 returns c =
-    let s = now (c .before .before .before .before .args .stream) in
-    c .of .ensures ∙ ap cChecked (c .before .check-from .ensures ∙ ap (λ d. verdict (from d s)) (c .before .before .cursor-of .ensures))
+    c .of .ensures ∙ ap cChecked (rw (c .before .before .cursor-of .ensures, c .before .before .before .rules-of .ensures) at (c .before .check-from .ensures))
 
 pub mrd-check-from-spec : {M : Type 1} → statement M
-mrd-check-from-spec = tie.close (tie.spec (λ c κs. search needs) (λ c κs. search needs) (λ c κs. search needs) returns)
+mrd-check-from-spec = tie.close (tie.spec (λ c κs. search needs) (λ c κs. search needs) (λ c κs. search needs) (λ c κs. search needs) returns)

@@ -1,8 +1,6 @@
 -- `cotterleaf::mrd_next` meets its contract: the inner function meets the same, at the cursor that the struct stands for.
 -- Assumes nothing.
 use mathlib.Core.Path.{ap, _∙_}
-use denote.Ref.{now}
-use Rattle.mrd_stream.specs.Places.{step}
 use Rattle.c_walk.specs.WalkStructs.{cStep}
 use borrow.Author.Needs.{needs}
 use Rattle.cotterleaf.proofs.stream.mrd_next.Statement.{statement}
@@ -10,8 +8,7 @@ use Rattle.cotterleaf.proofs.stream.mrd_next.Tie as tie
 
 returns : tie.Need-returns
 returns c =
-    let s = now (c .before .before .before .before .args .stream) in
-    c .of .ensures ∙ ap cStep (c .before .next .ensures ∙ ap (λ d. step d s) (c .before .before .cursor-of .ensures))
+    c .of .ensures ∙ ap cStep (rw (c .before .before .cursor-of .ensures, c .before .before .before .rules-of .ensures) at (c .before .next .ensures))
 
 pub mrd-next-spec : {M : Type 1} → statement M
-mrd-next-spec = tie.close (tie.spec (λ c κs. search needs) (λ c κs. search needs) (λ c κs. search needs) returns)
+mrd-next-spec = tie.close (tie.spec (λ c κs. search needs) (λ c κs. search needs) (λ c κs. search needs) (λ c κs. search needs) returns)

@@ -7,7 +7,7 @@ use Rattle.cotterleaf.proofs.stream.mrd_place.Statement.{statement}
 use Rattle.cotterleaf.proofs.stream.mrd_place.Tie as tie
 
 returns : tie.Need-returns
-returns c = c .of .ensures ∙ ap cPlaced (c .before .place .ensures)
+returns c = c .of .ensures ∙ ap cPlaced (rw (c .before .before .rules-of .ensures) at (c .before .place .ensures))
 
 pub mrd-place-spec : {M : Type 1} → statement M
-mrd-place-spec = tie.close (tie.spec (λ c κs. search needs) (λ c κs. search needs) returns)
+mrd-place-spec = tie.close (tie.spec (λ c κs. search needs) (λ c κs. search needs) (λ c κs. search needs) returns)

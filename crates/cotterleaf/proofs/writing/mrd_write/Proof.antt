@@ -8,8 +8,8 @@ use Rattle.cotterleaf.proofs.writing.mrd_write.Tie as tie
 
 returns : tie.Need-returns
 returns c =
-    let inner = c .before .before .before .write .ensures in
+    let inner = rw (c .before .before .before .before .before .rules-of .ensures) at (c .before .before .before .write .ensures) in
     (c .of .ensures ∙ ap cPut (inner .0), inner .1)
 
 pub mrd-write-spec : {M : Type 1} → statement M
-mrd-write-spec = tie.close (tie.spec (λ c κs. search needs) (λ c κs. search needs) (λ c. search needs) returns)
+mrd-write-spec = tie.close (tie.spec (λ c κs. search needs) (λ c κs. search needs) (λ c κs. search needs) (λ c. search needs) returns)

@@ -8,8 +8,8 @@ use Rattle.cotterleaf.proofs.writing.mrd_write_index.Tie as tie
 
 returns : tie.Need-returns
 returns c =
-    let inner = c .before .before .before .write-index .ensures in
+    let inner = rw (c .before .before .before .before .before .rules-of .ensures) at (c .before .before .before .write-index .ensures) in
     (c .of .ensures ∙ ap cWritten (inner .0), inner .1)
 
 pub mrd-write-index-spec : {M : Type 1} → statement M
-mrd-write-index-spec = tie.close (tie.spec (λ c κs. search needs) (λ c κs. search needs) (λ c. search needs) returns)
+mrd-write-index-spec = tie.close (tie.spec (λ c κs. search needs) (λ c κs. search needs) (λ c κs. search needs) (λ c. search needs) returns)

@@ -12,21 +12,21 @@ returns : tie.Need-returns
 returns c =
     let start = c .before .before .before .before .before in
     let a = start .args in
-    (sym (column-short (now (a .s)) (start .pre) _ _ _ (c .if1 .taken)), (refl, (refl, refl)))
+    (sym (column-short _ (now (a .s)) (start .pre) _ _ _ (c .if1 .taken)), (refl, (refl, refl)))
 
 put-places-requires : tie.Need-put-places-requires
 put-places-requires c κs =
     let test = c .before .before .before in
     let start = test .before .before .before .before .before in
-    rw (entries-count (now (start .args .s)) (start .pre)) (rooms _ _ _ _ (test .if1 .left))
+    rw (entries-count _ (now (start .args .s)) (start .pre)) (rooms _ _ _ _ (test .if1 .left))
 
 returns-2 : tie.Need-returns-2
 returns-2 c =
     let test = c .before .before .before .before .before .before .before .before .before .before in
     let start = test .before .before .before .before .before in
     let a = start .args in (
-      sym (columns-fit (now (a .s)) (start .pre) _ _ _ (test .if1 .left)),
-      filled (now (a .s)) (start .pre) (now (a .starts)) (now (a .ids)) (now (a .counters)) _ _ _ (c .before .before .before .before .before .before .put-places .ensures),
+      sym (columns-fit _ (now (a .s)) (start .pre) _ _ _ (test .if1 .left)),
+      filled _ (now (a .s)) (start .pre) (now (a .starts)) (now (a .ids)) (now (a .counters)) _ _ _ (c .before .before .before .before .before .before .put-places .ensures),
     )
 
 pub fill-spec : {M : Type 1} → statement M

@@ -16,7 +16,7 @@ returns-2 : tie.Need-returns-2
 returns-2 c =
     let check = c .before .before .before in
     let a = check .before .before .before .before .before .args in
-    (sym (stream-refused (now (a .s)) (sym (check .check .ensures) ∙ ap checkedMeaning (c .before .checked2 .given .1)) _ _ _), (refl, (refl, refl)))
+    (sym (stream-refused _ (now (a .s)) (sym (check .check .ensures) ∙ ap checkedMeaning (c .before .checked2 .given .1)) _ _ _), (refl, (refl, refl)))
 
 pub fill-columns-spec : {M : Type 1} → statement M
 fill-columns-spec =

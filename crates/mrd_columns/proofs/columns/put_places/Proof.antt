@@ -15,16 +15,16 @@ use Rattle.mrd_columns.proofs.columns.put_places.Statement.{statement}
 use Rattle.mrd_columns.proofs.columns.put_places.Tie as tie
 
 abbrev Inv-loop : tie.InvT-loop
-Inv-loop s starts₀ ids₀ counters₀ c₀ starts ids counters c = FillingAll s starts₀ ids₀ counters₀ c starts ids counters
+Inv-loop rules s starts₀ ids₀ counters₀ c₀ starts ids counters c = FillingAll rules s starts₀ ids₀ counters₀ c starts ids counters
 
 abbrev μ-loop : tie.MeasureT-loop
-μ-loop s starts₀ ids₀ counters₀ c₀ starts ids counters c = length s - c .start
+μ-loop rules s starts₀ ids₀ counters₀ c₀ starts ids counters c = length s - c .start
 
 beginning-requires : tie.Need-beginning-requires Inv-loop μ-loop
 beginning-requires c κs = search needs
 
 loop-holds : tie.Need-loop-holds Inv-loop μ-loop
-loop-holds c = rw (c .beginning .ensures) (start (c .before .before .before .before .before .pre))
+loop-holds c = rw (c .beginning .ensures) (start _ (c .before .before .before .before .before .pre))
 
 next-requires : tie.Need-next-requires Inv-loop μ-loop
 next-requires c κs = search needs
@@ -34,9 +34,9 @@ enum-known-step c = search needs
 
 passed : (c : tie.After-step Inv-loop μ-loop) →
     let given = c .step .given .0 in
-    Passes (c .before .before .before .loop .c) (now (c .before .before .before .before .before .before .before .before .before .args .s))
+    Passes (c .before .before .before .before .before .before .before .before .before .args .rules) (c .before .before .before .loop .c) (now (c .before .before .before .before .before .before .before .before .before .args .s))
     (recordMeaning (given .0)) (given .1 .0)
-passed c = step-yields _ _ (sym (c .before .before .next .ensures) ∙ ap stepMeaning (c .step .given .1))
+passed c = step-yields _ _ _ (sym (c .before .before .next .ensures) ∙ ap stepMeaning (c .step .given .1))
 
 entry-of-requires : tie.Need-entry-of-requires Inv-loop μ-loop
 entry-of-requires c κs = passes-within (passed (c .before .before))

@@ -17,7 +17,7 @@ returns-2 : tie.Need-returns-2
 returns-2 c = rw (c .before .enum-told2 .given .1) (c .image .ensures)
 
 returns-3 : tie.Need-returns-3
-returns-3 c = rw (c .before .enum-told3 .given .1) (c .waveform .ensures)
+returns-3 c = rw (c .before .before .kind .given .1) (c .waveform .ensures)
 
 returns-4 : tie.Need-returns-4
 unfolding typeAt

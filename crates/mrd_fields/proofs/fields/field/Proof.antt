@@ -10,7 +10,7 @@ use Rattle.mrd_fields.proofs.fields.field.Tie as tie
 placed-field-requires : tie.Need-placed-field-requires
 placed-field-requires c κs =
     let a = c .before .before .args in
-    rw (c .place .ensures) (place-lies (now (a .s)) (a .n))
+    rw (c .place .ensures) (place-lies _ (now (a .s)) (a .n))
 
 returns : tie.Need-returns
 unfolding fieldOf

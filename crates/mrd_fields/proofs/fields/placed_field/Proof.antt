@@ -21,7 +21,7 @@ read-element-requires c κs =
     let placed = c .before .before .before .placed in
     let start = c .before .before .before .before .before .before in
     rw (c .before .kind .ensures, c .fixed-part .ensures)
-    (fixed-long (now (start .args .s)) (recordMeaning (placed .given .0 .0)) (rw (placed .given .1) at (start .pre)))
+    (fixed-long (now (start .args .s)) (recordMeaning (placed .given .0 .0)) (rw (placed .given .1) at (start .pre) .1))
 
 answer-of-requires : tie.Need-answer-of-requires
 answer-of-requires c κs = c .read-element .ensures .apart

@@ -21,16 +21,16 @@ use Rattle.mrd_find.proofs.search.find.Statement.{statement}
 use Rattle.mrd_find.proofs.search.find.Tie as tie
 
 abbrev Inv-loop : tie.InvT-loop
-Inv-loop s n counters asked next place at h i₀ i = Alike 17 (countersOf h) asked i
+Inv-loop rules s n counters asked next place at h i₀ i = Alike 17 (countersOf h) asked i
 
 abbrev μ-loop : tie.MeasureT-loop
-μ-loop s n counters asked next place at h i₀ i = 17 - i
+μ-loop rules s n counters asked next place at h i₀ i = 17 - i
 
 abbrev Inv-records : tie.InvT-records
-Inv-records s n counters asked c₀ c = Finding n counters c s
+Inv-records rules s n counters asked c₀ c = Finding rules n counters c s
 
 abbrev μ-records : tie.MeasureT-records
-μ-records s n counters asked c₀ c = length s - c .start
+μ-records rules s n counters asked c₀ c = length s - c .start
 
 beginning-requires : tie.Need-beginning-requires Inv-loop μ-loop Inv-records μ-records
 beginning-requires c κs = search needs
@@ -38,7 +38,7 @@ beginning-requires c κs = search needs
 records-holds : tie.Need-records-holds Inv-loop μ-loop Inv-records μ-records
 records-holds c =
     let a = c .before .before .before .args in
-    rw (c .beginning .ensures) (finding-start (a .n) (now (a .counters)) (now (a .s)))
+    rw (c .beginning .ensures) (finding-start _ (a .n) (now (a .counters)) (now (a .s)))
 
 next-requires : tie.Need-next-requires Inv-loop μ-loop Inv-records μ-records
 next-requires c κs = search needs
@@ -53,10 +53,10 @@ candidate-requires c κs = search needs
 turn-at : (c : tie.After-known-told Inv-loop μ-loop Inv-records μ-records) →
     let a = c .before .before .before .before .before .before .before .before .args in
     let given = c .before .step .given .0 in
-    SearchTurn (a .n) (now (a .counters)) (c .before .before .before .before .records .c) (now (a .s)) (given .0) (given .1 .0)
+    SearchTurn (a .rules) (a .n) (now (a .counters)) (c .before .before .before .before .records .c) (now (a .s)) (given .0) (given .1 .0)
 turn-at c =
     let a = c .before .before .before .before .before .before .before .before .args in
-    turned (a .n) (now (a .counters)) (c .before .before .before .before .records .inv) (c .before .before .before .next .ensures) (c .before .step .given .1)
+    turned _ (a .n) (now (a .counters)) (c .before .before .before .before .records .inv) (c .before .before .before .next .ensures) (c .before .step .given .1)
 
 records-less : tie.Need-records-less Inv-loop μ-loop Inv-records μ-records
 records-less c = nearer (turn-at (c .before .before))
@@ -88,7 +88,7 @@ read-at : (c : tie.After-fixed-part Inv-loop μ-loop Inv-records μ-records) →
     let meant = c .before .before .before .before .before in
     let a = meant .before .before .before .before .before .before .before .before .args in
     let given = meant .before .step .given .0 in
-    Read (a .n) (now (a .counters)) (meant .before .before .before .before .records .c) (now (a .s)) (given .0) (given .1 .0) (now (c .fixed-part .result))
+    Read (a .rules) (a .n) (now (a .counters)) (meant .before .before .before .before .records .c) (now (a .s)) (given .0) (given .1 .0) (now (c .fixed-part .result))
 read-at c =
     record {
       turn = turn-at (c .before .before .before .before .before);
@@ -154,7 +154,7 @@ returns-2 c =
     let s = c .before .before in
     let a = s .before .before .before .before .before .before .before .args in
     let over = sym (s .before .before .next .ensures) ∙ ap stepMeaning (s .step2 .given .1) in
-    c .concluded2 .ensures ∙ on-end (findIn (a .n) (now (a .counters))) (now (a .s)) (s .before .before .before .records .inv) over
+    c .concluded2 .ensures ∙ on-end _ (findIn (a .n) (now (a .counters))) (now (a .s)) (s .before .before .before .records .inv) over
 
 pub find-spec : {M : Type 1} → statement M
 find-spec =

@@ -17,16 +17,16 @@ use Rattle.mrd_index.proofs.file.put_entries.Statement.{statement}
 use Rattle.mrd_index.proofs.file.put_entries.Tie as tie
 
 abbrev Inv-loop : tie.InvT-loop
-Inv-loop s out₀ c₀ out c = Filling inFile s out₀ c out
+Inv-loop rules s out₀ c₀ out c = Filling rules inFile s out₀ c out
 
 abbrev μ-loop : tie.MeasureT-loop
-μ-loop s out₀ c₀ out c = length s - c .start
+μ-loop rules s out₀ c₀ out c = length s - c .start
 
 beginning-requires : tie.Need-beginning-requires Inv-loop μ-loop
 beginning-requires c κs = search needs
 
 loop-holds : tie.Need-loop-holds Inv-loop μ-loop
-loop-holds c = rw (c .beginning .ensures) (start {f = inFile} (c .before .before .before .pre))
+loop-holds c = rw (c .beginning .ensures) (start _ {f = inFile} (c .before .before .before .pre))
 
 next-requires : tie.Need-next-requires Inv-loop μ-loop
 next-requires c κs = search needs
@@ -36,9 +36,9 @@ enum-known-step c = search needs
 
 passed : (c : tie.After-step Inv-loop μ-loop) →
     let step = c .step .given .0 in
-    Passes (c .before .before .before .loop .c) (now (c .before .before .before .before .before .before .before .args .s))
+    Passes (c .before .before .before .before .before .before .before .args .rules) (c .before .before .before .loop .c) (now (c .before .before .before .before .before .before .before .args .s))
     (recordMeaning (step .0)) (step .1 .0)
-passed c = step-yields _ _ (sym (c .before .before .next .ensures) ∙ ap stepMeaning (c .step .given .1))
+passed c = step-yields _ _ _ (sym (c .before .before .next .ensures) ∙ ap stepMeaning (c .step .given .1))
 
 fits : (c : tie.After-step Inv-loop μ-loop) → 16 + 17 * c .step .given .0 .0 .place .number + 17 ≤ length (c .before .before .before .loop .out)
 fits c = room (c .before .before .before .loop .inv) (passed c)

@@ -18,7 +18,7 @@ returns-2 c =
     let check = c .before .before .before in
     let a = check .before .before .before .args in
     let s = now (a .s) in
-    stream-refused s (length (index s)) (index s) (now (a .out)) (sym (check .check .ensures) ∙ ap checkedMeaning (c .before .checked2 .given .1))
+    stream-refused _ s (length (index (a .rules) s)) (index (a .rules) s) (now (a .out)) (sym (check .check .ensures) ∙ ap checkedMeaning (c .before .checked2 .given .1))
 
 pub write-index-spec : {M : Type 1} → statement M
 write-index-spec =

@@ -15,10 +15,10 @@ use Rattle.mrd_index_match.proofs.compare.compare.Statement.{statement}
 use Rattle.mrd_index_match.proofs.compare.compare.Tie as tie
 
 abbrev Inv-loop : tie.InvT-loop
-Inv-loop s front form file starts ids counters same₀ c₀ same c = Comparing (given form file starts ids counters) front s c same
+Inv-loop rules s front form file starts ids counters same₀ c₀ same c = Comparing rules (given form file starts ids counters) front s c same
 
 abbrev μ-loop : tie.MeasureT-loop
-μ-loop s front form file starts ids counters same₀ c₀ same c = length s - c .start
+μ-loop rules s front form file starts ids counters same₀ c₀ same c = length s - c .start
 
 beginning-requires : tie.Need-beginning-requires Inv-loop μ-loop
 beginning-requires c κs = search needs
@@ -27,7 +27,7 @@ loop-holds : tie.Need-loop-holds Inv-loop μ-loop
 loop-holds c =
     let a = c .before .before .before .before .before .before .args in
     rw (c .beginning .ensures)
-    (start (given (a .form) (now (a .file)) (now (a .starts)) (now (a .ids)) (now (a .counters))) (now (a .s)) (a .front))
+    (start _ (given (a .form) (now (a .file)) (now (a .starts)) (now (a .ids)) (now (a .counters))) (now (a .s)) (a .front))
 
 next-requires : tie.Need-next-requires Inv-loop μ-loop
 next-requires c κs = search needs
@@ -36,8 +36,8 @@ enum-known-step : tie.Need-enum-known-step Inv-loop μ-loop
 enum-known-step c = search needs
 
 passed : (c : tie.After-step Inv-loop μ-loop) →
-    Passes (c .before .before .before .loop .c) (now (c .before .before .before .before .before .before .before .before .before .before .args .s)) (recordMeaning (c .step .given .0 .0)) (c .step .given .0 .1 .0)
-passed c = step-yields _ _ (sym (c .before .before .next .ensures) ∙ ap stepMeaning (c .step .given .1))
+    Passes (c .before .before .before .before .before .before .before .before .before .before .args .rules) (c .before .before .before .loop .c) (now (c .before .before .before .before .before .before .before .before .before .before .args .s)) (recordMeaning (c .step .given .0 .0)) (c .step .given .0 .1 .0)
+passed c = step-yields _ _ _ (sym (c .before .before .next .ensures) ∙ ap stepMeaning (c .step .given .1))
 
 record-same-requires : tie.Need-record-same-requires Inv-loop μ-loop
 record-same-requires c κs =

@@ -10,7 +10,7 @@ use Rattle.mrd_index_match.proofs.compare.index_matches.Tie as tie
 returns : tie.Need-returns
 returns c =
     let a = c .before .before .before .before .before .before .before .args in
-    c .compare .ensures ∙ rw (c .before .before .before .before .front-same .ensures) (file-match (now (a .s)) (now (a .file)) _ _ _)
+    c .compare .ensures ∙ rw (c .before .before .before .before .front-same .ensures) (file-match _ (now (a .s)) (now (a .file)) _ _ _)
 
 pub index-matches-spec : {M : Type 1} → statement M
 index-matches-spec =

@@ -27,7 +27,7 @@ returns-2 c =
     let id = known .before .before in
     let test = id .before .before .before in
     let a = test .before .before .before .args in
-    rw (ap identified (sym (id .before .before .read-u16 .ensures)) ∙ sym (id .before .of-id .ensures) ∙ known .identified .given .1)
+    rw (ap (identified (a .rules)) (sym (id .before .before .read-u16 .ensures)) ∙ sym (id .before .of-id .ensures) ∙ known .identified .given .1)
     (sym (laws.id-stops _ (a .c) (now (a .t)) (sym (test .before .judge-front .ensures) ∙ test .if1 .left)
     (sym (rw (known .identified .given .1) at (id .judge-id .ensures))) (c .if2 .taken)))
 
@@ -44,7 +44,7 @@ returns-3 c =
     let id = known .before .before in
     let test = id .before .before .before in
     let a = test .before .before .before .args in
-    rw (ap identified (sym (id .before .before .read-u16 .ensures)) ∙ sym (id .before .of-id .ensures) ∙ known .identified .given .1)
+    rw (ap (identified (a .rules)) (sym (id .before .before .read-u16 .ensures)) ∙ sym (id .before .of-id .ensures) ∙ known .identified .given .1)
     (c .judge-body .ensures ∙ sym (laws.id-passed _ (a .c) (now (a .t)) (sym (test .before .judge-front .ensures) ∙ test .if1 .left)
     (sym (rw (known .identified .given .1) at (id .judge-id .ensures)) ∙ c .before .if2 .left)))
 
@@ -54,7 +54,7 @@ returns-4 c =
     let id = c .before .before in
     let test = id .before .before .before in
     let a = test .before .before .before .args in
-    rw (ap identified (sym (id .before .before .read-u16 .ensures)) ∙ sym (id .before .of-id .ensures) ∙ c .enum-told .given .1)
+    rw (ap (identified (a .rules)) (sym (id .before .before .read-u16 .ensures)) ∙ sym (id .before .of-id .ensures) ∙ c .enum-told .given .1)
     (sym (laws.unknown-stops (a .c) (now (a .t)) (sym (test .before .judge-front .ensures) ∙ test .if1 .left)
     (sym (rw (c .enum-told .given .1) at (id .judge-id .ensures)))))
 

@@ -25,7 +25,7 @@ body-size-requires-2 : tie.Need-body-size-requires-2
 body-size-requires-2 c κs = c .before .before .before .pre ∙ ap fixedSize (c .enum-told2 .given .1)
 
 body-size-requires-3 : tie.Need-body-size-requires-3
-body-size-requires-3 c κs = c .before .before .before .pre ∙ ap fixedSize (c .enum-told3 .given .1)
+body-size-requires-3 c κs = c .before .before .before .before .pre ∙ ap fixedSize (c .before .kind .given .1)
 
 returns : tie.Need-returns
 unfolding bodySize
@@ -50,7 +50,7 @@ returns-4 c = rw (c .before .enum-told2 .given .1) (c .body-size2 .ensures)
 
 returns-5 : tie.Need-returns-5
 unfolding bodySize
-returns-5 c = rw (c .before .enum-told3 .given .1) (ap capped (c .body-size3 .ensures .0), c .body-size3 .ensures .1)
+returns-5 c = rw (c .before .before .kind .given .1) (ap capped (c .body-size3 .ensures .0), c .body-size3 .ensures .1)
 
 pub body-size-spec : {M : Type 1} → statement M
 body-size-spec =

@@ -22,7 +22,7 @@ fault-requires-2 : tie.Need-fault-requires-2
 fault-requires-2 c κs = c .before .before .before .pre ∙ ap fixedSize (c .enum-told3 .given .1)
 
 fault-requires-3 : tie.Need-fault-requires-3
-fault-requires-3 c κs = c .before .before .before .pre ∙ ap fixedSize (c .enum-told4 .given .1)
+fault-requires-3 c κs = c .before .before .before .before .pre ∙ ap fixedSize (c .before .kind .given .1)
 
 returns : tie.Need-returns
 unfolding ownChecks
@@ -38,7 +38,7 @@ returns-3 c = rw (c .before .enum-told3 .given .1) (c .fault2 .ensures)
 
 returns-4 : tie.Need-returns-4
 unfolding ownChecks
-returns-4 c = rw (c .before .enum-told4 .given .1) (c .fault3 .ensures)
+returns-4 c = rw (c .before .before .kind .given .1) (c .fault3 .ensures)
 
 returns-5 : tie.Need-returns-5
 unfolding ownChecks

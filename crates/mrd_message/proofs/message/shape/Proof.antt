@@ -2,6 +2,7 @@
 -- Assumes nothing.
 use mathlib.Core.Path.{sym, ap, _∙_}
 use borrow.Author.Needs.{needs}
+use Rattle.mrd_format.specs.declared.kind.Kind.the-variants.{Waveform}
 use Rattle.mrd_format.specs.Kinds.{fixedSize}
 use Rattle.mrd_format.specs.Message.{numbersOf}
 use Rattle.mrd_message.proofs.message.shape.Statement.{statement}
@@ -26,7 +27,7 @@ shape-requires-2 : tie.Need-shape-requires-2
 shape-requires-2 c κs = c .before .before .before .pre ∙ ap fixedSize (c .enum-told7 .given .1)
 
 shape-requires-3 : tie.Need-shape-requires-3
-shape-requires-3 c κs = c .before .before .before .pre ∙ ap fixedSize (c .enum-told8 .given .1)
+shape-requires-3 c κs = c .before .before .before .before .pre ∙ ap fixedSize (c .before .kind .given .1)
 
 returns : tie.Need-returns
 unfolding numbersOf
@@ -58,7 +59,9 @@ returns-7 c = let k = c .before .enum-told7 .given .1 in (sym k, simp (k, c .sha
 
 returns-8 : tie.Need-returns-8
 unfolding numbersOf
-returns-8 c = let k = c .before .enum-told8 .given .1 in (sym k, simp (k, c .shape3 .ensures))
+returns-8 c =
+    let k = c .before .before .kind .given .1 in
+    (ap Waveform (c .shape3 .ensures .0) ∙ sym k, simp (k, c .shape3 .ensures .1))
 
 pub shape-spec : {M : Type 1} → statement M
 shape-spec =

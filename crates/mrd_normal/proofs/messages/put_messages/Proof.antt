@@ -9,7 +9,7 @@ use denote.Ref.{now}
 use lib.ListN.{length, take, drop}
 use Rattle.mrd_numbers.specs.Stored.{part-from}
 use Rattle.mrd_cursor.specs.Cursors.{after}
-use Rattle.mrd_judge.specs.Judge.{judgementMeaning, judge, whole, faulty}
+use Rattle.mrd_judge.specs.Judge.{judgementMeaning, judge, faulty}
 use Rattle.mrd_stream.specs.NextLaws as laws
 use Rattle.mrd_stream.specs.StepLaws.{Passes, step-yields, on-less}
 use Rattle.mrd_stream.specs.Places.{located}
@@ -18,10 +18,10 @@ use Rattle.mrd_normal.proofs.messages.put_messages.Statement.{statement
 use Rattle.mrd_normal.proofs.messages.put_messages.Tie as tie
 
 abbrev Inv-loop : tie.InvT-loop
-Inv-loop s out₀ c₀ out c = Putting s out₀ c out
+Inv-loop rules s out₀ c₀ out c = Putting rules s out₀ c out
 
 abbrev μ-loop : tie.MeasureT-loop
-μ-loop s out₀ c₀ out c = length s - c .start
+μ-loop rules s out₀ c₀ out c = length s - c .start
 
 loop-holds : tie.Need-loop-holds Inv-loop μ-loop
 loop-holds c = rw (c .beginning .ensures) (start (c .before .before .before .pre))
@@ -32,27 +32,29 @@ same-length c = same-size (c .before .loop .inv)
 returns : tie.Need-returns Inv-loop μ-loop
 returns c =
     let loop = c .before .loop in
-    finish (loop .inv) (c .if1 .taken) (laws.step-ended (loop .c) (now (c .before .before .before .before .before .args .s)) (c .if1 .taken))
+    finish (loop .inv) (c .if1 .taken) (laws.step-ended _ (loop .c) (now (c .before .before .before .before .before .args .s)) (c .if1 .taken))
 
 -- the message that is due is whole: what is known of it once it was judged
 passes : (c : tie.After-known-told Inv-loop μ-loop) →
     let loop = c .before .before .before .before .before .before .loop in
+    let rules = c .before .before .before .before .before .before .before .before .before .before .args .rules in
     let s = now (c .before .before .before .before .before .before .before .before .before .before .args .s) in
     let given = c .before .judgement .given .0 in
-    Passes (loop .c) s (located (loop .c) (given .0) (take (given .1 .0) (drop (loop .c .start) s))) (after (loop .c) (given .0) (given .1 .0))
+    Passes rules (loop .c) s (located (loop .c) (given .1 .0) (take (given .0) (drop (loop .c .start) s))) (after (loop .c) (given .1 .0) (given .0))
 passes c =
     let test = c .before .before .before .before .before in
     let loop = test .before .loop in
+    let rules = test .before .before .before .before .before .args .rules in
     let s = now (test .before .before .before .before .before .args .s) in
-    let due = ap (judge (loop .c)) (sym (part-from (loop .c .start) s)) ∙ sym (c .before .before .before .judge .ensures) ∙
+    let due = ap (judge rules (loop .c)) (sym (part-from (loop .c .start) s)) ∙ sym (c .before .before .before .judge .ensures) ∙
     ap judgementMeaning (c .before .judgement .given .1) in
-    step-yields (loop .c) s (laws.step-whole (loop .c) s (test .if1 .left) due)
+    step-yields rules (loop .c) s (laws.step-whole rules (loop .c) s (test .if1 .left) due)
 
 -- it ends in the stream, and so in the output
 ends : (c : tie.After-known-told Inv-loop μ-loop) →
     let loop = c .before .before .before .before .before .before .loop in
     let s = now (c .before .before .before .before .before .before .before .before .before .before .args .s) in
-    let end = loop .c .start + c .before .judgement .given .0 .1 .0 in
+    let end = loop .c .start + c .before .judgement .given .0 .0 in
     (end ≤ length s) × (length s ≤ length (loop .out))
 ends c =
     let inv = c .before .before .before .before .before .before .loop .inv in
@@ -74,7 +76,7 @@ put-message-requires c κs =
     let s = now (told .before .before .before .before .before .before .before .before .before .before .args .s) in
     let e = ends told in (
       passed-message (passes told),
-      same-room (loop .c .start) (loop .c .start + told .before .judgement .given .0 .1 .0) s (loop .out) (e .0) (omega (arith, e)),
+      same-room (loop .c .start) (loop .c .start + told .before .judgement .given .0 .0) s (loop .out) (e .0) (omega (arith, e)),
     )
 
 after-requires : tie.Need-after-requires Inv-loop μ-loop
@@ -100,10 +102,11 @@ never : (c : tie.After-enum-told Inv-loop μ-loop) → ⊥
 never c =
     let test = c .before .before .before .before in
     let loop = test .before .loop in
+    let rules = test .before .before .before .before .before .args .rules in
     let s = now (test .before .before .before .before .before .args .s) in
-    let due : judge (loop .c) (drop (loop .c .start) s) ≡ faulty (c .enum-told .given .0 .0) =
-    ap (judge (loop .c)) (sym (part-from (loop .c .start) s)) ∙ sym (c .before .before .judge .ensures) ∙ ap judgementMeaning (c .enum-told .given .1) in
-    never-refused (loop .inv) (laws.step-faulty (loop .c) s (test .if1 .left) due)
+    let due : judge rules (loop .c) (drop (loop .c .start) s) ≡ faulty (c .enum-told .given .0 .0) =
+    ap (judge rules (loop .c)) (sym (part-from (loop .c .start) s)) ∙ sym (c .before .before .judge .ensures) ∙ ap judgementMeaning (c .enum-told .given .1) in
+    never-refused (loop .inv) (laws.step-faulty rules (loop .c) s (test .if1 .left) due)
 
 same-length-2 : tie.Need-same-length-2 Inv-loop μ-loop
 same-length-2 c = absurd (never c)

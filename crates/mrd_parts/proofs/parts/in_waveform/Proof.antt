@@ -15,19 +15,33 @@ use Rattle.mrd_parts.proofs.Rest.{rest}
 use Rattle.mrd_parts.proofs.parts.in_waveform.Statement.{statement}
 use Rattle.mrd_parts.proofs.parts.in_waveform.Tie as tie
 
+add-after : tie.Need-add-after
+add-after c = omega (arith, c .header-size .ensures, waveform-rest (c .before .before .pre), c .before .before .fits)
+
 sub-lies : tie.Need-sub-lies
-sub-lies c = omega (arith, waveform-rest (c .before .before .before .pre))
+sub-lies c = omega (arith, c .before .before .header-size .ensures, waveform-rest (c .before .before .before .before .pre))
 
 returns : tie.Need-returns
 unfolding extentOf
-returns c = rw (c .before .enum-told .given .1) (c .lies .ensures ∙ waveform-data (c .before .before .before .before .pre))
+returns c =
+    let size = c .before .before .before .header-size in
+    rw (c .before .enum-told .given .1) (c .lies .ensures ∙ waveform-data (c .before .before .before .before .before .pre) (size .result) (size .ensures))
 
 returns-2 : tie.Need-returns-2
 unfolding extentOf
 returns-2 c =
-    let a = c .before .before .args in
-    rest (λ (p : Part). lacks ≡ extentOf (partMeaning p) Kind.Waveform (now (a .h))) (0 ∷ 1 ∷ 2 ∷ 3 ∷ 4 ∷ 5 ∷ []) (a .part) (c .match .keys2)
+    let a = c .before .before .before .args in
+    rest (λ (p : Part). lacks ≡ extentOf (partMeaning p) (Kind.Waveform (a .layout)) (now (a .h))) (0 ∷ 1 ∷ 2 ∷ 3 ∷ 4 ∷ 5 ∷ []) (a .part) (c .match .keys2)
     (refl, (refl, (refl, (refl, ((λ n. refl), (refl, tt))))))
 
 pub in-waveform-spec : {M : Type 1} → statement M
-in-waveform-spec = tie.close (tie.spec (λ c. search needs) (λ c. search needs) sub-lies (λ c κs. search needs) returns returns-2)
+in-waveform-spec =
+    tie.close
+    (tie.spec
+    (λ c κs. search needs)
+    add-after
+    (λ c. search needs)
+    sub-lies
+    (λ c κs. search needs)
+    returns
+    returns-2)

@@ -22,7 +22,7 @@ in-image-requires : tie.Need-in-image-requires
 in-image-requires c κs = rw (c .enum-told4 .given .1) at (c .before .before .before .pre)
 
 in-waveform-requires : tie.Need-in-waveform-requires
-in-waveform-requires c κs = rw (c .enum-told5 .given .1) at (c .before .before .before .pre)
+in-waveform-requires c κs = rw (c .before .kind .given .1) at (c .before .before .before .before .pre)
 
 returns : tie.Need-returns
 returns c = rw (c .before .enum-told .given .1) (c .in-name .ensures)
@@ -46,7 +46,7 @@ returns-5 : tie.Need-returns-5
 returns-5 c = rw (c .before .enum-told4 .given .1) (c .in-image .ensures)
 
 returns-6 : tie.Need-returns-6
-returns-6 c = rw (c .before .enum-told5 .given .1) (c .in-waveform .ensures)
+returns-6 c = rw (c .before .before .kind .given .1) (c .in-waveform .ensures)
 
 pub locate-spec : {M : Type 1} → statement M
 locate-spec = tie.close (tie.spec (λ c. search needs) (λ c κs. search needs) in-text-requires (λ c. search needs) (λ c. search needs) (λ c κs. search needs) (λ c. search needs) in-image-requires (λ c. search needs) in-waveform-requires returns returns-2 returns-3 returns-4 returns-5 returns-6)

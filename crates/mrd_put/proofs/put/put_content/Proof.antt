@@ -49,10 +49,10 @@ put-image-requires c κs =
     let s = c .before .before .before .before .before .before .before .before .before .before .before .before in
     image-room (s .args .kind) (given s) (now (s .args .out)) (s .pre .0) (s .pre .1) (c .before .enum-told4 .given .1)
 
-put-joined-requires : tie.Need-put-joined-requires
-put-joined-requires c κs =
-    let s = c .before .before .before .before .before .before .before .before .before .before .before .before in
-    waveform-room (s .args .kind) (given s) (now (s .args .out)) (s .pre .0) (s .pre .1) (c .before .enum-told5 .given .1)
+put-waveform-requires : tie.Need-put-waveform-requires
+put-waveform-requires c κs =
+    let s = c .before .before .before .before .before .before .before .before .before .before .before .before .before in
+    waveform-room (s .args .kind) (given s) (now (s .args .out)) (s .pre .0) (s .pre .1) (c .before .before .kind .given .1)
 
 returns : tie.Need-returns
 returns c = rw (c .before .before .before .before .enum-told .given .1, content-name) (c .before .before .put-name .ensures)
@@ -77,9 +77,9 @@ returns-5 c = rw (c .before .before .before .before .enum-told4 .given .1, conte
 
 returns-6 : tie.Need-returns-6
 returns-6 c =
-    let is = c .before .before .before .before .enum-told5 .given .1 in
-    let s = c .before .before .before .before .before .before .before .before .before .before .before .before .before .before .before in
-    rw (is, waveform-made (s .args .kind) (given s) (now (s .args .out)) (s .pre .0) (s .pre .1) is) (c .before .before .put-joined .ensures)
+    let s = c .before .before .before .before .before .before .before .before .before .before .before .before .before .before .before .before in
+    rw (waveform-made (s .args .kind) (given s) (now (s .args .out)) (s .pre .0) (s .pre .1) (c .before .before .before .before .before .kind .given .1))
+    (c .before .before .put-waveform .ensures)
 
 pub put-content-spec : {M : Type 1} → statement M
 put-content-spec =
@@ -94,7 +94,7 @@ put-content-spec =
     (λ c. search needs)
     put-image-requires
     (λ c. search needs)
-    put-joined-requires
+    put-waveform-requires
     (λ c. search needs)
     returns
     (λ c. search needs)

@@ -1,5 +1,4 @@
--- `mrd_put::put::put_image` meets its contract: the fields of the header are copied to the front, the attributes' length follows them twice, and
--- then the two parts.
+-- `mrd_put::put::put_image` meets its contract: the fixed part is put at the front, and the two parts follow it.
 -- Assumes nothing.
 use native.Mathlib.Omega.{arith}
 use mathlib.Core.List.{_++_}
@@ -13,33 +12,18 @@ use Rattle.mrd_put.proofs.put.put_image.Tie as tie
 
 returns : tie.Need-returns
 returns c =
-    let u64 = c .before .before .before .before .before .before in
-    let u32 = u64 .before .before .before .before in
-    let copy = u32 .before .before .before .before in
-    let start = copy .before .before .before .before .before .before .before in
+    let fixed = c .before .before .before .before .before .before in
+    let start = fixed .before .before .before .before .before .before in
     let header = now (start .args .header) in
-    image-put (take 194 header) (length (now (start .args .attributes)))
+    image-put (take 194 header) (length (now (start .args .attributes))) (length-take-le 194 header (omega (arith, start .pre .0)))
     (now (start .args .attributes) ++ now (start .args .pixels)) (now (start .args .out))
-    (copy .copy .last .1 .0) (u32 .put-u32 .last .0) (u64 .put-u64 .last .0) (c .before .before .put-joined .last .1 .1 .0)
-    (length-take-le 194 header (omega (arith, start .pre .0))) (simp length-append (start .pre .2))
-    (copy .copy .ensures .1) (u32 .put-u32 .ensures) (u64 .put-u64 .ensures) (c .before .before .put-joined .ensures)
+    (fixed .put-image-header .last .1 .1 .0) (c .before .before .put-joined .last .1 .1 .0) (simp length-append (start .pre .2))
+    (fixed .put-image-header .ensures) (c .before .before .put-joined .ensures)
 
 pub put-image-spec : {M : Type 1} → statement M
 put-image-spec =
     tie.close
     (tie.spec
-    (λ c. search needs)
-    (λ c. search needs)
-    (λ c. search needs)
-    (λ c. search needs)
-    (λ c. search needs)
-    (λ c. search needs)
-    (λ c κs. search needs)
-    (λ c. search needs)
-    (λ c. search needs)
-    (λ c. search needs)
-    (λ c. search needs)
-    (λ c κs. search needs)
     (λ c. search needs)
     (λ c. search needs)
     (λ c. search needs)

@@ -17,13 +17,13 @@ add-to : tie.Need-add-to
 add-to c =
     let a = c .before .before .before .before .before .args in
     let pre = c .before .before .before .before .before .pre in
-    omega (arith, fixed-fits (now (a .s)) (recordMeaning (a .here)) (pre), c .fixed-size .ensures ∙ ap fixedSize (c .before .kind .ensures))
+    omega (arith, fixed-fits (now (a .s)) (recordMeaning (a .here)) (pre .1), c .fixed-size .ensures ∙ ap fixedSize (c .before .kind .ensures))
 
 part-result-end : tie.Need-part-result-end
 part-result-end c =
     let a = c .before .before .before .before .before .args in
     let pre = c .before .before .before .before .before .pre in
-    omega (arith, fixed-fits (now (a .s)) (recordMeaning (a .here)) (pre), c .fixed-size .ensures ∙ ap fixedSize (c .before .kind .ensures))
+    omega (arith, fixed-fits (now (a .s)) (recordMeaning (a .here)) (pre .1), c .fixed-size .ensures ∙ ap fixedSize (c .before .kind .ensures))
 
 returns : tie.Need-returns
 returns c =
@@ -33,7 +33,7 @@ returns c =
     let from = a .here .place .start + 2 in
     let size : from + c .before .fixed-size .result - from ≡ fixedSize (kindOf (a .here .shape)) = omega
     (arith, c .before .fixed-size .ensures ∙ ap fixedSize (c .before .before .kind .ensures)) in
-    ap (λ (k : ℕ). take k (drop from (now (a .s)))) size ∙ fixed-place (now (a′ .s)) (recordMeaning (a′ .here)) (pre)
+    ap (λ (k : ℕ). take k (drop from (now (a .s)))) size ∙ fixed-place (now (a′ .s)) (recordMeaning (a′ .here)) (pre .1)
 
 pub fixed-part-spec : {M : Type 1} → statement M
 fixed-part-spec =

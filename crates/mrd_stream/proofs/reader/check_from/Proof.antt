@@ -15,10 +15,10 @@ use Rattle.mrd_stream.proofs.reader.check_from.Statement.{statement}
 use Rattle.mrd_stream.proofs.reader.check_from.Tie as tie
 
 abbrev Inv-loop : tie.InvT-loop
-Inv-loop s c₀ c = verdict (from c s) ≡ verdict (from c₀ s)
+Inv-loop rules s c₀ c = verdict (from rules c s) ≡ verdict (from rules c₀ s)
 
 abbrev μ-loop : tie.MeasureT-loop
-μ-loop s c₀ c = length s - c .start
+μ-loop rules s c₀ c = length s - c .start
 
 loop-holds : tie.Need-loop-holds Inv-loop μ-loop
 loop-holds c = refl
@@ -30,7 +30,7 @@ returns : tie.Need-returns Inv-loop μ-loop
 returns c =
     let loop = c .before .before .loop in
     let s = now (c .before .before .before .before .args .s) in
-    c .ended .ensures ∙ kept-end verdict s (loop .c) (loop .inv) (laws.step-ended (loop .c) s (c .before .if1 .taken))
+    c .ended .ensures ∙ kept-end _ verdict s (loop .c) (loop .inv) (laws.step-ended _ (loop .c) s (c .before .if1 .taken))
 
 sub-judge : tie.Need-sub-judge Inv-loop μ-loop
 sub-judge c = search needs
@@ -52,11 +52,11 @@ found-whole : (c : tie.After-known-told Inv-loop μ-loop) →
     let loop = c .before .before .before .before .before .before .loop in
     let s = now (c .before .before .before .before .before .before .before .before .args .s) in
     let given = c .before .judgement .given .0 in
-    judge (loop .c) (drop (loop .c .start) s) ≡ whole (given .0) (given .1 .0)
+    judge (c .before .before .before .before .before .before .before .before .args .rules) (loop .c) (drop (loop .c .start) s) ≡ whole (given .1 .0) (given .0)
 found-whole c =
     let loop = c .before .before .before .before .before .before .loop in
     let s = now (c .before .before .before .before .before .before .before .before .args .s) in
-    ap (judge (loop .c)) (sym (part-from (loop .c .start) s)) ∙ sym (c .before .before .before .judge .ensures) ∙
+    ap (judge (c .before .before .before .before .before .before .before .before .args .rules) (loop .c)) (sym (part-from (loop .c .start) s)) ∙ sym (c .before .before .before .judge .ensures) ∙
     ap judgementMeaning (c .before .judgement .given .1)
 
 after-requires : tie.Need-after-requires Inv-loop μ-loop
@@ -64,15 +64,15 @@ after-requires c κs =
     let test = c .before .before .before .before .before in
     let loop = test .before .loop in
     let s = now (test .before .before .before .args .s) in
-    let size = laws.whole-ends (loop .c) s (test .if1 .left) (found-whole c) in
-    (laws.whole-counted (loop .c) s (test .if1 .left) (found-whole c), search needs)
+    let size = laws.whole-ends _ (loop .c) s (test .if1 .left) (found-whole c) in
+    (laws.whole-counted _ (loop .c) s (test .if1 .left) (found-whole c), search needs)
 
 loop-less : tie.Need-loop-less Inv-loop μ-loop
 loop-less c =
     let test = c .before .before .before .before .before .before in
     let loop = test .before .loop in
     let s = now (test .before .before .before .args .s) in
-    rw (c .after .ensures) (on-less s (step-yields (loop .c) s (laws.step-whole (loop .c) s (test .if1 .left) (found-whole (c .before)))))
+    rw (c .after .ensures) (on-less s (step-yields _ (loop .c) s (laws.step-whole _ (loop .c) s (test .if1 .left) (found-whole (c .before)))))
 
 loop-again : tie.Need-loop-again Inv-loop μ-loop
 loop-again c =
@@ -80,8 +80,8 @@ loop-again c =
     let loop = test .before .loop in
     let s = now (test .before .before .before .args .s) in
     rw (c .after .ensures)
-    (kept-next verdict s verdict (loop .inv) (step-yields (loop .c) s
-    (laws.step-whole (loop .c) s (test .if1 .left) (found-whole (c .before)))) (λ r. refl))
+    (kept-next _ verdict s verdict (loop .inv) (step-yields _ (loop .c) s
+    (laws.step-whole _ (loop .c) s (test .if1 .left) (found-whole (c .before)))) (λ r. refl))
 
 enum-known-judgement-2 : tie.Need-enum-known-judgement-2 Inv-loop μ-loop
 enum-known-judgement-2 c = search needs
@@ -95,10 +95,10 @@ returns-2 c =
     let test = judged .before .before in
     let loop = test .before .loop in
     let s = now (test .before .before .before .args .s) in
-    let due : judge (loop .c) (drop (loop .c .start) s) ≡ faulty (c .before .before .judgement2 .given .0 .0) =
-    ap (judge (loop .c)) (sym (part-from (loop .c .start) s)) ∙ sym (judged .judge .ensures) ∙ ap judgementMeaning
+    let due : judge (test .before .before .before .args .rules) (loop .c) (drop (loop .c .start) s) ≡ faulty (c .before .before .judgement2 .given .0 .0) =
+    ap (judge (test .before .before .before .args .rules) (loop .c)) (sym (part-from (loop .c .start) s)) ∙ sym (judged .judge .ensures) ∙ ap judgementMeaning
     (c .before .before .judgement2 .given .1) in
-    c .refused .ensures ∙ kept-end verdict s (loop .c) (loop .inv) (laws.step-faulty (loop .c) s (test .if1 .left) due)
+    c .refused .ensures ∙ kept-end _ verdict s (loop .c) (loop .inv) (laws.step-faulty _ (loop .c) s (test .if1 .left) due)
 
 pub check-from-spec : {M : Type 1} → statement M
 check-from-spec =

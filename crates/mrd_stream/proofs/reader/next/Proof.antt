@@ -17,16 +17,16 @@ use Rattle.mrd_stream.proofs.reader.next.Tie as tie
 returns : tie.Need-returns
 returns c =
     let a = c .before .before .before .args in
-    ap over (c .ended .ensures) ∙ sym (laws.step-ended (a .c) (now (a .s)) (c .before .if1 .taken))
+    ap over (c .ended .ensures) ∙ sym (laws.step-ended _ (a .c) (now (a .s)) (c .before .if1 .taken))
 
 -- the message that is due is whole
 found-whole : (c : tie.After-known-told) →
     let a = c .before .before .before .before .before .before .before .args in
     let given = c .before .judgement .given .0 in
-    judge (a .c) (drop (a .c .start) (now (a .s))) ≡ whole (given .0) (given .1 .0)
+    judge (a .rules) (a .c) (drop (a .c .start) (now (a .s))) ≡ whole (given .1 .0) (given .0)
 found-whole c =
     let a = c .before .before .before .before .before .before .before .args in
-    ap (judge (a .c)) (sym (part-from (a .c .start) (now (a .s)))) ∙ sym (c .before .before .before .judge .ensures) ∙
+    ap (judge (a .rules) (a .c)) (sym (part-from (a .c .start) (now (a .s)))) ∙ sym (c .before .before .before .judge .ensures) ∙
     ap judgementMeaning (c .before .judgement .given .1)
 
 fixed-part-requires : tie.Need-fixed-part-requires
@@ -34,24 +34,24 @@ fixed-part-requires c κs =
     let meant = c .before in
     let test = meant .before .before .before .before .before in
     let a = test .before .before .args in
-    rw part-from (laws.whole-fixed (a .c) (now (a .s)) (test .if1 .left) (found-whole meant))
+    rw part-from (laws.whole-fixed _ (a .c) (now (a .s)) (test .if1 .left) (found-whole meant))
 
 -- and its fixed part is passed on
 fixed-is : (c : tie.After-fixed-part) →
     let a = c .before .before .before .before .before .before .before .before .before .args in
-    now (c .fixed-part .result) ≡ fixedPart (c .before .before .before .judgement .given .0 .0) (drop (a .c .start) (now (a .s)))
+    now (c .fixed-part .result) ≡ fixedPart (c .before .before .before .judgement .given .0 .1 .0) (drop (a .c .start) (now (a .s)))
 fixed-is c =
     let a = c .before .before .before .before .before .before .before .before .before .args in
-    c .fixed-part .ensures ∙ ap (fixedPart (c .before .before .before .judgement .given .0 .0)) (part-from (a .c .start) (now (a .s)))
+    c .fixed-part .ensures ∙ ap (fixedPart (c .before .before .before .judgement .given .0 .1 .0)) (part-from (a .c .start) (now (a .s)))
 
 yields-requires : tie.Need-yields-requires
 yields-requires c κs =
     let meant = c .before .before in
     let test = meant .before .before .before .before .before in
     let a = test .before .before .args in
-    let size = laws.whole-ends (a .c) (now (a .s)) (test .if1 .left) (found-whole meant) in (
-      ap length (fixed-is c) ∙ laws.whole-long (a .c) (now (a .s)) (test .if1 .left) (found-whole meant),
-      laws.whole-counted (a .c) (now (a .s)) (test .if1 .left) (found-whole meant),
+    let size = laws.whole-ends _ (a .c) (now (a .s)) (test .if1 .left) (found-whole meant) in (
+      ap length (fixed-is c) ∙ laws.whole-long _ (a .c) (now (a .s)) (test .if1 .left) (found-whole meant),
+      laws.whole-counted _ (a .c) (now (a .s)) (test .if1 .left) (found-whole meant),
       search needs,
     )
 
@@ -61,8 +61,8 @@ returns-2 c =
     let test = meant .before .before .before .before .before in
     let a = test .before .before .args in
     let given = meant .before .judgement .given .0 in
-    c .yields .ensures ∙ ap (λ (h : List ℕ). yielded (a .c) (given .0) h (given .1 .0)) (fixed-is (c .before)) ∙
-    laws.step-yields-record (a .c) (now (a .s)) (test .if1 .left) (found-whole meant)
+    c .yields .ensures ∙ ap (λ (h : List ℕ). yielded (a .c) (given .1 .0) h (given .0)) (fixed-is (c .before)) ∙
+    laws.step-yields-record _ (a .c) (now (a .s)) (test .if1 .left) (found-whole meant)
 
 returns-3 : tie.Need-returns-3
 returns-3 c =
@@ -70,10 +70,10 @@ returns-3 c =
     let judged = meant .before .before .before in
     let test = judged .before .before in
     let a = test .before .before .args in
-    let due : judge (a .c) (drop (a .c .start) (now (a .s))) ≡ faulty (meant .before .judgement2 .given .0 .0) =
-    ap (judge (a .c)) (sym (part-from (a .c .start) (now (a .s)))) ∙ sym (judged .judge .ensures) ∙ ap judgementMeaning
+    let due : judge (a .rules) (a .c) (drop (a .c .start) (now (a .s))) ≡ faulty (meant .before .judgement2 .given .0 .0) =
+    ap (judge (a .rules) (a .c)) (sym (part-from (a .c .start) (now (a .s)))) ∙ sym (judged .judge .ensures) ∙ ap judgementMeaning
     (meant .before .judgement2 .given .1) in
-    ap over (c .refused .ensures) ∙ sym (laws.step-faulty (a .c) (now (a .s)) (test .if1 .left) due)
+    ap over (c .refused .ensures) ∙ sym (laws.step-faulty _ (a .c) (now (a .s)) (test .if1 .left) due)
 
 pub next-spec : {M : Type 1} → statement M
 next-spec =

@@ -15,10 +15,10 @@ use Rattle.mrd_stream.proofs.reader.place.Statement.{statement}
 use Rattle.mrd_stream.proofs.reader.place.Tie as tie
 
 abbrev Inv-loop : tie.InvT-loop
-Inv-loop s n c₀ found₀ c found = On (seek n (placedMeaning found)) (place s n) c s
+Inv-loop rules s n c₀ found₀ c found = On rules (seek n (placedMeaning found)) (place rules s n) c s
 
 abbrev μ-loop : tie.MeasureT-loop
-μ-loop s n c₀ found₀ c found = length s - c .start
+μ-loop rules s n c₀ found₀ c found = length s - c .start
 
 beginning-requires : tie.Need-beginning-requires Inv-loop μ-loop
 beginning-requires c κs = search needs
@@ -26,7 +26,7 @@ beginning-requires c κs = search needs
 loop-holds : tie.Need-loop-holds Inv-loop μ-loop
 loop-holds c =
     let a = c .before .before .args in
-    rw (c .beginning .ensures, ← seek-place (now (a .s)) (a .n)) (on-start (seek (a .n) (number 16)) (now (a .s)))
+    rw (c .beginning .ensures, ← seek-place _ (now (a .s)) (a .n)) (on-start _ (seek (a .n) (number 16)) (now (a .s)))
 
 next-requires : tie.Need-next-requires Inv-loop μ-loop
 next-requires c κs = search needs
@@ -42,7 +42,7 @@ loop-less c =
     let a = c .before .before .before .before .before .before .before .before .args in
     let loop = c .before .before .before .before .before .loop in
     let next = c .before .before .before .before .next in
-    on-less (now (a .s)) (step-yields (loop .c) (now (a .s)) (sym (next .ensures) ∙ ap stepMeaning (c .before .before .step .given .1)))
+    on-less (now (a .s)) (step-yields _ (loop .c) (now (a .s)) (sym (next .ensures) ∙ ap stepMeaning (c .before .before .step .given .1)))
 
 loop-again : tie.Need-loop-again Inv-loop μ-loop
 loop-again c =
@@ -50,10 +50,10 @@ loop-again c =
     let loop = c .before .before .before .before .before .loop in
     let next = c .before .before .before .before .next in
     let step = c .before .before .step in
-    let p = step-yields (loop .c) (now (a .s)) (sym (next .ensures) ∙ ap stepMeaning (step .given .1)) in
+    let p = step-yields _ (loop .c) (now (a .s)) (sym (next .ensures) ∙ ap stepMeaning (step .given .1)) in
     let before = placedMeaning (loop .found) in
     rw (c .kept .ensures)
-    (on-next
+    (on-next _
     (seek (a .n) before) (now (a .s))
     (seek (a .n) (keptBy (recordMeaning (step .given .0 .0)) (a .n) before)) (loop .inv) p
     (seek-next (a .n) before (loop .c) (p .kind) (p .bytes) (p .place)))
@@ -69,7 +69,7 @@ returns c =
     let a = c .before .before .before .before .before .before .before .before .args in
     let loop = c .before .before .before .before .before .loop in
     let next = c .before .before .before .before .next in
-    c .concluded .ensures ∙ on-end
+    c .concluded .ensures ∙ on-end _
     (seek (a .n) (placedMeaning (loop .found))) (now (a .s)) (loop .inv)
     (sym (next .ensures) ∙ ap stepMeaning (c .before .before .step2 .given .1))
 

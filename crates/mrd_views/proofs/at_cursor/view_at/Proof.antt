@@ -11,7 +11,7 @@ use Rattle.mrd_views.proofs.at_cursor.view_at.Tie as tie
 viewed-requires : tie.Need-viewed-requires
 viewed-requires c κs =
     let a = c .before .before .args in
-    rw (c .view-place-at .ensures) (view-fits (now (a .s)) (placeAt (a .c) (now (a .s))) (a .part) (at-lies (a .c) (now (a .s))))
+    rw (c .view-place-at .ensures) (view-fits (now (a .s)) (placeAt (a .rules) (a .c) (now (a .s))) (a .part) (at-lies _ (a .c) (now (a .s))))
 
 returns : tie.Need-returns
 returns c = rw (← c .before .view-place-at .ensures) (c .viewed .ensures)

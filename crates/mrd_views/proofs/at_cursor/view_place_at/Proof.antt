@@ -9,7 +9,7 @@ use Rattle.mrd_views.proofs.at_cursor.view_place_at.Tie as tie
 placed-view-requires : tie.Need-placed-view-requires
 placed-view-requires c κs =
     let a = c .before .before .args in
-    rw (c .place-at .ensures) (at-lies (a .c) (now (a .s)))
+    rw (c .place-at .ensures) (at-lies _ (a .c) (now (a .s)))
 
 returns : tie.Need-returns
 returns c = rw (← c .before .place-at .ensures) (c .placed-view .ensures)

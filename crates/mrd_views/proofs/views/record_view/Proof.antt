@@ -20,7 +20,7 @@ locate-requires : tie.Need-locate-requires
 locate-requires c κs =
     let a = c .before .before .before .before .args in
     let pre = c .before .before .before .before .pre in
-    rw (c .before .kind .ensures, c .fixed-part .ensures) (fixed-sized (now (a .s)) (recordMeaning (a .here)) (pre))
+    rw (c .before .kind .ensures, c .fixed-part .ensures) (fixed-sized (now (a .s)) (recordMeaning (a .here)) (pre .1))
 
 shifted-requires : tie.Need-shifted-requires
 shifted-requires c κs =
@@ -34,7 +34,7 @@ shifted-requires c κs =
     (c .locate .result) ≡ extentOf (partMeaning (a .part)) (kindOf (a .here .shape))
     (fixedPart (kindOf (a .here .shape)) (partAt (now (a .s)) (recordMeaning (a .here)))) = cc
     (c .locate .ensures) in
-    rw e (omega (arith, start-fits (now (a′ .s)) (recordMeaning (a′ .here)) (pre) (partMeaning (a .part)), good))
+    rw e (omega (arith, start-fits (now (a′ .s)) (recordMeaning (a′ .here)) (pre .1) (partMeaning (a .part)), good))
 
 returns : tie.Need-returns
 returns c =

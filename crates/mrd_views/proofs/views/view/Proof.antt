@@ -13,7 +13,7 @@ viewed-requires : tie.Need-viewed-requires
 unfolding viewOf
 viewed-requires c κs =
     let a = c .before .before .args in
-    rw (c .view-place .ensures) (view-fits (now (a .s)) (place (now (a .s)) (a .n)) (a .part) (place-lies (now (a .s)) (a .n)))
+    rw (c .view-place .ensures) (view-fits (now (a .s)) (place (a .rules) (now (a .s)) (a .n)) (a .part) (place-lies _ (now (a .s)) (a .n)))
 
 returns : tie.Need-returns
 returns c = rw (← c .before .view-place .ensures) (c .viewed .ensures)

@@ -10,7 +10,7 @@ use Rattle.mrd_views.proofs.views.view_place.Tie as tie
 placed-view-requires : tie.Need-placed-view-requires
 placed-view-requires c κs =
     let a = c .before .before .args in
-    rw (c .place .ensures) (place-lies (now (a .s)) (a .n))
+    rw (c .place .ensures) (place-lies _ (now (a .s)) (a .n))
 
 returns : tie.Need-returns
 unfolding viewOf

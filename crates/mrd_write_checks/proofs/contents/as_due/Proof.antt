@@ -1,5 +1,6 @@
 -- `mrd_write_checks::contents::as_due` meets its contract: each kind compares with the lengths of the definition, what the header says by the size.
 -- Assumes nothing.
+use Prim.Native.Nat.{_+_, _≤_}
 use native.Mathlib.Omega.{arith}
 use mathlib.Core.Path.{refl, sym, ap, _∙_}
 use mathlib.Core.List.{[], _∷_}
@@ -39,10 +40,21 @@ sub-due-4 c =
     let start = c .before .before .before .before .before in
     omega (arith, due-image _ (now (start .args .header)) (start .args .given) (start .pre .1) (c .before .enum-told4 .given .1) .0)
 
+-- a waveform's header is within the message
+header-fits : (c : tie.After-header-size) → 2 + c .header-size .result ≤ c .before .before .before .before .before .before .args .size
+header-fits c =
+    let start = c .before .before .before .before .before .before in
+    omega (
+      arith,
+      c .header-size .ensures,
+      due-waveform _ (now (start .args .header)) (start .args .given) (start .pre .1) (c .before .before .kind .given .1) .0,
+    )
+
+add-due-3 : tie.Need-add-due-3
+add-due-3 c = omega (arith, header-fits c, c .before .before .before .before .before .before .fits)
+
 sub-due-5 : tie.Need-sub-due-5
-sub-due-5 c =
-    let start = c .before .before .before .before in
-    omega (arith, due-waveform _ (now (start .args .header)) (start .args .given) (start .pre .1) (c .enum-told5 .given .1) .0)
+sub-due-5 c = omega (arith, header-fits c)
 
 returns : tie.Need-returns
 unfolding dueLengths
@@ -77,10 +89,10 @@ returns-5 c =
 
 returns-6 : tie.Need-returns-6
 returns-6 c =
-    let start = c .before .before .before .before .before in
-    rw (c .before .before .before .none .ensures) at (c .same6 .ensures) ∙
+    let start = c .before .before .before .before .before .before .before in
+    rw (c .before .before .before .before .before .none .ensures, c .before .header-size .ensures) at (c .same6 .ensures) ∙
     ap (sameLengths (start .args .given))
-    (due-waveform _ (now (start .args .header)) (start .args .given) (start .pre .1) (c .before .enum-told5 .given .1) .1)
+    (due-waveform _ (now (start .args .header)) (start .args .given) (start .pre .1) (c .before .before .before .kind .given .1) .1)
 
 pub as-due-spec : {M : Type 1} → statement M
 as-due-spec =
@@ -104,7 +116,8 @@ as-due-spec =
     sub-due-4
     (λ c κs. search needs)
     (λ c. search needs)
-    (λ c. search needs)
+    (λ c κs. search needs)
+    add-due-3
     sub-due-5
     (λ c κs. search needs)
     returns

@@ -15,7 +15,7 @@ checked-image-requires : tie.Need-checked-image-requires
 checked-image-requires c κs = rw (c .enum-told7 .given .1) at (c .before .before .before .before .pre)
 
 checked-fixed-requires-2 : tie.Need-checked-fixed-requires-2
-checked-fixed-requires-2 c κs = rw (c .enum-told8 .given .1) at (c .before .before .before .before .pre)
+checked-fixed-requires-2 c κs = rw (c .before .kind .given .1) at (c .before .before .before .before .before .pre)
 
 returns : tie.Need-returns
 returns c = rw (c .before .enum-told .given .1) (c .checked-name .ensures ∙ sym (sized-name _ _ _))
@@ -48,10 +48,10 @@ returns-7 c =
 
 returns-8 : tie.Need-returns-8
 returns-8 c =
-    let a = c .before .before .before .before .before .args in
-    let is = c .before .enum-told8 .given .1 in
-    let long = rw is at (c .before .before .before .before .before .pre) in
-    rw is (c .checked-fixed2 .ensures ∙ sym (sized-waveform (now (a .header)) (now (a .name)) (a .given) long))
+    let a = c .before .before .before .before .before .before .args in
+    let is = c .before .before .kind .given .1 in
+    let long = rw is at (c .before .before .before .before .before .before .pre) in
+    rw is (c .checked-fixed2 .ensures ∙ sym (sized-waveform _ (now (a .header)) (now (a .name)) (a .given) long))
 
 pub checked-size-spec : {M : Type 1} → statement M
 checked-size-spec =

@@ -18,7 +18,7 @@ given s =
 returns : tie.Need-returns
 returns c =
     let start = c .before .before .before .before .before .before .before .before .before .before .before .before in
-    write-unknown (start .args .id) (given start) (start .args .position) (now (start .args .out))
+    write-unknown (start .args .rules) (start .args .id) (given start) (start .args .position) (now (start .args .out))
     (sym (c .before .before .of-id .ensures) ∙ c .enum-told .given .1)
 
 store-requires : tie.Need-store-requires
@@ -30,7 +30,7 @@ store-requires c κs =
 returns-2 : tie.Need-returns-2
 returns-2 c =
     let start = c .before .before .before .before .before .before .before .before .before .before .before .before .before .before .before .before .before .before .before .before .before .before in
-    write-known (start .args .id) _ (given start) (start .args .position) (now (start .args .out)) _ _
+    write-known (start .args .rules) (start .args .id) _ (given start) (start .args .position) (now (start .args .out)) _ _
     (sym (c .before .before .before .before .before .before .before .before .before .before .before .before .of-id .ensures) ∙
     c .before .before .before .before .before .before .before .before .before .before .identified .given .1)
     (c .before .before .store .ensures)
@@ -38,7 +38,7 @@ returns-2 c =
 returns-3 : tie.Need-returns-3
 returns-3 c =
     let start = c .before .before .before .before .before .before .before .before .before .before .before .before .before .before .before .before .before .before in
-    write-known (start .args .id) _ (given start) (start .args .position) (now (start .args .out)) _ _
+    write-known (start .args .rules) (start .args .id) _ (given start) (start .args .position) (now (start .args .out)) _ _
     (sym (c .before .before .before .before .before .before .before .before .of-id .ensures) ∙
     c .before .before .before .before .before .before .identified .given .1)
     (refused-contents _ (given start) (start .args .position) (now (start .args .out))

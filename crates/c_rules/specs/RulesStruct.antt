@@ -1,0 +1,14 @@
+-- The rules that a C struct stands for.
+-- Assumes nothing.
+use mathlib.Core.Bool.{Bool, true, false}
+use Rattle.mrd_format.specs.declared.rules.Layout.{Layout}
+use Rattle.mrd_format.specs.declared.rules.Layout.the-variants.{Packed, Aligned}
+use Rattle.mrd_format.specs.declared.rules.Rules as format
+use Rattle.c_rules.specs.declared.Rules.{Rules}
+
+abbrev pub layoutOf : Bool → Layout
+layoutOf true = Aligned
+layoutOf false = Packed
+
+abbrev pub rulesOf : Rules → format.Rules
+rulesOf r = record { layout = layoutOf (r .«aligned_waveforms») }

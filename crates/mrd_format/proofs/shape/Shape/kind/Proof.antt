@@ -1,0 +1,29 @@
+-- `Shape::kind` meets its contract: a waveform's kind has the layout of its shape.
+-- Assumes nothing.
+use borrow.Author.Needs.{needs}
+use Rattle.mrd_format.proofs.shape.Shape.kind.Statement.{statement}
+use Rattle.mrd_format.proofs.shape.Shape.kind.Tie as tie
+
+returns-8 : tie.Need-returns-8
+returns-8 c = rw (c .before .self .given .1)
+
+pub kind-spec : {M : Type 1} → statement M
+kind-spec =
+    tie.close
+    (tie.spec
+    (λ c. search needs)
+    (λ c. search needs)
+    (λ c. search needs)
+    (λ c. search needs)
+    (λ c. search needs)
+    (λ c. search needs)
+    (λ c. search needs)
+    (λ c. search needs)
+    (λ c. search needs)
+    (λ c. search needs)
+    (λ c. search needs)
+    (λ c. search needs)
+    (λ c. search needs)
+    (λ c. search needs)
+    (λ c. search needs)
+    returns-8)

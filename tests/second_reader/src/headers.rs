@@ -1,5 +1,5 @@
-//! The three fixed headers, one table each (document 01, "Acquisition header", "Image header",
-//! "Waveform header"). Offsets count from the header's first byte, without the id.
+//! The fixed headers, one table each (document 01, "Acquisition header", "Image header",
+//! "Waveform header"; document 02, E3). Offsets count from the header's first byte, without the id.
 
 use crate::numbers;
 
@@ -31,6 +31,7 @@ pub struct Entry {
     pub element: Type,
 }
 
+/// A header's size and its entries. Bytes that no entry covers are filler.
 #[derive(Debug)]
 pub struct Table {
     pub size: usize,
@@ -132,6 +133,22 @@ pub static WAVEFORM: Table = Table {
     ],
 };
 
+/// The same entries in the same order, at other offsets (document 02, E3).
+pub static ALIGNED_WAVEFORM: Table = Table {
+    size: 40,
+    entries: &[
+        entry("version", 0, 1, Type::U16),
+        entry("flags", 8, 1, Type::U64),
+        entry("measurement_uid", 16, 1, Type::U32),
+        entry("scan_counter", 20, 1, Type::U32),
+        entry("time_stamp", 24, 1, Type::U32),
+        entry("number_of_samples", 28, 1, Type::U16),
+        entry("channels", 30, 1, Type::U16),
+        entry("sample_time_us", 32, 1, Type::F32),
+        entry("waveform_id", 36, 1, Type::U16),
+    ],
+};
+
 impl Table {
     /// The entry of that name, if this header has one.
     pub fn entry(&self, name: &str) -> Option<&'static Entry> {
@@ -147,6 +164,25 @@ impl Table {
             }
         }
         elements
+    }
+
+    /// The bytes of the header that no element covers: they carry nothing.
+    pub fn filler(&self) -> Vec<usize> {
+        let mut filler = Vec::new();
+        let mut covered = 0;
+        for entry in self.entries {
+            filler.extend(covered..entry.offset);
+            covered = entry.offset + entry.count * entry.element.size();
+        }
+        filler.extend(covered..self.size);
+        filler
+    }
+
+    /// Makes the filler of a header zero.
+    pub fn clear_filler(&self, header: &mut [u8]) {
+        for at in self.filler() {
+            header[at] = 0;
+        }
     }
 
     /// The type of the element that starts at `offset`, if one does.
@@ -187,16 +223,47 @@ mod tests {
     use super::*;
 
     #[test]
-    fn each_header_is_covered_without_gap_or_overlap() {
-        for (table, size) in [(&ACQUISITION, 340), (&IMAGE, 198), (&WAVEFORM, 32)] {
-            let mut at = 0;
-            for entry in table.entries {
-                assert_eq!(entry.offset, at, "{}", entry.name);
-                at += entry.count * entry.element.size();
-            }
-            assert_eq!(at, size);
+    fn each_header_is_covered_without_overlap_and_without_gap_but_for_its_filler() {
+        let aligned_filler = vec![2, 3, 4, 5, 6, 7, 38, 39];
+        for (table, size, filler) in [
+            (&ACQUISITION, 340, vec![]),
+            (&IMAGE, 198, vec![]),
+            (&WAVEFORM, 32, vec![]),
+            (&ALIGNED_WAVEFORM, 40, aligned_filler),
+        ] {
             assert_eq!(table.size, size);
+            assert_eq!(table.filler(), filler);
+            let mut covered = filler;
+            for (offset, element) in table.elements() {
+                covered.extend(offset..offset + element.size());
+            }
+            covered.sort();
+            let all: Vec<usize> = (0..size).collect();
+            assert_eq!(covered, all);
         }
+    }
+
+    #[test]
+    fn both_waveform_headers_have_the_same_entries_in_the_same_order() {
+        assert_eq!(WAVEFORM.entries.len(), ALIGNED_WAVEFORM.entries.len());
+        for (packed, aligned) in WAVEFORM.entries.iter().zip(ALIGNED_WAVEFORM.entries) {
+            assert_eq!(packed.name, aligned.name);
+            assert_eq!(packed.count, aligned.count);
+            assert_eq!(packed.element, aligned.element);
+            // Aligned: each element lies at a multiple of its own size.
+            assert_eq!(aligned.offset % aligned.element.size(), 0);
+        }
+    }
+
+    #[test]
+    fn filler_and_nothing_else_is_cleared() {
+        let mut header = [0xFF; 48];
+        ALIGNED_WAVEFORM.clear_filler(&mut header);
+        let zeros: Vec<usize> = (0..48).filter(|&at| header[at] == 0).collect();
+        assert_eq!(zeros, [2, 3, 4, 5, 6, 7, 38, 39]);
+        let mut header = [0xFF; 340];
+        ACQUISITION.clear_filler(&mut header);
+        assert_eq!(header, [0xFF; 340]);
     }
 
     #[test]
@@ -212,6 +279,9 @@ mod tests {
         assert_eq!(IMAGE.element_at(198), None);
         assert_eq!(WAVEFORM.element_at(30), Some(Type::U16));
         assert_eq!(WAVEFORM.element_at(32), None);
+        assert_eq!(ALIGNED_WAVEFORM.element_at(36), Some(Type::U16));
+        assert_eq!(ALIGNED_WAVEFORM.element_at(38), None);
+        assert_eq!(ALIGNED_WAVEFORM.element_at(40), None);
         assert_eq!(ACQUISITION.element_at(u64::MAX), None);
     }
 

@@ -2,6 +2,7 @@
 
 use crate::numbers;
 use crate::refusal::{Refusal, Refused};
+use crate::rules::Rules;
 use crate::stream::{records, Record};
 
 /// The index in memory: one place for each record in each of three given columns. They may be
@@ -50,10 +51,10 @@ impl<'a> GivenIndex<'a> {
 }
 
 /// A record's scan counter; 0 where the kind has none, as an image.
-fn scan_counter(stream: &[u8], record: &Record) -> u32 {
+fn scan_counter(rules: Rules, stream: &[u8], record: &Record) -> u32 {
     let kind = record.detail.kind();
     let has_counter = kind
-        .table()
+        .table(rules)
         .filter(|table| table.entry("scan_counter").is_some());
     match has_counter {
         Some(table) => table.whole(&stream[record.start as usize + 2..], "scan_counter", 0) as u32,
@@ -77,13 +78,13 @@ fn push_number(bytes: &mut Vec<u8>, width: usize, number: u64) {
     numbers::put(bytes, at, width, number);
 }
 
-fn file_of(stream: &[u8], records: &[Record]) -> Vec<u8> {
+fn file_of(rules: Rules, stream: &[u8], records: &[Record]) -> Vec<u8> {
     let mut bytes = Vec::new();
     put_tagged(&mut bytes, 1, &[(2, 1)]);
     put_tagged(&mut bytes, 2, &[(8, stream.len() as u64)]);
     for record in records {
         let id = u64::from(record.detail.kind().id());
-        let counter = u64::from(scan_counter(stream, record));
+        let counter = u64::from(scan_counter(rules, stream, record));
         put_tagged(&mut bytes, 3, &[(8, record.start), (2, id), (4, counter)]);
     }
     put_tagged(&mut bytes, 4, &[(4, records.len() as u64)]);
@@ -91,14 +92,14 @@ fn file_of(stream: &[u8], records: &[Record]) -> Vec<u8> {
 }
 
 /// The stream's index file, whole.
-pub fn index_bytes(stream: &[u8]) -> Result<Vec<u8>, Refusal> {
-    Ok(file_of(stream, &records(stream)?))
+pub fn index_bytes(rules: Rules, stream: &[u8]) -> Result<Vec<u8>, Refusal> {
+    Ok(file_of(rules, stream, &records(rules, stream)?))
 }
 
 /// Fills the front of `output` with the index file and gives its length: the stream refusal,
 /// then 14.
-pub fn write_index(stream: &[u8], output: &mut [u8]) -> Result<u64, Refused> {
-    let bytes = index_bytes(stream)?;
+pub fn write_index(rules: Rules, stream: &[u8], output: &mut [u8]) -> Result<u64, Refused> {
+    let bytes = index_bytes(rules, stream)?;
     if output.len() < bytes.len() {
         return Err(Refused::Other(14));
     }
@@ -107,11 +108,11 @@ pub fn write_index(stream: &[u8], output: &mut [u8]) -> Result<u64, Refused> {
 }
 
 /// The three columns of an accepted stream.
-pub fn own_columns(stream: &[u8]) -> Result<OwnColumns, Refusal> {
-    Ok(columns_of(stream, &records(stream)?))
+pub fn own_columns(rules: Rules, stream: &[u8]) -> Result<OwnColumns, Refusal> {
+    Ok(columns_of(rules, stream, &records(rules, stream)?))
 }
 
-fn columns_of(stream: &[u8], records: &[Record]) -> OwnColumns {
+fn columns_of(rules: Rules, stream: &[u8], records: &[Record]) -> OwnColumns {
     let starts = records.iter().map(|record| record.start).collect();
     let ids = records
         .iter()
@@ -119,7 +120,7 @@ fn columns_of(stream: &[u8], records: &[Record]) -> OwnColumns {
         .collect();
     let counters = records
         .iter()
-        .map(|record| scan_counter(stream, record))
+        .map(|record| scan_counter(rules, stream, record))
         .collect();
     (starts, ids, counters)
 }
@@ -127,12 +128,13 @@ fn columns_of(stream: &[u8], records: &[Record]) -> OwnColumns {
 /// Fills the front of the three columns and gives the record count: the stream refusal, then 14
 /// if any column is too short. Later places keep their content.
 pub fn fill_columns(
+    rules: Rules,
     stream: &[u8],
     starts: &mut [u64],
     ids: &mut [u16],
     counters: &mut [u32],
 ) -> Result<u64, Refused> {
-    let (own_starts, own_ids, own_counters) = own_columns(stream)?;
+    let (own_starts, own_ids, own_counters) = own_columns(rules, stream)?;
     let count = own_starts.len();
     if starts.len() < count || ids.len() < count || counters.len() < count {
         return Err(Refused::Other(14));
@@ -144,19 +146,24 @@ pub fn fill_columns(
 }
 
 /// Whether the given index is the one this accepted stream yields. No index agrees.
-pub fn agrees(stream: &[u8], given: GivenIndex) -> Result<bool, Refusal> {
-    Ok(agrees_with(stream, &records(stream)?, given))
+pub fn agrees(rules: Rules, stream: &[u8], given: GivenIndex) -> Result<bool, Refusal> {
+    Ok(agrees_with(rules, stream, &records(rules, stream)?, given))
 }
 
 /// The same for a stream whose records are known.
-pub(crate) fn agrees_with(stream: &[u8], records: &[Record], given: GivenIndex) -> bool {
+pub(crate) fn agrees_with(
+    rules: Rules,
+    stream: &[u8],
+    records: &[Record],
+    given: GivenIndex,
+) -> bool {
     if let Some(bytes) = given.file {
-        if bytes != file_of(stream, records) {
+        if bytes != file_of(rules, stream, records) {
             return false;
         }
     }
     if let Some(columns) = given.columns {
-        let (starts, ids, counters) = columns_of(stream, records);
+        let (starts, ids, counters) = columns_of(rules, stream, records);
         // `get` gives nothing where a column is too short.
         let count = records.len();
         if columns.starts.get(..count) != Some(&starts[..])
@@ -172,16 +179,19 @@ pub(crate) fn agrees_with(stream: &[u8], records: &[Record], given: GivenIndex) 
 #[cfg(test)]
 mod tests {
     use crate::kinds::Kind;
+    use crate::rules::Rules;
 
     #[test]
     fn only_acquisitions_and_waveforms_have_a_scan_counter() {
-        let with: Vec<Kind> = Kind::ALL
-            .into_iter()
-            .filter(|kind| {
-                kind.table()
-                    .is_some_and(|table| table.entry("scan_counter").is_some())
-            })
-            .collect();
-        assert_eq!(with, [Kind::Acquisition, Kind::Waveform]);
+        for rules in Rules::ALL {
+            let with: Vec<Kind> = Kind::ALL
+                .into_iter()
+                .filter(|kind| {
+                    kind.table(rules)
+                        .is_some_and(|table| table.entry("scan_counter").is_some())
+                })
+                .collect();
+            assert_eq!(with, [Kind::Acquisition, Kind::Waveform]);
+        }
     }
 }

@@ -2,11 +2,17 @@
 
 use crate::mask::Mask;
 use crate::message::Detail;
+use crate::rules::{Layout, Rules};
 use crate::stream::records;
 use std::fmt::Write;
 
 /// The most bytes that the listing program reads from its standard input.
 pub const MOST_INPUT: usize = 65_536;
+
+/// The one layout that the listing program knows (document 02, E3).
+const LISTED: Rules = Rules {
+    layout: Layout::Packed,
+};
 
 /// The whole standard output for this standard input; every line ends in one line feed.
 pub fn listing(input: &[u8]) -> String {
@@ -14,7 +20,7 @@ pub fn listing(input: &[u8]) -> String {
         return "input over 65536 bytes\n".to_string();
     }
     let mut lines = String::new();
-    match records(input) {
+    match records(LISTED, input) {
         Ok(records) => {
             lines.push_str("record id start bytes\n");
             for record in &records {

@@ -4,6 +4,7 @@ use crate::headers::{Table, IMAGE};
 use crate::kinds::Kind;
 use crate::mask::{mask, Mask};
 use crate::numbers;
+use crate::rules::Rules;
 use crate::{LARGEST_MESSAGE, NAME_FIELD};
 
 /// A message's kind with that kind's own numbers.
@@ -125,17 +126,17 @@ impl Detail {
     }
 
     /// The whole message's bytes, id included.
-    pub fn size(&self) -> u128 {
+    pub fn size(&self, rules: Rules) -> u128 {
         let body: u128 = self.body().iter().map(|&(_, length)| length).sum();
-        2 + self.kind().fixed_size() as u128 + body
+        2 + self.kind().fixed_size(rules) as u128 + body
     }
 
     /// Where a part starts, counted from the message's first byte, and its length.
-    pub fn part(&self, wanted: PartName) -> Option<(u128, u128)> {
+    pub fn part(&self, rules: Rules, wanted: PartName) -> Option<(u128, u128)> {
         if let (Detail::ConfigurationName { length }, PartName::Name) = (self, wanted) {
             return Some((2, u128::from(*length)));
         }
-        let mut start = 2 + self.kind().fixed_size() as u128;
+        let mut start = 2 + self.kind().fixed_size(rules) as u128;
         for (name, length) in self.body() {
             if name == wanted {
                 return Some((start, length));
@@ -158,8 +159,8 @@ pub fn element_size(data_type: u16) -> Option<u128> {
 }
 
 /// Checks 4, 6, 7 and 8, which look at nothing but the fixed header.
-pub fn header_fault(kind: Kind, header: &[u8]) -> Option<u32> {
-    let table = kind.table()?;
+pub fn header_fault(rules: Rules, kind: Kind, header: &[u8]) -> Option<u32> {
+    let table = kind.table(rules)?;
     if table.whole(header, "version", 0) != 1 {
         return Some(4);
     }
@@ -208,8 +209,8 @@ pub fn put_stated_length(message: &mut [u8], attribute_length: u64) {
 }
 
 /// The own numbers of a message that has a fixed header.
-pub fn header_detail(kind: Kind, header: &[u8], attribute_length: u64) -> Detail {
-    let table = kind.table().expect("a kind with a fixed header");
+pub fn header_detail(rules: Rules, kind: Kind, header: &[u8], attribute_length: u64) -> Detail {
+    let table = kind.table(rules).expect("a kind with a fixed header");
     let number = |name, i| table.whole(header, name, i) as u16;
     match kind {
         Kind::Acquisition => Detail::Acquisition {
@@ -251,23 +252,23 @@ pub fn name_length(field: &[u8]) -> Option<usize> {
 }
 
 /// Checks 3 to 11 of a message of known kind. `left` is what remains of the stream from the id on.
-pub fn judge(kind: Kind, left: &[u8]) -> Result<Detail, u32> {
+pub fn judge(rules: Rules, kind: Kind, left: &[u8]) -> Result<Detail, u32> {
     let after_id = &left[2..];
-    if after_id.len() < kind.fixed_size() {
+    if after_id.len() < kind.fixed_size(rules) {
         return Err(3);
     }
-    let detail = fixed_detail(kind, after_id)?;
-    if detail.size() > LARGEST_MESSAGE {
+    let detail = fixed_detail(rules, kind, after_id)?;
+    if detail.size(rules) > LARGEST_MESSAGE {
         return Err(10);
     }
-    if detail.size() > left.len() as u128 {
+    if detail.size(rules) > left.len() as u128 {
         return Err(11);
     }
     Ok(detail)
 }
 
 /// Checks 4 to 9, and the message's own numbers if it passes them.
-fn fixed_detail(kind: Kind, fixed: &[u8]) -> Result<Detail, u32> {
+fn fixed_detail(rules: Rules, kind: Kind, fixed: &[u8]) -> Result<Detail, u32> {
     match kind {
         Kind::Close => Ok(Detail::Close),
         Kind::ConfigurationName => match name_length(fixed) {
@@ -280,22 +281,22 @@ fn fixed_detail(kind: Kind, fixed: &[u8]) -> Result<Detail, u32> {
             Ok(text_detail(kind, numbers::read(fixed, 0, 4)))
         }
         Kind::Acquisition | Kind::Waveform => {
-            let header = &fixed[..kind.header_size()];
-            match header_fault(kind, header) {
+            let header = &fixed[..kind.header_size(rules)];
+            match header_fault(rules, kind, header) {
                 Some(number) => Err(number),
-                None => Ok(header_detail(kind, header, 0)),
+                None => Ok(header_detail(rules, kind, header, 0)),
             }
         }
         Kind::Image => {
-            let header = &fixed[..kind.header_size()];
-            if let Some(number) = header_fault(kind, header) {
+            let header = &fixed[..kind.header_size(rules)];
+            if let Some(number) = header_fault(rules, kind, header) {
                 return Err(number);
             }
-            let attribute_length = numbers::read(fixed, kind.header_size(), 8);
+            let attribute_length = numbers::read(fixed, kind.header_size(rules), 8);
             if lengths_differ(header, attribute_length) {
                 return Err(9);
             }
-            Ok(header_detail(kind, header, attribute_length))
+            Ok(header_detail(rules, kind, header, attribute_length))
         }
     }
 }

@@ -1,16 +1,17 @@
 //! Questions about a stream: place and kind, field, find; and flags and counter steps, which
 //! need no stream. A question gives the stream refusal first, then 15, then 16, 17 or 20.
 
-use crate::headers::{read_element, Field};
+use crate::headers::{read_element, Field, ACQUISITION};
 use crate::index::{agrees_with, GivenIndex};
 use crate::kinds::Kind;
 use crate::refusal::Refused;
+use crate::rules::Rules;
 use crate::stream::{records, Record};
 
 /// The records of an accepted stream with which the given index, if any, agrees.
-fn trusted_records(stream: &[u8], given: GivenIndex) -> Result<Vec<Record>, Refused> {
-    let records = records(stream)?;
-    if agrees_with(stream, &records, given) {
+fn trusted_records(rules: Rules, stream: &[u8], given: GivenIndex) -> Result<Vec<Record>, Refused> {
+    let records = records(rules, stream)?;
+    if agrees_with(rules, stream, &records, given) {
         Ok(records)
     } else {
         Err(Refused::Other(15))
@@ -18,8 +19,13 @@ fn trusted_records(stream: &[u8], given: GivenIndex) -> Result<Vec<Record>, Refu
 }
 
 /// Place and kind of the record of that number.
-pub fn kind_and_place(stream: &[u8], given: GivenIndex, number: u64) -> Result<Record, Refused> {
-    let records = trusted_records(stream, given)?;
+pub fn kind_and_place(
+    rules: Rules,
+    stream: &[u8],
+    given: GivenIndex,
+    number: u64,
+) -> Result<Record, Refused> {
+    let records = trusted_records(rules, stream, given)?;
     records
         .into_iter()
         .find(|record| record.number == number)
@@ -27,21 +33,27 @@ pub fn kind_and_place(stream: &[u8], given: GivenIndex, number: u64) -> Result<R
 }
 
 /// The fixed header's bytes of a record; empty for kinds without one.
-fn header_of<'a>(stream: &'a [u8], record: &Record) -> &'a [u8] {
-    &stream[record.start as usize + 2..][..record.detail.kind().header_size()]
+fn header_of<'a>(rules: Rules, stream: &'a [u8], record: &Record) -> &'a [u8] {
+    &stream[record.start as usize + 2..][..record.detail.kind().header_size(rules)]
 }
 
 /// The header element that starts at `offset`, counted from the header's first byte.
-pub fn field(stream: &[u8], given: GivenIndex, number: u64, offset: u64) -> Result<Field, Refused> {
-    let record = kind_and_place(stream, given, number)?;
+pub fn field(
+    rules: Rules,
+    stream: &[u8],
+    given: GivenIndex,
+    number: u64,
+    offset: u64,
+) -> Result<Field, Refused> {
+    let record = kind_and_place(rules, stream, given, number)?;
     let element = record
         .detail
         .kind()
-        .table()
+        .table(rules)
         .and_then(|table| table.element_at(offset));
     match element {
         Some(element) => Ok(read_element(
-            header_of(stream, &record),
+            header_of(rules, stream, &record),
             offset as usize,
             element,
         )),
@@ -51,11 +63,17 @@ pub fn field(stream: &[u8], given: GivenIndex, number: u64, offset: u64) -> Resu
 
 /// The number of the first acquisition from record `from` on with exactly these counters. A list
 /// that has not seventeen numbers equals none.
-pub fn find(stream: &[u8], given: GivenIndex, from: u64, counters: &[u16]) -> Result<u64, Refused> {
-    for record in trusted_records(stream, given)? {
+pub fn find(
+    rules: Rules,
+    stream: &[u8],
+    given: GivenIndex,
+    from: u64,
+    counters: &[u16],
+) -> Result<u64, Refused> {
+    for record in trusted_records(rules, stream, given)? {
         if record.number >= from
             && record.detail.kind() == Kind::Acquisition
-            && counters_of(header_of(stream, &record)) == counters
+            && counters_of(header_of(rules, stream, &record)) == counters
         {
             return Ok(record.number);
         }
@@ -65,11 +83,8 @@ pub fn find(stream: &[u8], given: GivenIndex, from: u64, counters: &[u16]) -> Re
 
 /// The seventeen counters of an acquisition header.
 pub fn counters_of(header: &[u8]) -> Vec<u16> {
-    let table = Kind::Acquisition
-        .table()
-        .expect("acquisitions have a header");
     (0..17)
-        .map(|i| table.whole(header, "counters", i) as u16)
+        .map(|i| ACQUISITION.whole(header, "counters", i) as u16)
         .collect()
 }
 

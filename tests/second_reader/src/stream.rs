@@ -5,6 +5,7 @@ use crate::kinds::Kind;
 use crate::message::{judge, Detail, PartName, STATED_LENGTH};
 use crate::numbers;
 use crate::refusal::Refusal;
+use crate::rules::Rules;
 use crate::MOST_MESSAGES;
 
 /// A record's place (number from 0, start, size with the id) and its kind with its own numbers.
@@ -49,12 +50,12 @@ impl Seen {
 }
 
 /// The number of records of an accepted stream, or its stream refusal.
-pub fn check(stream: &[u8]) -> Result<u64, Refusal> {
-    records(stream).map(|records| records.len() as u64)
+pub fn check(rules: Rules, stream: &[u8]) -> Result<u64, Refusal> {
+    records(rules, stream).map(|records| records.len() as u64)
 }
 
 /// The records of an accepted stream in their order, or its stream refusal.
-pub fn records(stream: &[u8]) -> Result<Vec<Record>, Refusal> {
+pub fn records(rules: Rules, stream: &[u8]) -> Result<Vec<Record>, Refusal> {
     let mut records = Vec::new();
     let mut seen = Seen::default();
     let mut at = 0;
@@ -64,16 +65,16 @@ pub fn records(stream: &[u8]) -> Result<Vec<Record>, Refusal> {
             return Ok(records);
         }
         let number = records.len() as u64;
-        match next(number, left, seen) {
+        match next(rules, number, left, seen) {
             Ok(detail) => {
                 seen.note(detail.kind());
                 records.push(Record {
                     number,
                     start: at as u64,
-                    size: detail.size() as u64,
+                    size: detail.size(rules) as u64,
                     detail,
                 });
-                at += detail.size() as usize;
+                at += detail.size(rules) as usize;
             }
             Err(refused) => {
                 return Err(Refusal {
@@ -88,7 +89,7 @@ pub fn records(stream: &[u8]) -> Result<Vec<Record>, Refusal> {
 
 /// The checks at one message, in the paper's order: 12 after a close, 13, 19, 1, 2, 12, then
 /// 3 to 11.
-fn next(number: u64, left: &[u8], seen: Seen) -> Result<Detail, u32> {
+fn next(rules: Rules, number: u64, left: &[u8], seen: Seen) -> Result<Detail, u32> {
     if seen.close {
         return Err(12);
     }
@@ -108,33 +109,33 @@ fn next(number: u64, left: &[u8], seen: Seen) -> Result<Detail, u32> {
     if !seen.allows(kind) {
         return Err(12);
     }
-    judge(kind, left)
+    judge(rules, kind, left)
 }
 
 /// A record where compared: its kind and whole content.
 #[derive(Clone, Debug, PartialEq, Eq)]
 pub struct Content {
     pub kind: Kind,
-    /// Every element of the fixed header, in the table's order. An image's attribute length is
-    /// none of them (document 02, E1): the attributes themselves have it.
+    /// Every element of the fixed header, in the table's order. Filler is none, and neither is an
+    /// image's attribute length (document 02, E3 and E1): the attributes themselves have it.
     pub fields: Vec<Field>,
     pub parts: Vec<(PartName, Vec<u8>)>,
 }
 
 /// The record list of an accepted stream, without any use of the normal form.
-pub fn contents(stream: &[u8]) -> Result<Vec<Content>, Refusal> {
-    let records = records(stream)?;
+pub fn contents(rules: Rules, stream: &[u8]) -> Result<Vec<Content>, Refusal> {
+    let records = records(rules, stream)?;
     Ok(records
         .iter()
-        .map(|record| content(stream, record))
+        .map(|record| content(rules, stream, record))
         .collect())
 }
 
-fn content(stream: &[u8], record: &Record) -> Content {
+fn content(rules: Rules, stream: &[u8], record: &Record) -> Content {
     let message = &stream[record.start as usize..][..record.size as usize];
     let kind = record.detail.kind();
     let mut fields = Vec::new();
-    if let Some(table) = kind.table() {
+    if let Some(table) = kind.table(rules) {
         let left_out = table.entry(STATED_LENGTH).map(|entry| entry.offset);
         for (offset, element) in table.elements() {
             if Some(offset) != left_out {
@@ -144,7 +145,7 @@ fn content(stream: &[u8], record: &Record) -> Content {
     }
     let mut parts = Vec::new();
     for name in PartName::ALL {
-        if let Some((start, length)) = record.detail.part(name) {
+        if let Some((start, length)) = record.detail.part(rules, name) {
             parts.push((name, message[start as usize..][..length as usize].to_vec()));
         }
     }

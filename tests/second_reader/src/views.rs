@@ -4,7 +4,7 @@ use crate::index::GivenIndex;
 use crate::message::{Detail, PartName};
 use crate::questions::kind_and_place;
 use crate::refusal::Refused;
-use crate::stream::Record;
+use crate::rules::Rules;
 
 /// A part of the given stream. An empty one still has its natural place.
 #[derive(Clone, Copy, Debug, PartialEq, Eq)]
@@ -27,8 +27,16 @@ pub fn bytes_of(stream: &[u8], part: Part) -> &[u8] {
     &stream[part.start as usize..][..part.length as usize]
 }
 
-fn part_of(record: &Record, name: PartName) -> Result<Part, Refused> {
-    match record.detail.part(name) {
+/// The named part of the record of that number.
+fn part_of(
+    rules: Rules,
+    stream: &[u8],
+    given: GivenIndex,
+    number: u64,
+    name: PartName,
+) -> Result<Part, Refused> {
+    let record = kind_and_place(rules, stream, given, number)?;
+    match record.detail.part(rules, name) {
         Some((start, length)) => Ok(Part {
             start: record.start + start as u64,
             length: length as u64,
@@ -38,41 +46,45 @@ fn part_of(record: &Record, name: PartName) -> Result<Part, Refused> {
 }
 
 /// The bytes of a configuration text, header text or text.
-pub fn text(stream: &[u8], given: GivenIndex, number: u64) -> Result<Part, Refused> {
-    part_of(&kind_and_place(stream, given, number)?, PartName::Text)
+pub fn text(rules: Rules, stream: &[u8], given: GivenIndex, number: u64) -> Result<Part, Refused> {
+    part_of(rules, stream, given, number, PartName::Text)
 }
 
 /// A configuration name: the bytes before the first zero.
-pub fn name(stream: &[u8], given: GivenIndex, number: u64) -> Result<Part, Refused> {
-    part_of(&kind_and_place(stream, given, number)?, PartName::Name)
+pub fn name(rules: Rules, stream: &[u8], given: GivenIndex, number: u64) -> Result<Part, Refused> {
+    part_of(rules, stream, given, number, PartName::Name)
 }
 
 /// An image's attributes.
-pub fn attributes(stream: &[u8], given: GivenIndex, number: u64) -> Result<Part, Refused> {
-    part_of(
-        &kind_and_place(stream, given, number)?,
-        PartName::Attributes,
-    )
+pub fn attributes(
+    rules: Rules,
+    stream: &[u8],
+    given: GivenIndex,
+    number: u64,
+) -> Result<Part, Refused> {
+    part_of(rules, stream, given, number, PartName::Attributes)
 }
 
 /// An acquisition's trajectory; empty and accepted with 0 dimensions.
-pub fn trajectory(stream: &[u8], given: GivenIndex, number: u64) -> Result<Part, Refused> {
-    part_of(
-        &kind_and_place(stream, given, number)?,
-        PartName::Trajectory,
-    )
+pub fn trajectory(
+    rules: Rules,
+    stream: &[u8],
+    given: GivenIndex,
+    number: u64,
+) -> Result<Part, Refused> {
+    part_of(rules, stream, given, number, PartName::Trajectory)
 }
 
 /// The samples of one channel of an acquisition. A waveform has no such view.
 pub fn channel(
+    rules: Rules,
     stream: &[u8],
     given: GivenIndex,
     number: u64,
     channel: u64,
 ) -> Result<Part, Refused> {
-    let record = kind_and_place(stream, given, number)?;
-    let data = part_of(&record, PartName::Samples)?;
-    match record.detail {
+    let data = part_of(rules, stream, given, number, PartName::Samples)?;
+    match kind_and_place(rules, stream, given, number)?.detail {
         Detail::Acquisition {
             samples,
             active_channels,
@@ -89,11 +101,21 @@ pub fn channel(
 }
 
 /// An image's pixels.
-pub fn pixels(stream: &[u8], given: GivenIndex, number: u64) -> Result<Part, Refused> {
-    part_of(&kind_and_place(stream, given, number)?, PartName::Pixels)
+pub fn pixels(
+    rules: Rules,
+    stream: &[u8],
+    given: GivenIndex,
+    number: u64,
+) -> Result<Part, Refused> {
+    part_of(rules, stream, given, number, PartName::Pixels)
 }
 
 /// The data of a waveform, all channels.
-pub fn waveform(stream: &[u8], given: GivenIndex, number: u64) -> Result<Part, Refused> {
-    part_of(&kind_and_place(stream, given, number)?, PartName::Waveform)
+pub fn waveform(
+    rules: Rules,
+    stream: &[u8],
+    given: GivenIndex,
+    number: u64,
+) -> Result<Part, Refused> {
+    part_of(rules, stream, given, number, PartName::Waveform)
 }

@@ -4,6 +4,7 @@ use crate::kinds::Kind;
 use crate::message::{header_detail, header_fault, text_detail};
 use crate::message::{put_stated_length, Detail, PartName};
 use crate::numbers;
+use crate::rules::Rules;
 use crate::{LARGEST_MESSAGE, NAME_FIELD};
 
 /// The seven variable parts; those that the kind lacks must be empty.
@@ -34,8 +35,10 @@ impl<'a> Parts<'a> {
 
 /// Puts one message into `output` from `position` on and gives the position after it. Refusals
 /// are 2 to 8 and 10 in order, then 18, then 14; a refusal writes no byte. There is no 9: what an
-/// image header holds as attribute length is not looked at, and the true one is put there.
+/// image header holds as attribute length is not looked at, and the true one is put there; nor is
+/// what any header holds as filler, and zeros are put there.
 pub fn write(
+    rules: Rules,
     id: u16,
     header: &[u8],
     parts: &Parts,
@@ -43,29 +46,29 @@ pub fn write(
     position: u64,
 ) -> Result<u64, u32> {
     let kind = Kind::of_id(id).ok_or(2_u32)?;
-    let detail = judge_given(kind, header, parts)?;
-    if detail.size() > LARGEST_MESSAGE {
+    let detail = judge_given(rules, kind, header, parts)?;
+    if detail.size(rules) > LARGEST_MESSAGE {
         return Err(10);
     }
-    if !parts_fit(&detail, parts) {
+    if !parts_fit(rules, &detail, parts) {
         return Err(18);
     }
-    let end = u128::from(position) + detail.size();
+    let end = u128::from(position) + detail.size(rules);
     if end > output.len() as u128 {
         return Err(14);
     }
-    let message = message_bytes(&detail, header, parts);
+    let message = message_bytes(rules, &detail, header, parts);
     output[position as usize..end as usize].copy_from_slice(&message);
     Ok(end as u64)
 }
 
 /// Checks 3 to 8, and the message's own numbers: an image's attribute length and a text's length
 /// are those of the given bytes.
-fn judge_given(kind: Kind, header: &[u8], parts: &Parts) -> Result<Detail, u32> {
-    if header.len() != kind.header_size() {
+fn judge_given(rules: Rules, kind: Kind, header: &[u8], parts: &Parts) -> Result<Detail, u32> {
+    if header.len() != kind.header_size(rules) {
         return Err(3);
     }
-    if let Some(number) = header_fault(kind, header) {
+    if let Some(number) = header_fault(rules, kind, header) {
         return Err(number);
     }
     match kind {
@@ -84,24 +87,27 @@ fn judge_given(kind: Kind, header: &[u8], parts: &Parts) -> Result<Detail, u32> 
         Kind::Acquisition | Kind::Image | Kind::Waveform => {
             // Of use to an image alone.
             let attribute_length = parts.attributes.len() as u64;
-            Ok(header_detail(kind, header, attribute_length))
+            Ok(header_detail(rules, kind, header, attribute_length))
         }
     }
 }
 
 /// Check 18: each part has the length that the header says, and those of other kinds are empty.
-fn parts_fit(detail: &Detail, parts: &Parts) -> bool {
+fn parts_fit(rules: Rules, detail: &Detail, parts: &Parts) -> bool {
     PartName::ALL.into_iter().all(|name| {
-        let wanted = detail.part(name).map_or(0, |(_, length)| length);
+        let wanted = detail.part(rules, name).map_or(0, |(_, length)| length);
         parts.get(name).len() as u128 == wanted
     })
 }
 
-fn message_bytes(detail: &Detail, header: &[u8], parts: &Parts) -> Vec<u8> {
+fn message_bytes(rules: Rules, detail: &Detail, header: &[u8], parts: &Parts) -> Vec<u8> {
     let kind = detail.kind();
-    let mut message = vec![0; detail.size() as usize];
+    let mut message = vec![0; detail.size(rules) as usize];
     numbers::put(&mut message, 0, 2, u64::from(kind.id()));
     message[2..2 + header.len()].copy_from_slice(header);
+    if let Some(table) = kind.table(rules) {
+        table.clear_filler(&mut message[2..]);
+    }
     if kind.is_text() {
         numbers::put(&mut message, 2, 4, parts.text.len() as u64);
     }
@@ -111,7 +117,7 @@ fn message_bytes(detail: &Detail, header: &[u8], parts: &Parts) -> Vec<u8> {
         numbers::put(&mut message, 2 + header.len(), 8, length);
     }
     for name in PartName::ALL {
-        if let Some((start, length)) = detail.part(name) {
+        if let Some((start, length)) = detail.part(rules, name) {
             message[start as usize..][..length as usize].copy_from_slice(parts.get(name));
         }
     }

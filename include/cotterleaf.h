@@ -41,6 +41,18 @@
 extern "C" {
 #endif
 
+/* ---- What the caller says of a stream ---- */
+
+/* The rules by which a stream is read or written, the same for the whole of it. Nothing in a stream tells them: the
+ * caller knows them from where the stream comes. A stream may be accepted under both layouts, with other records,
+ * and what belongs to one stream (a cursor, an index, a normal form) is asked for and compared under one choice.
+ * `{false}` is for waveform headers as MRD packs them, 32 bytes; `{true}` is for those of 40 bytes whose fields lie
+ * aligned (MRD_ALIGNED_WAVEFORM_..). The bytes between these fields are filler: reading does not look at them, no
+ * field starts there, and the normal form and the writer make them zero. */
+typedef struct {
+    bool aligned_waveforms;
+} mrd_rules;
+
 /* ---- Is it a stream, and where are its records? ---- */
 
 /* A stream's answer: with refusal 0 it is accepted and has `count` records. */
@@ -50,7 +62,7 @@ typedef struct {
     size_t count;
 } mrd_checked;
 
-mrd_checked mrd_check(const uint8_t *stream, size_t stream_length);
+mrd_checked mrd_check(mrd_rules rules, const uint8_t *stream, size_t stream_length);
 
 /* What an acquisition's channel mask says of its active channels. Only how many bits are set is looked at, not
  * which. A mask that differs is no fault: after a coil compression, say, it may still name the coils from before. */
@@ -76,7 +88,7 @@ typedef struct {
     uint16_t mask_ones;         /* counted in an acquisition's mask */
 } mrd_placed;
 
-mrd_placed mrd_place(const uint8_t *stream, size_t stream_length, size_t n);
+mrd_placed mrd_place(mrd_rules rules, const uint8_t *stream, size_t stream_length, size_t n);
 
 /* A walk: from mrd_beginning() on, each mrd_next yields one record and the cursor of what follows,
  * at a cost that does not grow with the stream; at the end it yields the stream's answer. Any cursor
@@ -94,10 +106,10 @@ typedef struct {
 } mrd_step;
 
 mrd_cursor mrd_beginning(void);
-mrd_step mrd_next(const uint8_t *stream, size_t stream_length, mrd_cursor cursor);
+mrd_step mrd_next(mrd_rules rules, const uint8_t *stream, size_t stream_length, mrd_cursor cursor);
 
 /* The answer of the rest of a stream, from a cursor on. `count` has the records before the cursor too. */
-mrd_checked mrd_check_from(const uint8_t *stream, size_t stream_length, mrd_cursor cursor);
+mrd_checked mrd_check_from(mrd_rules rules, const uint8_t *stream, size_t stream_length, mrd_cursor cursor);
 
 /* ---- What does a record hold? ---- */
 
@@ -120,7 +132,8 @@ typedef struct {
     size_t start, length;
 } mrd_view_place;
 
-mrd_view_place mrd_view(const uint8_t *stream, size_t stream_length, size_t n, uint32_t part, size_t channel);
+mrd_view_place mrd_view(mrd_rules rules, const uint8_t *stream, size_t stream_length, size_t n, uint32_t part,
+                        size_t channel);
 
 /* The header element that starts at an offset: its type, and its value in the member for that type. */
 enum { MRD_WHOLE = 1, MRD_SIGNED = 2, MRD_FLOAT = 3 };
@@ -134,7 +147,7 @@ typedef struct {
     uint32_t float_bits; /* kept by its bits, a NaN's too: mrd_float_of gives the float */
 } mrd_field_answer;
 
-mrd_field_answer mrd_field(const uint8_t *stream, size_t stream_length, size_t n, size_t offset);
+mrd_field_answer mrd_field(mrd_rules rules, const uint8_t *stream, size_t stream_length, size_t n, size_t offset);
 
 /* The number of the first acquisition from record n on with these seventeen counters; else 16. */
 typedef struct {
@@ -143,14 +156,16 @@ typedef struct {
     size_t number;
 } mrd_found;
 
-mrd_found mrd_find(const uint8_t *stream, size_t stream_length, size_t n, const uint16_t counters[17]);
+mrd_found mrd_find(mrd_rules rules, const uint8_t *stream, size_t stream_length, size_t n,
+                   const uint16_t counters[17]);
 
 /* The same for the record that is due at a cursor of a walk, at a cost that does not grow with the stream: take
  * the cursor with which mrd_next yields the record. The stream's refusal where its message is refused, 16
  * where none is left. */
-mrd_view_place mrd_view_at(const uint8_t *stream, size_t stream_length, mrd_cursor cursor, uint32_t part,
-                           size_t channel);
-mrd_field_answer mrd_field_at(const uint8_t *stream, size_t stream_length, mrd_cursor cursor, size_t offset);
+mrd_view_place mrd_view_at(mrd_rules rules, const uint8_t *stream, size_t stream_length, mrd_cursor cursor,
+                           uint32_t part, size_t channel);
+mrd_field_answer mrd_field_at(mrd_rules rules, const uint8_t *stream, size_t stream_length, mrd_cursor cursor,
+                              size_t offset);
 
 /* The cursor at record n, made from two columns of an index (mrd_fill_columns), at a bounded cost; 16 where one of
  * them has no place n. The columns are believed: have mrd_columns_match compare them with the stream once. Then
@@ -161,8 +176,8 @@ typedef struct {
     mrd_cursor cursor;
 } mrd_cursor_answer;
 
-mrd_cursor_answer mrd_cursor_for(const uint64_t *starts, size_t starts_length, const uint16_t *ids,
-                                 size_t ids_length, size_t n);
+mrd_cursor_answer mrd_cursor_for(mrd_rules rules, const uint64_t *starts, size_t starts_length,
+                                 const uint16_t *ids, size_t ids_length, size_t n);
 
 /* ---- The same questions with an index given: 15 where it is not the stream's own ---- */
 
@@ -232,11 +247,12 @@ typedef struct {
     mrd_found found;
 } mrd_reply;
 
-mrd_reply mrd_ask_with_file(const uint8_t *stream, size_t stream_length, mrd_question question,
+mrd_reply mrd_ask_with_file(mrd_rules rules, const uint8_t *stream, size_t stream_length, mrd_question question,
                             const uint8_t *file, size_t file_length);
-mrd_reply mrd_ask_with_columns(const uint8_t *stream, size_t stream_length, mrd_question question,
-                               const uint64_t *starts, size_t starts_length, const uint16_t *ids,
-                               size_t ids_length, const uint32_t *counters, size_t counters_length);
+mrd_reply mrd_ask_with_columns(mrd_rules rules, const uint8_t *stream, size_t stream_length,
+                               mrd_question question, const uint64_t *starts, size_t starts_length,
+                               const uint16_t *ids, size_t ids_length, const uint32_t *counters,
+                               size_t counters_length);
 
 /* ---- Flags and scan counters ---- */
 
@@ -257,14 +273,16 @@ typedef struct {
     size_t length;
 } mrd_written;
 
-/* The normal form: two streams with the same records have the same. */
-mrd_written mrd_normal_form(const uint8_t *stream, size_t stream_length, uint8_t *out, size_t out_length);
+/* The normal form: two streams with the same records, under one choice of rules, have the same. */
+mrd_written mrd_normal_form(mrd_rules rules, const uint8_t *stream, size_t stream_length, uint8_t *out,
+                            size_t out_length);
 
 /* The index of a stream, as a file: 23 bytes, and 17 for each record. */
-mrd_written mrd_write_index(const uint8_t *stream, size_t stream_length, uint8_t *out, size_t out_length);
+mrd_written mrd_write_index(mrd_rules rules, const uint8_t *stream, size_t stream_length, uint8_t *out,
+                            size_t out_length);
 
 /* The same index as three columns, one place for each record. */
-mrd_written mrd_fill_columns(const uint8_t *stream, size_t stream_length, uint64_t *starts,
+mrd_written mrd_fill_columns(mrd_rules rules, const uint8_t *stream, size_t stream_length, uint64_t *starts,
                              size_t starts_length, uint16_t *ids, size_t ids_length, uint32_t *counters,
                              size_t counters_length);
 
@@ -274,27 +292,27 @@ typedef struct {
     size_t record, byte;
 } mrd_matched;
 
-mrd_matched mrd_index_matches(const uint8_t *stream, size_t stream_length, const uint8_t *file,
-                              size_t file_length);
-mrd_matched mrd_columns_match(const uint8_t *stream, size_t stream_length, const uint64_t *starts,
-                              size_t starts_length, const uint16_t *ids, size_t ids_length,
-                              const uint32_t *counters, size_t counters_length);
+mrd_matched mrd_index_matches(mrd_rules rules, const uint8_t *stream, size_t stream_length,
+                              const uint8_t *file, size_t file_length);
+mrd_matched mrd_columns_match(mrd_rules rules, const uint8_t *stream, size_t stream_length,
+                              const uint64_t *starts, size_t starts_length, const uint16_t *ids,
+                              size_t ids_length, const uint32_t *counters, size_t counters_length);
 
 /* Writes one message into `out` from `position` on, and answers the position after it. The header is that
- * of the kind, 340, 198 or 32 bytes, or empty; parts that the kind lacks are empty. An image's header is
- * written with the length of its attributes, whatever it holds there. Order and count are not judged:
- * mrd_check judges the whole stream. */
+ * of the kind, 340, 198 or 32 bytes (of an aligned waveform 40), or empty; parts that the kind lacks are empty.
+ * An image's header is written with the length of its attributes, whatever it holds there, and filler as zero.
+ * Order and count are not judged: mrd_check judges the whole stream. */
 typedef struct {
     mrd_refusal refusal;
     size_t position;
 } mrd_put;
 
-mrd_put mrd_write(uint16_t id, const uint8_t *header, size_t header_length, const uint8_t *name,
-                  size_t name_length, const uint8_t *text, size_t text_length, const uint8_t *trajectory,
-                  size_t trajectory_length, const uint8_t *samples, size_t samples_length,
-                  const uint8_t *attributes, size_t attributes_length, const uint8_t *pixels,
-                  size_t pixels_length, const uint8_t *waveform, size_t waveform_length, uint8_t *out,
-                  size_t out_length, size_t position);
+mrd_put mrd_write(mrd_rules rules, uint16_t id, const uint8_t *header, size_t header_length,
+                  const uint8_t *name, size_t name_length, const uint8_t *text, size_t text_length,
+                  const uint8_t *trajectory, size_t trajectory_length, const uint8_t *samples,
+                  size_t samples_length, const uint8_t *attributes, size_t attributes_length,
+                  const uint8_t *pixels, size_t pixels_length, const uint8_t *waveform,
+                  size_t waveform_length, uint8_t *out, size_t out_length, size_t position);
 
 /* The same with the parts in one struct: set what the kind has and leave the rest {0}. */
 typedef struct {
@@ -316,13 +334,13 @@ typedef struct {
     size_t waveform_length;
 } mrd_parts;
 
-static inline mrd_put mrd_write_parts(uint16_t id, const mrd_parts *p, uint8_t *out, size_t out_length,
-                                      size_t position)
+static inline mrd_put mrd_write_parts(mrd_rules rules, uint16_t id, const mrd_parts *p, uint8_t *out,
+                                      size_t out_length, size_t position)
 {
-    return mrd_write(id, p->header, p->header_length, p->name, p->name_length, p->text, p->text_length,
-                     p->trajectory, p->trajectory_length, p->samples, p->samples_length, p->attributes,
-                     p->attributes_length, p->pixels, p->pixels_length, p->waveform, p->waveform_length,
-                     out, out_length, position);
+    return mrd_write(rules, id, p->header, p->header_length, p->name, p->name_length, p->text,
+                     p->text_length, p->trajectory, p->trajectory_length, p->samples, p->samples_length,
+                     p->attributes, p->attributes_length, p->pixels, p->pixels_length, p->waveform,
+                     p->waveform_length, out, out_length, position);
 }
 
 /* The float with these bits. */

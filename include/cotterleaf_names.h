@@ -161,6 +161,21 @@ enum {
     MRD_WAVEFORM_HEADER_SIZE = 32        /* bytes */
 };
 
+/* Where each element of the aligned waveform header (id 1026) starts, counted from the header's first byte.
+ * Bytes 2 to 7, 38 and 39 are filler, where none starts. */
+enum {
+    MRD_ALIGNED_WAVEFORM_VERSION = 0,            /* uint16_t */
+    MRD_ALIGNED_WAVEFORM_FLAGS = 8,              /* uint64_t */
+    MRD_ALIGNED_WAVEFORM_MEASUREMENT_UID = 16,   /* uint32_t */
+    MRD_ALIGNED_WAVEFORM_SCAN_COUNTER = 20,      /* uint32_t */
+    MRD_ALIGNED_WAVEFORM_TIME_STAMP = 24,        /* uint32_t */
+    MRD_ALIGNED_WAVEFORM_NUMBER_OF_SAMPLES = 28, /* uint16_t */
+    MRD_ALIGNED_WAVEFORM_CHANNELS = 30,          /* uint16_t */
+    MRD_ALIGNED_WAVEFORM_SAMPLE_TIME_US = 32,    /* float */
+    MRD_ALIGNED_WAVEFORM_WAVEFORM_ID = 36,       /* uint16_t */
+    MRD_ALIGNED_WAVEFORM_HEADER_SIZE = 40        /* bytes */
+};
+
 /* The seventeen counters of an acquisition (ISMRMRD's idx), by their place in mrd_find's array; in the
  * header counter i starts at MRD_ACQUISITION_COUNTERS + 2 * i. */
 enum {

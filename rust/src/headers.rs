@@ -2,6 +2,7 @@
 //! Written by tests/names from the definitions in crates/: change those, not this file.
 
 use crate::element::{element, elements};
+use crate::rules::Layout;
 
 /// The header of an acquisition (id 1008): its 340 bytes as they lie in the stream, and each field by name.
 #[derive(Clone, Copy, Debug, PartialEq, Eq, Hash)]
@@ -295,24 +296,55 @@ impl<'a> ImageHeader<'a> {
     }
 }
 
-/// The header of a waveform (id 1026): its 32 bytes as they lie in the stream, and each field by name.
+/// The header of a waveform (id 1026) in one of its layouts: its bytes as they lie in the stream, 32 packed or 40
+/// aligned, and each field by name. Two are equal where layout and bytes are, filler too.
 #[derive(Clone, Copy, Debug, PartialEq, Eq, Hash)]
 pub struct WaveformHeader<'a> {
-    bytes: &'a [u8; 32],
+    layout: Layout,
+    bytes: &'a [u8],
 }
 
 impl<'a> WaveformHeader<'a> {
-    /// How many bytes the header has.
-    pub const SIZE: usize = 32;
+    /// How many bytes the header has in a layout.
+    pub const fn size(layout: Layout) -> usize {
+        match layout {
+            Layout::Packed => 32,
+            Layout::Aligned => 40,
+        }
+    }
 
-    /// A header from its bytes.
-    pub fn new(bytes: &'a [u8; 32]) -> WaveformHeader<'a> {
-        WaveformHeader { bytes }
+    /// A header from its 32 bytes, packed.
+    pub fn packed(bytes: &'a [u8; 32]) -> WaveformHeader<'a> {
+        WaveformHeader {
+            layout: Layout::Packed,
+            bytes,
+        }
+    }
+
+    /// A header from its 40 bytes, aligned.
+    pub fn aligned(bytes: &'a [u8; 40]) -> WaveformHeader<'a> {
+        WaveformHeader {
+            layout: Layout::Aligned,
+            bytes,
+        }
+    }
+
+    /// The layout.
+    pub fn layout(&self) -> Layout {
+        self.layout
     }
 
     /// The bytes.
-    pub fn bytes(&self) -> &'a [u8; 32] {
+    pub fn bytes(&self) -> &'a [u8] {
         self.bytes
+    }
+
+    /// The offset in this header's layout.
+    fn at(&self, packed: usize, aligned: usize) -> usize {
+        match self.layout {
+            Layout::Packed => packed,
+            Layout::Aligned => aligned,
+        }
     }
 
     /// `version`, at offset 0.
@@ -320,43 +352,43 @@ impl<'a> WaveformHeader<'a> {
         element(self.bytes, 0)
     }
 
-    /// `flags`, at offset 2.
+    /// `flags`, at offset 2, aligned 8.
     pub fn flags(&self) -> u64 {
-        element(self.bytes, 2)
+        element(self.bytes, self.at(2, 8))
     }
 
-    /// `measurement_uid`, at offset 10.
+    /// `measurement_uid`, at offset 10, aligned 16.
     pub fn measurement_uid(&self) -> u32 {
-        element(self.bytes, 10)
+        element(self.bytes, self.at(10, 16))
     }
 
-    /// `scan_counter`, at offset 14.
+    /// `scan_counter`, at offset 14, aligned 20.
     pub fn scan_counter(&self) -> u32 {
-        element(self.bytes, 14)
+        element(self.bytes, self.at(14, 20))
     }
 
-    /// `time_stamp`, at offset 18.
+    /// `time_stamp`, at offset 18, aligned 24.
     pub fn time_stamp(&self) -> u32 {
-        element(self.bytes, 18)
+        element(self.bytes, self.at(18, 24))
     }
 
-    /// `number_of_samples`, at offset 22.
+    /// `number_of_samples`, at offset 22, aligned 28.
     pub fn number_of_samples(&self) -> u16 {
-        element(self.bytes, 22)
+        element(self.bytes, self.at(22, 28))
     }
 
-    /// `channels`, at offset 24.
+    /// `channels`, at offset 24, aligned 30.
     pub fn channels(&self) -> u16 {
-        element(self.bytes, 24)
+        element(self.bytes, self.at(24, 30))
     }
 
-    /// `sample_time_us`, at offset 26.
+    /// `sample_time_us`, at offset 26, aligned 32.
     pub fn sample_time_us(&self) -> f32 {
-        element(self.bytes, 26)
+        element(self.bytes, self.at(26, 32))
     }
 
-    /// `waveform_id`, at offset 30.
+    /// `waveform_id`, at offset 30, aligned 36.
     pub fn waveform_id(&self) -> u16 {
-        element(self.bytes, 30)
+        element(self.bytes, self.at(30, 36))
     }
 }

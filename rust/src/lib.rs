@@ -4,22 +4,24 @@
 //! Nothing is copied: a [`Stream`] borrows the bytes, and a view is a part of them.
 //!
 //! ```
-//! use cotterleaf::{Part, Stream};
+//! use cotterleaf::{Part, Rules, Stream};
 //!
 //! // A header text of two bytes, and the close.
-//! let stream = Stream::new(&[3, 0, 2, 0, 0, 0, b'h', b'i', 4, 0]);
+//! let stream = Stream::new(Rules::packed(), &[3, 0, 2, 0, 0, 0, b'h', b'i', 4, 0]);
 //! assert_eq!(stream.check(), Ok(2));
 //! assert_eq!(stream.view(0, Part::Text), Ok(&b"hi"[..]));
 //! assert_eq!(stream.view(0, Part::Pixels).unwrap_err().number, 17);
 //! ```
-
+//!
+//! The [`Rules`] say how the stream's waveform headers are laid out, which nothing in a stream tells.
 //!
 //! A walk yields each record with the cursor at which it was due, so that its header and parts cost no further walk:
 //!
 //! ```
+//! # use cotterleaf::{Rules, Stream};
 //! # fn mean(bytes: &[u8]) -> Result<f32, cotterleaf::Refusal> {
 //! let (mut sum, mut count) = (0.0, 0.0);
-//! for record in cotterleaf::Stream::new(bytes).records() {
+//! for record in Stream::new(Rules::packed(), bytes).records() {
 //!     let record = record?;
 //!     let Some(header) = record.acquisition() else { continue };
 //!     for channel in 0..header.active_channels() {
@@ -54,6 +56,7 @@ mod names;
 pub mod raw;
 mod record;
 mod refusal;
+mod rules;
 mod samples;
 mod stream;
 mod walk;
@@ -66,6 +69,7 @@ pub use names::{acquisition_flag, counter, data_type, id, image_type, offset, re
 pub use names::{MAX_MESSAGES, MAX_MESSAGE_SIZE};
 pub use record::{Field, Kind, Mask, Part, Record};
 pub use refusal::{Fault, Refusal};
+pub use rules::{Layout, Rules};
 pub use samples::Samples;
 pub use stream::Stream;
 pub use walk::{Cursor, RecordAt, Records, Step};

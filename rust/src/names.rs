@@ -284,6 +284,27 @@ pub mod offset {
         /// `u16`.
         pub const WAVEFORM_ID: usize = 30;
     }
+    /// In the header of an aligned waveform, 40 bytes. Bytes 2 to 7, 38 and 39 are filler, where none starts.
+    pub mod aligned_waveform {
+        /// `u16`.
+        pub const VERSION: usize = 0;
+        /// `u64`.
+        pub const FLAGS: usize = 8;
+        /// `u32`.
+        pub const MEASUREMENT_UID: usize = 16;
+        /// `u32`.
+        pub const SCAN_COUNTER: usize = 20;
+        /// `u32`.
+        pub const TIME_STAMP: usize = 24;
+        /// `u16`.
+        pub const NUMBER_OF_SAMPLES: usize = 28;
+        /// `u16`.
+        pub const CHANNELS: usize = 30;
+        /// `f32`.
+        pub const SAMPLE_TIME_US: usize = 32;
+        /// `u16`.
+        pub const WAVEFORM_ID: usize = 36;
+    }
 }
 
 /// The seventeen counters of an acquisition (ISMRMRD's `idx`), by their place in the array.

@@ -7,6 +7,12 @@ mod interface;
 
 #[repr(C)]
 #[derive(Clone, Copy, Debug, Default, PartialEq, Eq)]
+pub struct mrd_rules {
+    pub aligned_waveforms: bool,
+}
+
+#[repr(C)]
+#[derive(Clone, Copy, Debug, Default, PartialEq, Eq)]
 pub struct mrd_checked {
     pub refusal: u32,
     pub record: usize,
@@ -156,12 +162,24 @@ pub const MRD_SIGNED: u32 = 2;
 pub const MRD_FLOAT: u32 = 3;
 
 extern "C" {
-    fn mrd_check(stream: *const u8, stream_length: usize) -> mrd_checked;
-    fn mrd_place(stream: *const u8, stream_length: usize, n: usize) -> mrd_placed;
+    fn mrd_check(rules: mrd_rules, stream: *const u8, stream_length: usize) -> mrd_checked;
+    fn mrd_place(rules: mrd_rules, stream: *const u8, stream_length: usize, n: usize)
+        -> mrd_placed;
     fn mrd_beginning() -> mrd_cursor;
-    fn mrd_next(stream: *const u8, stream_length: usize, cursor: mrd_cursor) -> mrd_step;
-    fn mrd_check_from(stream: *const u8, stream_length: usize, cursor: mrd_cursor) -> mrd_checked;
+    fn mrd_next(
+        rules: mrd_rules,
+        stream: *const u8,
+        stream_length: usize,
+        cursor: mrd_cursor,
+    ) -> mrd_step;
+    fn mrd_check_from(
+        rules: mrd_rules,
+        stream: *const u8,
+        stream_length: usize,
+        cursor: mrd_cursor,
+    ) -> mrd_checked;
     fn mrd_view(
+        rules: mrd_rules,
         stream: *const u8,
         stream_length: usize,
         n: usize,
@@ -169,6 +187,7 @@ extern "C" {
         channel: usize,
     ) -> mrd_view_place;
     fn mrd_view_at(
+        rules: mrd_rules,
         stream: *const u8,
         stream_length: usize,
         cursor: mrd_cursor,
@@ -176,12 +195,14 @@ extern "C" {
         channel: usize,
     ) -> mrd_view_place;
     fn mrd_field_at(
+        rules: mrd_rules,
         stream: *const u8,
         stream_length: usize,
         cursor: mrd_cursor,
         offset: usize,
     ) -> mrd_field_answer;
     fn mrd_cursor_for(
+        rules: mrd_rules,
         starts: *const u64,
         starts_length: usize,
         ids: *const u16,
@@ -189,12 +210,14 @@ extern "C" {
         n: usize,
     ) -> mrd_cursor_answer;
     fn mrd_field(
+        rules: mrd_rules,
         stream: *const u8,
         stream_length: usize,
         n: usize,
         offset: usize,
     ) -> mrd_field_answer;
     fn mrd_find(
+        rules: mrd_rules,
         stream: *const u8,
         stream_length: usize,
         n: usize,
@@ -202,6 +225,7 @@ extern "C" {
     ) -> mrd_found;
 
     fn mrd_ask_with_file(
+        rules: mrd_rules,
         stream: *const u8,
         stream_length: usize,
         question: mrd_question,
@@ -209,6 +233,7 @@ extern "C" {
         file_length: usize,
     ) -> mrd_reply;
     fn mrd_ask_with_columns(
+        rules: mrd_rules,
         stream: *const u8,
         stream_length: usize,
         question: mrd_question,
@@ -226,18 +251,21 @@ extern "C" {
     fn mrd_counter_step(earlier: u32, later: u32) -> i32;
 
     fn mrd_normal_form(
+        rules: mrd_rules,
         stream: *const u8,
         stream_length: usize,
         out: *mut u8,
         out_length: usize,
     ) -> mrd_written;
     fn mrd_write_index(
+        rules: mrd_rules,
         stream: *const u8,
         stream_length: usize,
         out: *mut u8,
         out_length: usize,
     ) -> mrd_written;
     fn mrd_fill_columns(
+        rules: mrd_rules,
         stream: *const u8,
         stream_length: usize,
         starts: *mut u64,
@@ -248,12 +276,14 @@ extern "C" {
         counters_length: usize,
     ) -> mrd_written;
     fn mrd_index_matches(
+        rules: mrd_rules,
         stream: *const u8,
         stream_length: usize,
         file: *const u8,
         file_length: usize,
     ) -> mrd_matched;
     fn mrd_columns_match(
+        rules: mrd_rules,
         stream: *const u8,
         stream_length: usize,
         starts: *const u64,
@@ -264,6 +294,7 @@ extern "C" {
         counters_length: usize,
     ) -> mrd_matched;
     fn mrd_write(
+        rules: mrd_rules,
         id: u16,
         header: *const u8,
         header_length: usize,
@@ -287,14 +318,14 @@ extern "C" {
     ) -> mrd_put;
 }
 
-pub fn check(stream: &[u8]) -> mrd_checked {
+pub fn check(rules: mrd_rules, stream: &[u8]) -> mrd_checked {
     // SAFETY: the pointer and length are those of a slice that is borrowed for the call.
-    unsafe { mrd_check(stream.as_ptr(), stream.len()) }
+    unsafe { mrd_check(rules, stream.as_ptr(), stream.len()) }
 }
 
-pub fn place(stream: &[u8], n: usize) -> mrd_placed {
+pub fn place(rules: mrd_rules, stream: &[u8], n: usize) -> mrd_placed {
     // SAFETY: the pointer and length are those of a slice that is borrowed for the call.
-    unsafe { mrd_place(stream.as_ptr(), stream.len(), n) }
+    unsafe { mrd_place(rules, stream.as_ptr(), stream.len(), n) }
 }
 
 pub fn beginning() -> mrd_cursor {
@@ -302,50 +333,82 @@ pub fn beginning() -> mrd_cursor {
     unsafe { mrd_beginning() }
 }
 
-pub fn next(stream: &[u8], cursor: mrd_cursor) -> mrd_step {
+pub fn next(rules: mrd_rules, stream: &[u8], cursor: mrd_cursor) -> mrd_step {
     // SAFETY: the pointer and length are those of a slice that is borrowed for the call; any cursor may be given.
-    unsafe { mrd_next(stream.as_ptr(), stream.len(), cursor) }
+    unsafe { mrd_next(rules, stream.as_ptr(), stream.len(), cursor) }
 }
 
-pub fn check_from(stream: &[u8], cursor: mrd_cursor) -> mrd_checked {
+pub fn check_from(rules: mrd_rules, stream: &[u8], cursor: mrd_cursor) -> mrd_checked {
     // SAFETY: the pointer and length are those of a slice that is borrowed for the call; any cursor may be given.
-    unsafe { mrd_check_from(stream.as_ptr(), stream.len(), cursor) }
+    unsafe { mrd_check_from(rules, stream.as_ptr(), stream.len(), cursor) }
 }
 
-pub fn view_at(stream: &[u8], cursor: mrd_cursor, part: u32, channel: usize) -> mrd_view_place {
+pub fn view_at(
+    rules: mrd_rules,
+    stream: &[u8],
+    cursor: mrd_cursor,
+    part: u32,
+    channel: usize,
+) -> mrd_view_place {
     // SAFETY: the pointer and length are those of a slice that is borrowed for the call; any cursor may be given.
-    unsafe { mrd_view_at(stream.as_ptr(), stream.len(), cursor, part, channel) }
+    unsafe { mrd_view_at(rules, stream.as_ptr(), stream.len(), cursor, part, channel) }
 }
 
-pub fn field_at(stream: &[u8], cursor: mrd_cursor, offset: usize) -> mrd_field_answer {
+pub fn field_at(
+    rules: mrd_rules,
+    stream: &[u8],
+    cursor: mrd_cursor,
+    offset: usize,
+) -> mrd_field_answer {
     // SAFETY: the pointer and length are those of a slice that is borrowed for the call; any cursor may be given.
-    unsafe { mrd_field_at(stream.as_ptr(), stream.len(), cursor, offset) }
+    unsafe { mrd_field_at(rules, stream.as_ptr(), stream.len(), cursor, offset) }
 }
 
-pub fn cursor_for(starts: &[u64], ids: &[u16], n: usize) -> mrd_cursor_answer {
+pub fn cursor_for(rules: mrd_rules, starts: &[u64], ids: &[u16], n: usize) -> mrd_cursor_answer {
     // SAFETY: each pointer and length are those of a slice that is borrowed for the call.
-    unsafe { mrd_cursor_for(starts.as_ptr(), starts.len(), ids.as_ptr(), ids.len(), n) }
+    unsafe {
+        mrd_cursor_for(
+            rules,
+            starts.as_ptr(),
+            starts.len(),
+            ids.as_ptr(),
+            ids.len(),
+            n,
+        )
+    }
 }
 
-pub fn view(stream: &[u8], n: usize, part: u32, channel: usize) -> mrd_view_place {
+pub fn view(
+    rules: mrd_rules,
+    stream: &[u8],
+    n: usize,
+    part: u32,
+    channel: usize,
+) -> mrd_view_place {
     // SAFETY: the pointer and length are those of a slice that is borrowed for the call.
-    unsafe { mrd_view(stream.as_ptr(), stream.len(), n, part, channel) }
+    unsafe { mrd_view(rules, stream.as_ptr(), stream.len(), n, part, channel) }
 }
 
-pub fn field(stream: &[u8], n: usize, offset: usize) -> mrd_field_answer {
+pub fn field(rules: mrd_rules, stream: &[u8], n: usize, offset: usize) -> mrd_field_answer {
     // SAFETY: the pointer and length are those of a slice that is borrowed for the call.
-    unsafe { mrd_field(stream.as_ptr(), stream.len(), n, offset) }
+    unsafe { mrd_field(rules, stream.as_ptr(), stream.len(), n, offset) }
 }
 
-pub fn find(stream: &[u8], n: usize, counters: &[u16; 17]) -> mrd_found {
+pub fn find(rules: mrd_rules, stream: &[u8], n: usize, counters: &[u16; 17]) -> mrd_found {
     // SAFETY: the slice is borrowed for the call, and the array has the seventeen numbers that are read.
-    unsafe { mrd_find(stream.as_ptr(), stream.len(), n, counters.as_ptr()) }
+    unsafe { mrd_find(rules, stream.as_ptr(), stream.len(), n, counters.as_ptr()) }
 }
 
-pub fn ask_with_file(stream: &[u8], question: mrd_question, file: &[u8]) -> mrd_reply {
+pub fn ask_with_file(
+    rules: mrd_rules,
+    stream: &[u8],
+    question: mrd_question,
+    file: &[u8],
+) -> mrd_reply {
     // SAFETY: each pointer and length are those of a slice that is borrowed for the call; any question may be asked.
     unsafe {
         mrd_ask_with_file(
+            rules,
             stream.as_ptr(),
             stream.len(),
             question,
@@ -356,6 +419,7 @@ pub fn ask_with_file(stream: &[u8], question: mrd_question, file: &[u8]) -> mrd_
 }
 
 pub fn ask_with_columns(
+    rules: mrd_rules,
     stream: &[u8],
     question: mrd_question,
     starts: &[u64],
@@ -365,6 +429,7 @@ pub fn ask_with_columns(
     // SAFETY: each pointer and length are those of a slice that is borrowed for the call; any question may be asked.
     unsafe {
         mrd_ask_with_columns(
+            rules,
             stream.as_ptr(),
             stream.len(),
             question,
@@ -398,17 +463,34 @@ pub fn counter_step(earlier: u32, later: u32) -> i32 {
     unsafe { mrd_counter_step(earlier, later) }
 }
 
-pub fn normal_form(stream: &[u8], out: &mut [u8]) -> mrd_written {
+pub fn normal_form(rules: mrd_rules, stream: &[u8], out: &mut [u8]) -> mrd_written {
     // SAFETY: each pointer and length are those of a slice that is borrowed for the call, `out` by it alone.
-    unsafe { mrd_normal_form(stream.as_ptr(), stream.len(), out.as_mut_ptr(), out.len()) }
+    unsafe {
+        mrd_normal_form(
+            rules,
+            stream.as_ptr(),
+            stream.len(),
+            out.as_mut_ptr(),
+            out.len(),
+        )
+    }
 }
 
-pub fn write_index(stream: &[u8], out: &mut [u8]) -> mrd_written {
+pub fn write_index(rules: mrd_rules, stream: &[u8], out: &mut [u8]) -> mrd_written {
     // SAFETY: each pointer and length are those of a slice that is borrowed for the call, `out` by it alone.
-    unsafe { mrd_write_index(stream.as_ptr(), stream.len(), out.as_mut_ptr(), out.len()) }
+    unsafe {
+        mrd_write_index(
+            rules,
+            stream.as_ptr(),
+            stream.len(),
+            out.as_mut_ptr(),
+            out.len(),
+        )
+    }
 }
 
 pub fn fill_columns(
+    rules: mrd_rules,
     stream: &[u8],
     starts: &mut [u64],
     ids: &mut [u16],
@@ -417,6 +499,7 @@ pub fn fill_columns(
     // SAFETY: each pointer and length are those of a slice that is borrowed for the call, the columns by it alone.
     unsafe {
         mrd_fill_columns(
+            rules,
             stream.as_ptr(),
             stream.len(),
             starts.as_mut_ptr(),
@@ -429,15 +512,30 @@ pub fn fill_columns(
     }
 }
 
-pub fn index_matches(stream: &[u8], file: &[u8]) -> mrd_matched {
+pub fn index_matches(rules: mrd_rules, stream: &[u8], file: &[u8]) -> mrd_matched {
     // SAFETY: each pointer and length are those of a slice that is borrowed for the call.
-    unsafe { mrd_index_matches(stream.as_ptr(), stream.len(), file.as_ptr(), file.len()) }
+    unsafe {
+        mrd_index_matches(
+            rules,
+            stream.as_ptr(),
+            stream.len(),
+            file.as_ptr(),
+            file.len(),
+        )
+    }
 }
 
-pub fn columns_match(stream: &[u8], starts: &[u64], ids: &[u16], counters: &[u32]) -> mrd_matched {
+pub fn columns_match(
+    rules: mrd_rules,
+    stream: &[u8],
+    starts: &[u64],
+    ids: &[u16],
+    counters: &[u32],
+) -> mrd_matched {
     // SAFETY: each pointer and length are those of a slice that is borrowed for the call.
     unsafe {
         mrd_columns_match(
+            rules,
             stream.as_ptr(),
             stream.len(),
             starts.as_ptr(),
@@ -453,6 +551,7 @@ pub fn columns_match(stream: &[u8], starts: &[u64], ids: &[u16], counters: &[u32
 /// The seven variable parts in the order of `mrd_write`: name, text, trajectory, samples, attributes, pixels,
 /// waveform.
 pub fn write(
+    rules: mrd_rules,
     id: u16,
     header: &[u8],
     parts: [&[u8]; 7],
@@ -463,6 +562,7 @@ pub fn write(
     // SAFETY: each pointer and length are those of a slice that is borrowed for the call, `out` by it alone.
     unsafe {
         mrd_write(
+            rules,
             id,
             header.as_ptr(),
             header.len(),

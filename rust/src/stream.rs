@@ -4,16 +4,18 @@ use crate::index::Index;
 use crate::raw;
 use crate::record::{Field, Part, Record};
 use crate::refusal::Refusal;
+use crate::rules::Rules;
 use crate::samples::Samples;
 use std::ops::Range;
 
-/// A whole stream, borrowed, and the index given with it, if any.
+/// A whole stream, borrowed, the rules that it is read by, and the index given with it, if any.
 ///
 /// Each question gives the stream's refusal first. [`place`](Stream::place), [`view`](Stream::view),
 /// [`view_place`](Stream::view_place), [`field`](Stream::field) and [`find`](Stream::find) then give 15 where
 /// an index is given that is not the stream's own; the other calls do not look at it.
 #[derive(Clone, Copy, Debug, PartialEq, Eq)]
 pub struct Stream<'a> {
+    rules: Rules,
     bytes: &'a [u8],
     index: Option<Index<'a>>,
 }
@@ -37,8 +39,12 @@ pub(crate) fn range_of(place: &raw::mrd_view_place) -> Result<Range<usize>, Refu
 
 impl<'a> Stream<'a> {
     /// A stream without an index. Any bytes may be given.
-    pub fn new(bytes: &'a [u8]) -> Stream<'a> {
-        Stream { bytes, index: None }
+    pub fn new(rules: Rules, bytes: &'a [u8]) -> Stream<'a> {
+        Stream {
+            rules,
+            bytes,
+            index: None,
+        }
     }
 
     /// The same stream with an index given.
@@ -49,6 +55,11 @@ impl<'a> Stream<'a> {
         }
     }
 
+    /// The rules that it is read by.
+    pub fn rules(&self) -> Rules {
+        self.rules
+    }
+
     /// The bytes.
     pub fn bytes(&self) -> &'a [u8] {
         self.bytes
@@ -56,18 +67,25 @@ impl<'a> Stream<'a> {
 
     /// The number of records of an accepted stream.
     pub fn check(&self) -> Result<usize, Refusal> {
-        counted(&raw::check(self.bytes))
+        counted(&raw::check(self.rules.given(), self.bytes))
     }
 
     /// Asks with an index given.
     fn ask(&self, question: raw::mrd_question, index: Index<'a>) -> raw::mrd_reply {
         match index {
-            Index::File(file) => raw::ask_with_file(self.bytes, question, file),
+            Index::File(file) => raw::ask_with_file(self.rules.given(), self.bytes, question, file),
             Index::Columns {
                 starts,
                 ids,
                 counters,
-            } => raw::ask_with_columns(self.bytes, question, starts, ids, counters),
+            } => raw::ask_with_columns(
+                self.rules.given(),
+                self.bytes,
+                question,
+                starts,
+                ids,
+                counters,
+            ),
         }
     }
 
@@ -79,7 +97,7 @@ impl<'a> Stream<'a> {
             ..Default::default()
         };
         Record::of_c(&match self.index {
-            None => raw::place(self.bytes, n),
+            None => raw::place(self.rules.given(), self.bytes, n),
             Some(index) => self.ask(question, index).place,
         })
     }
@@ -106,7 +124,7 @@ impl<'a> Stream<'a> {
             ..Default::default()
         };
         range_of(&match self.index {
-            None => raw::view(self.bytes, n, part, channel),
+            None => raw::view(self.rules.given(), self.bytes, n, part, channel),
             Some(index) => self.ask(question, index).view,
         })
     }
@@ -121,7 +139,7 @@ impl<'a> Stream<'a> {
             ..Default::default()
         };
         Field::of_c(&match self.index {
-            None => raw::field(self.bytes, n, offset),
+            None => raw::field(self.rules.given(), self.bytes, n, offset),
             Some(index) => self.ask(question, index).field,
         })
     }
@@ -135,7 +153,7 @@ impl<'a> Stream<'a> {
             ..Default::default()
         };
         let found = match self.index {
-            None => raw::find(self.bytes, n, asked),
+            None => raw::find(self.rules.given(), self.bytes, n, asked),
             Some(index) => self.ask(question, index).found,
         };
         Refusal::in_answer(found.refusal, found.record, found.byte)?;
@@ -145,26 +163,26 @@ impl<'a> Stream<'a> {
     /// Whether an index is this stream's own; 15 where it is not.
     pub fn matches(&self, index: Index<'_>) -> Result<(), Refusal> {
         let matched = match index {
-            Index::File(file) => raw::index_matches(self.bytes, file),
+            Index::File(file) => raw::index_matches(self.rules.given(), self.bytes, file),
             Index::Columns {
                 starts,
                 ids,
                 counters,
-            } => raw::columns_match(self.bytes, starts, ids, counters),
+            } => raw::columns_match(self.rules.given(), self.bytes, starts, ids, counters),
         };
         Refusal::in_answer(matched.refusal, matched.record, matched.byte)
     }
 
     /// Writes the normal form to the front of `out` and gives its length, which is the stream's. Two streams
-    /// with the same records have the same normal form. 14 where `out` is too short.
+    /// with the same records under the same rules have the same normal form. 14 where `out` is too short.
     pub fn normal_form(&self, out: &mut [u8]) -> Result<usize, Refusal> {
-        length_of(&raw::normal_form(self.bytes, out))
+        length_of(&raw::normal_form(self.rules.given(), self.bytes, out))
     }
 
     /// Writes the stream's index as a file to the front of `out` and gives its length: 23 bytes, and 17 for
     /// each record. 14 where `out` is too short.
     pub fn write_index(&self, out: &mut [u8]) -> Result<usize, Refusal> {
-        length_of(&raw::write_index(self.bytes, out))
+        length_of(&raw::write_index(self.rules.given(), self.bytes, out))
     }
 
     /// Fills the front of three columns with the stream's index and gives the number of records. 14 where a
@@ -175,6 +193,12 @@ impl<'a> Stream<'a> {
         ids: &mut [u16],
         counters: &mut [u32],
     ) -> Result<usize, Refusal> {
-        length_of(&raw::fill_columns(self.bytes, starts, ids, counters))
+        length_of(&raw::fill_columns(
+            self.rules.given(),
+            self.bytes,
+            starts,
+            ids,
+            counters,
+        ))
     }
 }

@@ -4,6 +4,7 @@ use crate::headers::{AcquisitionHeader, ImageHeader, WaveformHeader};
 use crate::raw;
 use crate::record::{Field, Kind, Part, Record};
 use crate::refusal::Refusal;
+use crate::rules::{Layout, Rules};
 use crate::samples::Samples;
 use crate::stream::{counted, range_of, Stream};
 use std::ops::Range;
@@ -33,8 +34,13 @@ impl Cursor {
     /// [`view_at`](Stream::view_at) and [`field_at`](Stream::field_at) answer there what
     /// [`view`](Stream::view) and [`field`](Stream::field) do by number. The phase is 0 for a configuration or
     /// header and 2 for all else, so a walk may go on from it, but not from a text before the header.
-    pub fn for_record(starts: &[u64], ids: &[u16], n: usize) -> Result<Cursor, Refusal> {
-        let answer = raw::cursor_for(starts, ids, n);
+    pub fn for_record(
+        rules: Rules,
+        starts: &[u64],
+        ids: &[u16],
+        n: usize,
+    ) -> Result<Cursor, Refusal> {
+        let answer = raw::cursor_for(rules.given(), starts, ids, n);
         Refusal::in_answer(answer.refusal, 0, 0)?;
         Ok(Cursor::of(answer.cursor))
     }
@@ -76,7 +82,7 @@ impl<'a> Stream<'a> {
 
     /// One step of the walk.
     pub fn step(&self, cursor: Cursor) -> Step {
-        let step = raw::next(self.bytes(), cursor.given());
+        let step = raw::next(self.rules().given(), self.bytes(), cursor.given());
         if step.ended {
             return Step::End(counted(&step.answer));
         }
@@ -88,10 +94,11 @@ impl<'a> Stream<'a> {
     /// that does not grow with the stream; 16 where no record is left. An index is not looked at.
     ///
     /// ```
-    /// use cotterleaf::{Cursor, Part, Step, Stream};
+    /// use cotterleaf::{Cursor, Part, Rules, Step, Stream};
     ///
     /// // Two texts and the close.
-    /// let stream = Stream::new(&[5, 0, 1, 0, 0, 0, b'a', 5, 0, 1, 0, 0, 0, b'b', 4, 0]);
+    /// let bytes = [5, 0, 1, 0, 0, 0, b'a', 5, 0, 1, 0, 0, 0, b'b', 4, 0];
+    /// let stream = Stream::new(Rules::packed(), &bytes);
     /// let mut texts = Vec::new();
     /// let mut cursor = Cursor::beginning();
     /// while let Step::Record(_, next) = stream.step(cursor) {
@@ -107,19 +114,34 @@ impl<'a> Stream<'a> {
     /// Where that part lies in the stream.
     pub fn view_place_at(&self, cursor: Cursor, part: Part) -> Result<Range<usize>, Refusal> {
         let (part, channel) = part.numbers();
-        range_of(&raw::view_at(self.bytes(), cursor.given(), part, channel))
+        range_of(&raw::view_at(
+            self.rules().given(),
+            self.bytes(),
+            cursor.given(),
+            part,
+            channel,
+        ))
     }
 
     /// The element that starts at `offset` in the header of the record that is due at a cursor, at a cost that
     /// does not grow with the stream.
     pub fn field_at(&self, cursor: Cursor, offset: usize) -> Result<Field, Refusal> {
-        Field::of_c(&raw::field_at(self.bytes(), cursor.given(), offset))
+        Field::of_c(&raw::field_at(
+            self.rules().given(),
+            self.bytes(),
+            cursor.given(),
+            offset,
+        ))
     }
 
     /// The answer of the rest of the stream, from a cursor on: its number of records, those before the cursor
     /// counted too, or its refusal.
     pub fn check_from(&self, cursor: Cursor) -> Result<usize, Refusal> {
-        counted(&raw::check_from(self.bytes(), cursor.given()))
+        counted(&raw::check_from(
+            self.rules().given(),
+            self.bytes(),
+            cursor.given(),
+        ))
     }
 }
 
@@ -168,10 +190,14 @@ impl<'a> RecordAt<'a> {
         matches!(self.record.kind, Kind::Image { .. }).then(|| ImageHeader::new(self.header()))
     }
 
-    /// The header of a waveform; none of another kind.
+    /// The header of a waveform, in the layout of the stream's rules; none of another kind.
     pub fn waveform(&self) -> Option<WaveformHeader<'a>> {
-        matches!(self.record.kind, Kind::Waveform { .. })
-            .then(|| WaveformHeader::new(self.header()))
+        matches!(self.record.kind, Kind::Waveform { .. }).then(|| {
+            match self.stream.rules().layout {
+                Layout::Packed => WaveformHeader::packed(self.header()),
+                Layout::Aligned => WaveformHeader::aligned(self.header()),
+            }
+        })
     }
 
     /// The header's bytes, right after the id.

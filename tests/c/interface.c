@@ -73,6 +73,9 @@ MEMBER(mrd_reply, view, 112, mrd_view_place);
 MEMBER(mrd_reply, field, 152, mrd_field_answer);
 MEMBER(mrd_reply, found, 200, mrd_found);
 
+_Static_assert(sizeof(mrd_rules) == 1, "mrd_rules: another size");
+MEMBER(mrd_rules, aligned_waveforms, 0, bool);
+
 _Static_assert(sizeof(mrd_checked) == 32, "mrd_checked: another size");
 MEMBER(mrd_checked, refusal, 0, uint32_t);
 MEMBER(mrd_checked, record, 8, size_t);
@@ -109,29 +112,29 @@ MEMBER(mrd_written, record, 8, size_t);
 MEMBER(mrd_written, byte, 16, size_t);
 MEMBER(mrd_written, length, 24, size_t);
 
-mrd_reply mrd_ask_with_columns(const uint8_t *, size_t, mrd_question, const uint64_t *, size_t, const uint16_t *, size_t, const uint32_t *, size_t);
-mrd_reply mrd_ask_with_file(const uint8_t *, size_t, mrd_question, const uint8_t *, size_t);
+mrd_reply mrd_ask_with_columns(mrd_rules, const uint8_t *, size_t, mrd_question, const uint64_t *, size_t, const uint16_t *, size_t, const uint32_t *, size_t);
+mrd_reply mrd_ask_with_file(mrd_rules, const uint8_t *, size_t, mrd_question, const uint8_t *, size_t);
 mrd_cursor mrd_beginning(void);
-mrd_checked mrd_check(const uint8_t *, size_t);
-mrd_checked mrd_check_from(const uint8_t *, size_t, mrd_cursor);
-mrd_matched mrd_columns_match(const uint8_t *, size_t, const uint64_t *, size_t, const uint16_t *, size_t, const uint32_t *, size_t);
+mrd_checked mrd_check(mrd_rules, const uint8_t *, size_t);
+mrd_checked mrd_check_from(mrd_rules, const uint8_t *, size_t, mrd_cursor);
+mrd_matched mrd_columns_match(mrd_rules, const uint8_t *, size_t, const uint64_t *, size_t, const uint16_t *, size_t, const uint32_t *, size_t);
 int32_t mrd_counter_step(uint32_t, uint32_t);
-mrd_cursor_answer mrd_cursor_for(const uint64_t *, size_t, const uint16_t *, size_t, size_t);
-mrd_field_answer mrd_field(const uint8_t *, size_t, size_t, size_t);
-mrd_field_answer mrd_field_at(const uint8_t *, size_t, mrd_cursor, size_t);
-mrd_written mrd_fill_columns(const uint8_t *, size_t, uint64_t *, size_t, uint16_t *, size_t, uint32_t *, size_t);
-mrd_found mrd_find(const uint8_t *, size_t, size_t, const uint16_t[17]);
+mrd_cursor_answer mrd_cursor_for(mrd_rules, const uint64_t *, size_t, const uint16_t *, size_t, size_t);
+mrd_field_answer mrd_field(mrd_rules, const uint8_t *, size_t, size_t, size_t);
+mrd_field_answer mrd_field_at(mrd_rules, const uint8_t *, size_t, mrd_cursor, size_t);
+mrd_written mrd_fill_columns(mrd_rules, const uint8_t *, size_t, uint64_t *, size_t, uint16_t *, size_t, uint32_t *, size_t);
+mrd_found mrd_find(mrd_rules, const uint8_t *, size_t, size_t, const uint16_t[17]);
 uint64_t mrd_flag_clear(uint64_t, uint32_t);
 uint64_t mrd_flag_set(uint64_t, uint32_t);
 bool mrd_flag_test(uint64_t, uint32_t);
-mrd_matched mrd_index_matches(const uint8_t *, size_t, const uint8_t *, size_t);
-mrd_step mrd_next(const uint8_t *, size_t, mrd_cursor);
-mrd_written mrd_normal_form(const uint8_t *, size_t, uint8_t *, size_t);
-mrd_placed mrd_place(const uint8_t *, size_t, size_t);
-mrd_view_place mrd_view(const uint8_t *, size_t, size_t, uint32_t, size_t);
-mrd_view_place mrd_view_at(const uint8_t *, size_t, mrd_cursor, uint32_t, size_t);
-mrd_put mrd_write(uint16_t, const uint8_t *, size_t, const uint8_t *, size_t, const uint8_t *, size_t, const uint8_t *, size_t, const uint8_t *, size_t, const uint8_t *, size_t, const uint8_t *, size_t, const uint8_t *, size_t, uint8_t *, size_t, size_t);
-mrd_written mrd_write_index(const uint8_t *, size_t, uint8_t *, size_t);
+mrd_matched mrd_index_matches(mrd_rules, const uint8_t *, size_t, const uint8_t *, size_t);
+mrd_step mrd_next(mrd_rules, const uint8_t *, size_t, mrd_cursor);
+mrd_written mrd_normal_form(mrd_rules, const uint8_t *, size_t, uint8_t *, size_t);
+mrd_placed mrd_place(mrd_rules, const uint8_t *, size_t, size_t);
+mrd_view_place mrd_view(mrd_rules, const uint8_t *, size_t, size_t, uint32_t, size_t);
+mrd_view_place mrd_view_at(mrd_rules, const uint8_t *, size_t, mrd_cursor, uint32_t, size_t);
+mrd_put mrd_write(mrd_rules, uint16_t, const uint8_t *, size_t, const uint8_t *, size_t, const uint8_t *, size_t, const uint8_t *, size_t, const uint8_t *, size_t, const uint8_t *, size_t, const uint8_t *, size_t, const uint8_t *, size_t, uint8_t *, size_t, size_t);
+mrd_written mrd_write_index(mrd_rules, const uint8_t *, size_t, uint8_t *, size_t);
 
 int main(void)
 {

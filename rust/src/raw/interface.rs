@@ -111,6 +111,10 @@ const _: fn(mrd_reply) -> mrd_field_answer = |of| of.field;
 const _: () = assert!(offset_of!(mrd_reply, found) == 200);
 const _: fn(mrd_reply) -> mrd_found = |of| of.found;
 
+const _: () = assert!(size_of::<mrd_rules>() == 1);
+const _: () = assert!(offset_of!(mrd_rules, aligned_waveforms) == 0);
+const _: fn(mrd_rules) -> bool = |of| of.aligned_waveforms;
+
 const _: () = assert!(size_of::<mrd_checked>() == 32);
 const _: () = assert!(offset_of!(mrd_checked, refusal) == 0);
 const _: fn(mrd_checked) -> u32 = |of| of.refusal;
@@ -170,6 +174,7 @@ const _: () = assert!(offset_of!(mrd_written, length) == 24);
 const _: fn(mrd_written) -> usize = |of| of.length;
 
 const _: unsafe extern "C" fn(
+    mrd_rules,
     *const u8,
     usize,
     mrd_question,
@@ -180,12 +185,20 @@ const _: unsafe extern "C" fn(
     *const u32,
     usize,
 ) -> mrd_reply = mrd_ask_with_columns;
-const _: unsafe extern "C" fn(*const u8, usize, mrd_question, *const u8, usize) -> mrd_reply =
-    mrd_ask_with_file;
-const _: unsafe extern "C" fn() -> mrd_cursor = mrd_beginning;
-const _: unsafe extern "C" fn(*const u8, usize) -> mrd_checked = mrd_check;
-const _: unsafe extern "C" fn(*const u8, usize, mrd_cursor) -> mrd_checked = mrd_check_from;
 const _: unsafe extern "C" fn(
+    mrd_rules,
+    *const u8,
+    usize,
+    mrd_question,
+    *const u8,
+    usize,
+) -> mrd_reply = mrd_ask_with_file;
+const _: unsafe extern "C" fn() -> mrd_cursor = mrd_beginning;
+const _: unsafe extern "C" fn(mrd_rules, *const u8, usize) -> mrd_checked = mrd_check;
+const _: unsafe extern "C" fn(mrd_rules, *const u8, usize, mrd_cursor) -> mrd_checked =
+    mrd_check_from;
+const _: unsafe extern "C" fn(
+    mrd_rules,
     *const u8,
     usize,
     *const u64,
@@ -196,12 +209,20 @@ const _: unsafe extern "C" fn(
     usize,
 ) -> mrd_matched = mrd_columns_match;
 const _: unsafe extern "C" fn(u32, u32) -> i32 = mrd_counter_step;
-const _: unsafe extern "C" fn(*const u64, usize, *const u16, usize, usize) -> mrd_cursor_answer =
-    mrd_cursor_for;
-const _: unsafe extern "C" fn(*const u8, usize, usize, usize) -> mrd_field_answer = mrd_field;
-const _: unsafe extern "C" fn(*const u8, usize, mrd_cursor, usize) -> mrd_field_answer =
+const _: unsafe extern "C" fn(
+    mrd_rules,
+    *const u64,
+    usize,
+    *const u16,
+    usize,
+    usize,
+) -> mrd_cursor_answer = mrd_cursor_for;
+const _: unsafe extern "C" fn(mrd_rules, *const u8, usize, usize, usize) -> mrd_field_answer =
+    mrd_field;
+const _: unsafe extern "C" fn(mrd_rules, *const u8, usize, mrd_cursor, usize) -> mrd_field_answer =
     mrd_field_at;
 const _: unsafe extern "C" fn(
+    mrd_rules,
     *const u8,
     usize,
     *mut u64,
@@ -211,19 +232,29 @@ const _: unsafe extern "C" fn(
     *mut u32,
     usize,
 ) -> mrd_written = mrd_fill_columns;
-const _: unsafe extern "C" fn(*const u8, usize, usize, *const u16) -> mrd_found = mrd_find;
+const _: unsafe extern "C" fn(mrd_rules, *const u8, usize, usize, *const u16) -> mrd_found =
+    mrd_find;
 const _: unsafe extern "C" fn(u64, u32) -> u64 = mrd_flag_clear;
 const _: unsafe extern "C" fn(u64, u32) -> u64 = mrd_flag_set;
 const _: unsafe extern "C" fn(u64, u32) -> bool = mrd_flag_test;
-const _: unsafe extern "C" fn(*const u8, usize, *const u8, usize) -> mrd_matched =
+const _: unsafe extern "C" fn(mrd_rules, *const u8, usize, *const u8, usize) -> mrd_matched =
     mrd_index_matches;
-const _: unsafe extern "C" fn(*const u8, usize, mrd_cursor) -> mrd_step = mrd_next;
-const _: unsafe extern "C" fn(*const u8, usize, *mut u8, usize) -> mrd_written = mrd_normal_form;
-const _: unsafe extern "C" fn(*const u8, usize, usize) -> mrd_placed = mrd_place;
-const _: unsafe extern "C" fn(*const u8, usize, usize, u32, usize) -> mrd_view_place = mrd_view;
-const _: unsafe extern "C" fn(*const u8, usize, mrd_cursor, u32, usize) -> mrd_view_place =
-    mrd_view_at;
+const _: unsafe extern "C" fn(mrd_rules, *const u8, usize, mrd_cursor) -> mrd_step = mrd_next;
+const _: unsafe extern "C" fn(mrd_rules, *const u8, usize, *mut u8, usize) -> mrd_written =
+    mrd_normal_form;
+const _: unsafe extern "C" fn(mrd_rules, *const u8, usize, usize) -> mrd_placed = mrd_place;
+const _: unsafe extern "C" fn(mrd_rules, *const u8, usize, usize, u32, usize) -> mrd_view_place =
+    mrd_view;
 const _: unsafe extern "C" fn(
+    mrd_rules,
+    *const u8,
+    usize,
+    mrd_cursor,
+    u32,
+    usize,
+) -> mrd_view_place = mrd_view_at;
+const _: unsafe extern "C" fn(
+    mrd_rules,
     u16,
     *const u8,
     usize,
@@ -245,4 +276,5 @@ const _: unsafe extern "C" fn(
     usize,
     usize,
 ) -> mrd_put = mrd_write;
-const _: unsafe extern "C" fn(*const u8, usize, *mut u8, usize) -> mrd_written = mrd_write_index;
+const _: unsafe extern "C" fn(mrd_rules, *const u8, usize, *mut u8, usize) -> mrd_written =
+    mrd_write_index;

@@ -1,6 +1,7 @@
 //! include/cotterleaf_names.h: names, numbers and sentences for C.
 
 use crate::definitions::{Element, Header, Kind, Named};
+use crate::rust::{said, words};
 use crate::{Format, DATA_TYPES, IMAGE_TYPES};
 
 /// `ConfigurationName` as `CONFIGURATION_NAME`.
@@ -85,7 +86,7 @@ fn type_of(element: Element, count: usize) -> String {
 }
 
 fn offsets(header: &Header, id: usize) -> String {
-    let prefix = format!("MRD_{}", upper(&header.kind));
+    let prefix = format!("MRD_{}", upper(&header.name));
     let mut rows: Vec<Row> = header
         .fields
         .iter()
@@ -95,11 +96,16 @@ fn offsets(header: &Header, id: usize) -> String {
         })
         .collect();
     rows.push(row(format!("{prefix}_HEADER_SIZE"), header.size, "bytes"));
-    let kind = header.kind.to_lowercase();
-    let comment = format!(
-        "Where each element of the {kind} header (id {id}) starts, counted from the header's first byte.\n * \
-         Element i of an array lies i times its type's size further."
+    let name = words(&header.name);
+    let mut comment = format!(
+        "Where each element of the {name} header (id {id}) starts, counted from the header's first byte.\n * "
     );
+    comment += &match said(&header.filler()) {
+        none if none.is_empty() => {
+            "Element i of an array lies i times its type's size further.".to_string()
+        }
+        filler => format!("Bytes {filler} are filler, where none starts."),
+    };
     enumeration(&comment, None, &rows)
 }
 

@@ -64,21 +64,36 @@ pub struct Field {
     pub element: Element,
 }
 
-/// One of the three headers.
+/// The header of a kind, in one layout of it.
 #[derive(Debug)]
 pub struct Header {
     /// The kind, as the definitions name it.
     pub kind: String,
+    /// The kind with its layout before it, but for the packed one, which is the kind's own.
+    pub name: String,
     pub fields: Vec<Field>,
     pub size: usize,
 }
 
-/// A kind of message: its name, id and the size of its fixed part.
+impl Header {
+    /// The bytes that no field has: the first of them and how many there are.
+    pub fn filler(&self) -> Vec<(usize, usize)> {
+        let end = |field: &Field| field.offset + field.count * field.element.size();
+        let ends = std::iter::once(0).chain(self.fields.iter().map(end));
+        let starts = self.fields.iter().map(|field| field.offset);
+        let gaps = ends.zip(starts.chain([self.size]));
+        gaps.filter(|(end, start)| end < start)
+            .map(|(end, start)| (end, start - end))
+            .collect()
+    }
+}
+
+/// A kind of message: its name, id and the size of its fixed part in each of its layouts.
 #[derive(Debug)]
 pub struct Kind {
     pub name: String,
     pub id: usize,
-    pub fixed: usize,
+    pub fixed: Vec<usize>,
 }
 
 /// A named number with what is said of it.
@@ -226,6 +241,7 @@ fn fixed_size(text: &str, form: &str) -> usize {
     numbers(line.expect("its fixed segments")).iter().sum()
 }
 
+/// A field of a header with one layout.
 fn field(line: &str) -> Option<Field> {
     let (name, run) = line.strip_prefix("layout ")?.split_once(" = ")?;
     let words: Vec<&str> = run.split_whitespace().collect();
@@ -248,46 +264,110 @@ pub fn header_file(kind: &str) -> String {
     format!("mrd_format/specs/{kind}.antt")
 }
 
-/// A header, whose fields must adjoin and fill it.
+/// The header of a kind that has one layout.
 fn header(sources: &Sources, kind: &str) -> Header {
     let text = sources.text(&header_file(kind));
-    let fields: Vec<Field> = text.lines().filter_map(field).collect();
-    let mut size = 0;
-    for field in &fields {
-        assert_eq!(field.offset, size, "{kind}: {} does not adjoin", field.name);
-        size += field.count * field.element.size();
-    }
     let from = text.find("fixedSegments = fixed ").expect("a fixed header");
-    assert_eq!(
-        numbers(&text[from..])[0],
-        size,
-        "{kind}: the fields fill the header"
-    );
-    let kind = kind.to_string();
-    Header { kind, fields, size }
+    Header {
+        kind: kind.to_string(),
+        name: kind.to_string(),
+        fields: text.lines().filter_map(field).collect(),
+        size: numbers(&text[from..])[0],
+    }
 }
 
+/// The layouts of a kind that has several, with the bytes that the header has in each.
+fn layouts(text: &str) -> Vec<(&str, usize)> {
+    let lines = lines_of(text, "headerBytes");
+    lines
+        .map(|(layout, size)| (layout, size.parse().expect("a size")))
+        .collect()
+}
+
+/// The headers of a kind that has several layouts: its fields have one type each, and an offset for each layout.
+fn headers_by_layout(sources: &Sources, kind: &str) -> Vec<Header> {
+    let text = sources.text(&header_file(kind));
+    let field = |layout: &str, name: &str, element: &str| Field {
+        name: name.replace('-', "_"),
+        offset: value_of(text, &format!("offset {layout} {name}"))
+            .parse()
+            .expect("an offset"),
+        count: 1,
+        element: Element::named(element),
+    };
+    let header = |(layout, size): (&str, usize)| Header {
+        kind: kind.to_string(),
+        name: match layout {
+            "Packed" => kind.to_string(),
+            _ => format!("{layout}{kind}"),
+        },
+        fields: lines_of(text, "typeOf")
+            .map(|(name, element)| field(layout, name, element))
+            .collect(),
+        size,
+    };
+    layouts(text).into_iter().map(header).collect()
+}
+
+/// The headers, each kind's packed layout first. Fields are in order and inside their header; only an aligned
+/// header has filler, and it has each field at a multiple of its size.
 pub fn headers(sources: &Sources) -> Vec<Header> {
-    let kinds = ["Acquisition", "Image", "Waveform"];
-    kinds.iter().map(|kind| header(sources, kind)).collect()
+    let mut headers = vec![header(sources, "Acquisition"), header(sources, "Image")];
+    headers.extend(headers_by_layout(sources, "Waveform"));
+    for header in &headers {
+        let sizes = header.fields.iter().map(|f| f.count * f.element.size());
+        let filler = header.filler().iter().map(|(_, size)| size).sum::<usize>();
+        assert_eq!(
+            sizes.sum::<usize>() + filler,
+            header.size,
+            "{}: fields and filler fill the header",
+            header.name
+        );
+        let aligned = |f: &Field| f.offset.next_multiple_of(f.element.size()) == f.offset;
+        match header.name == header.kind {
+            true => assert_eq!(filler, 0, "{}: fields adjoin", header.name),
+            false => assert!(
+                header.fields.iter().all(aligned),
+                "{}: aligned",
+                header.name
+            ),
+        }
+    }
+    headers
+}
+
+/// The name of a kind in a definition by cases, where one that has layouts stands with a letter for them:
+/// `(Waveform l)`.
+fn kind_name(case: &str) -> &str {
+    let inside = case.strip_prefix('(').and_then(|case| case.split_once(' '));
+    inside.map_or(case, |(name, _)| name)
 }
 
 /// The kinds, in the order of their table.
 pub fn kinds(sources: &Sources) -> Vec<Kind> {
     let text = sources.text("mrd_format/specs/Kinds.antt");
-    let rows = text.lines().filter_map(|line| line.strip_prefix("idOf "));
-    rows.filter_map(|row| row.split_once(" = "))
-        .map(|(name, id)| Kind {
+    let kind = |(case, id): (&str, &str)| {
+        let name = kind_name(case);
+        let fixed = match value_of(text, &format!("formOf {case}")) {
+            form if form.ends_with(".form l") => {
+                let sizes = layouts(sources.text(&header_file(name)));
+                sizes.into_iter().map(|(_, size)| size).collect()
+            }
+            form if form.ends_with(".form") => {
+                vec![fixed_size(sources.text(&header_file(name)), "form")]
+            }
+            form => vec![fixed_size(
+                sources.text("mrd_format/specs/Texts.antt"),
+                form,
+            )],
+        };
+        Kind {
             name: name.to_string(),
             id: id.parse().expect("an id"),
-            fixed: match value_of(text, &format!("formOf {name}")) {
-                form if form.ends_with(".form") => {
-                    fixed_size(sources.text(&header_file(name)), "form")
-                }
-                form => fixed_size(sources.text("mrd_format/specs/Texts.antt"), form),
-            },
-        })
-        .collect()
+            fixed,
+        }
+    };
+    lines_of(text, "idOf").map(kind).collect()
 }
 
 /// The constants of a program text, with the comments right above them.
@@ -368,7 +448,11 @@ pub fn order(sources: &Sources) -> Order {
         let may = |phase: &String| value_of(text, &format!("{test} {phase}")) == "true";
         let next = value_of(text, &format!("nextPhase {kind} p"));
         let next = (next != "p").then(|| next.to_string());
-        (kind.to_string(), phases.iter().map(may).collect(), next)
+        (
+            kind_name(kind).to_string(),
+            phases.iter().map(may).collect(),
+            next,
+        )
     });
     let kinds = kinds.collect();
     Order { phases, kinds }
@@ -400,11 +484,10 @@ pub fn stage_checks(sources: &Sources, name: &str) -> Vec<usize> {
 
 /// The checks of a kind's own fixed part.
 pub fn own_checks(sources: &Sources, kind: &str) -> Vec<usize> {
-    let form = value_of(
-        sources.text("mrd_format/specs/Kinds.antt"),
-        &format!("formOf {kind}"),
-    );
-    match form.ends_with(".form") {
+    let forms = sources.text("mrd_format/specs/Kinds.antt");
+    let form = lines_of(forms, "formOf").find(|(case, _)| kind_name(case) == kind);
+    let (_, form) = form.expect("the kind's form");
+    match form.contains(".form") {
         true => header_checks(sources.text(&header_file(kind))),
         false => checks_in(
             sources.text("mrd_format/specs/Texts.antt"),
@@ -416,7 +499,13 @@ pub fn own_checks(sources: &Sources, kind: &str) -> Vec<usize> {
 
 /// The checks of a header's file: those that its `checks` names, after those of the header alone where it has them.
 fn header_checks(text: &str) -> Vec<usize> {
-    let own = checks_in(text, "\nchecks h =", "\n\n");
+    let by_layout = text.contains("\nchecks l h =");
+    let start = if by_layout {
+        "\nchecks l h ="
+    } else {
+        "\nchecks h ="
+    };
+    let own = checks_in(text, start, "\n\n");
     match text.contains("\nchecks h = headerChecks h ++") {
         true => [checks_in(text, "\nheaderChecks h =", "\n\n"), own].concat(),
         false => own,

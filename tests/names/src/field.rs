@@ -48,7 +48,7 @@ pub fn counters(description: &str) -> Vec<String> {
 }
 
 /// Where a header of ours and the library's struct differ in a name, type or count; in an offset too, but for
-/// the waveform, whose struct is aligned there and packed here. Our `counters` are a struct of the library.
+/// the packed waveform, as the library has that struct aligned. Our `counters` are a struct of the library.
 pub fn differences(description: &str, header: &Header) -> Vec<String> {
     let theirs = members(description, &header.kind.to_lowercase());
     let ours = header
@@ -66,10 +66,10 @@ pub fn differences(description: &str, header: &Header) -> Vec<String> {
     for (ours, theirs) in ours.into_iter().zip(theirs) {
         let alike = (ours.name.as_str(), ours.element.in_rust(), ours.count)
             == (theirs.name, theirs.element, theirs.count);
-        if !alike || (header.kind != "Waveform" && ours.offset != theirs.offset) {
+        if !alike || (header.name != "Waveform" && ours.offset != theirs.offset) {
             found.push(format!(
                 "{}: {} {} x {} at {}, there {} {} x {} at {}",
-                header.kind,
+                header.name,
                 ours.name,
                 ours.element.in_rust(),
                 ours.count,

@@ -77,6 +77,19 @@ pub fn words(name: &str) -> String {
     upper(name).to_lowercase().replace('_', " ")
 }
 
+/// Bytes as a sentence says them, from their first and how many they are: `2 to 7, 38 and 39`.
+pub fn said(ranges: &[(usize, usize)]) -> String {
+    let said = |(first, count): &(usize, usize)| match (first, first + count - 1) {
+        (first, last) if last - first < 2 => (*first..=last).map(|byte| byte.to_string()).collect(),
+        (first, last) => vec![format!("{first} to {last}")],
+    };
+    let mut words: Vec<String> = ranges.iter().flat_map(said).collect();
+    match words.pop() {
+        Some(last) if !words.is_empty() => format!("{} and {last}", words.join(", ")),
+        last => last.unwrap_or_default(),
+    }
+}
+
 fn flags(format: &Format) -> String {
     let lines = format.flags.iter();
     let lines = lines.map(|flag| {
@@ -136,7 +149,7 @@ fn image_names(format: &Format) -> String {
 fn offsets(format: &Format) -> String {
     let mut lines = String::new();
     for header in &format.headers {
-        let kind = header.kind.to_lowercase();
+        let name = words(&header.name);
         let rows = header.fields.iter().map(|field| {
             let comment = format!("`{}`.", type_of(field.element, field.count));
             constant(
@@ -147,10 +160,15 @@ fn offsets(format: &Format) -> String {
                 field.offset,
             )
         });
-        let an = if kind == "waveform" { "a" } else { "an" };
+        let an = if name == "waveform" { "a" } else { "an" };
+        let filler = match said(&header.filler()) {
+            none if none.is_empty() => none,
+            filler => format!(" Bytes {filler} are filler, where none starts."),
+        };
         lines += &format!(
-            "    /// In the header of {an} {kind}, {} bytes.\n    pub mod {kind} {{\n{}    }}\n",
+            "    /// In the header of {an} {name}, {} bytes.{filler}\n    pub mod {} {{\n{}    }}\n",
             header.size,
+            name.replace(' ', "_"),
             rows.collect::<String>()
         );
     }
@@ -187,23 +205,28 @@ pub fn names_file(format: &Format) -> String {
     out
 }
 
-fn accessor(field: &Field) -> String {
+/// An accessor, with what its comment says of the offset and the expression for it.
+fn accessor(field: &Field, said: &str, at: &str) -> String {
     let of = type_of(field.element, field.count);
     let read = if field.count == 1 {
         "element"
     } else {
         "elements"
     };
+    let name = &field.name;
     format!(
-        "\n    /// `{}`, at offset {}.\n    pub fn {}(&self) -> {of} {{\n        {read}(self.bytes, {})\n    }}\n",
-        field.name, field.offset, field.name, field.offset
+        "\n    /// `{name}`, at offset {said}.\n    pub fn {name}(&self) -> {of} {{\n        {read}(self.bytes, {at})\n    }}\n"
     )
 }
 
 fn header(header: &Header, id: usize) -> String {
     let (kind, size) = (&header.kind, header.size);
     let an = if kind == "Waveform" { "a" } else { "an" };
-    let accessors: String = header.fields.iter().map(accessor).collect();
+    let accessors = header.fields.iter().map(|field| {
+        let at = field.offset.to_string();
+        accessor(field, &at, &at)
+    });
+    let accessors: String = accessors.collect();
     format!(
         "/// The header of {an} {} (id {id}): its {size} bytes as they lie in the stream, and each field by name.\n\
          #[derive(Clone, Copy, Debug, PartialEq, Eq, Hash)]\n\
@@ -217,12 +240,65 @@ fn header(header: &Header, id: usize) -> String {
     )
 }
 
+/// The header of a kind with two layouts, which holds its layout beside the bytes.
+fn header_of_layouts(packed: &Header, aligned: &Header, id: usize) -> String {
+    let kind = &packed.kind;
+    let accessors = packed.fields.iter().zip(&aligned.fields).map(|(p, a)| {
+        assert_eq!(p.name, a.name, "the same fields in both layouts");
+        match (p.offset, a.offset) {
+            (packed, aligned) if packed == aligned => {
+                accessor(p, &packed.to_string(), &packed.to_string())
+            }
+            (packed, aligned) => {
+                let said = format!("{packed}, aligned {aligned}");
+                accessor(p, &said, &format!("self.at({packed}, {aligned})"))
+            }
+        }
+    });
+    let made = [(packed, "Packed"), (aligned, "Aligned")].map(|(header, layout)| {
+        let (size, constructor) = (header.size, layout.to_lowercase());
+        format!(
+            "    /// A header from its {size} bytes, {constructor}.\n    \
+             pub fn {constructor}(bytes: &'a [u8; {size}]) -> {kind}Header<'a> {{\n        {kind}Header {{\n            \
+             layout: Layout::{layout},\n            bytes,\n        }}\n    }}\n\n"
+        )
+    });
+    format!(
+        "/// The header of a {} (id {id}) in one of its layouts: its bytes as they lie in the stream, {} packed or {}\n\
+         /// aligned, and each field by name. Two are equal where layout and bytes are, filler too.\n\
+         #[derive(Clone, Copy, Debug, PartialEq, Eq, Hash)]\n\
+         pub struct {kind}Header<'a> {{\n    layout: Layout,\n    bytes: &'a [u8],\n}}\n\n\
+         impl<'a> {kind}Header<'a> {{\n    \
+         /// How many bytes the header has in a layout.\n    \
+         pub const fn size(layout: Layout) -> usize {{\n        match layout {{\n            \
+         Layout::Packed => {},\n            Layout::Aligned => {},\n        }}\n    }}\n\n{}    \
+         /// The layout.\n    pub fn layout(&self) -> Layout {{\n        self.layout\n    }}\n\n    \
+         /// The bytes.\n    pub fn bytes(&self) -> &'a [u8] {{\n        self.bytes\n    }}\n\n    \
+         /// The offset in this header's layout.\n    \
+         fn at(&self, packed: usize, aligned: usize) -> usize {{\n        match self.layout {{\n            \
+         Layout::Packed => packed,\n            Layout::Aligned => aligned,\n        }}\n    }}\n{}}}\n\n",
+        kind.to_lowercase(),
+        packed.size,
+        aligned.size,
+        packed.size,
+        aligned.size,
+        made.concat(),
+        accessors.collect::<String>(),
+    )
+}
+
 pub fn headers_file(format: &Format) -> String {
     let mut out = String::from("//! The three headers, each field by its name.\n");
     out += FROM;
-    out += "use crate::element::{element, elements};\n\n";
-    for of in &format.headers {
-        out += &header(of, format.id(&of.kind));
+    out += "use crate::element::{element, elements};\nuse crate::rules::Layout;\n\n";
+    for kind in &format.kinds {
+        let of_kind = format.headers.iter().filter(|of| of.kind == kind.name);
+        out += &match of_kind.collect::<Vec<_>>()[..] {
+            [] => String::new(),
+            [of] => header(of, kind.id),
+            [packed, aligned] => header_of_layouts(packed, aligned, kind.id),
+            _ => panic!("{} has more than two layouts", kind.name),
+        };
     }
     out.truncate(out.len() - 1);
     out

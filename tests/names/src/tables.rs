@@ -53,13 +53,15 @@ fn then(kind: &str) -> &'static str {
 
 fn kinds(format: &Format) -> String {
     let rows = format.kinds.iter().map(|kind| {
-        let header = format
-            .headers
-            .iter()
-            .find(|header| header.kind == kind.name);
-        let fixed = match (kind.name.as_str(), header) {
-            ("Image", Some(header)) => format!("{} + {}", header.size, kind.fixed - header.size),
-            _ => grouped(kind.fixed),
+        let mut headers = format.headers.iter();
+        let header = headers.find(|header| header.kind == kind.name);
+        let fixed = match (&kind.fixed[..], header) {
+            ([packed, aligned], _) => format!("{packed}, aligned {aligned}"),
+            ([fixed], Some(header)) if *fixed > header.size => {
+                format!("{} + {}", header.size, fixed - header.size)
+            }
+            ([fixed], _) => grouped(*fixed),
+            _ => panic!("{} has more than two layouts", kind.name),
         };
         vec![
             kind.id.to_string(),
@@ -162,17 +164,20 @@ fn element_name(field: &Field) -> String {
     }
 }
 
-fn header(header: &Header) -> String {
-    let rows = header.fields.iter().map(|field| {
+fn header(header: &Header, definitions: &[&str]) -> String {
+    let field = |field: &Field| {
         let of = field.element.in_rust().to_string();
-        vec![
-            field.offset.to_string(),
-            of,
-            format!("`{}`", element_name(field)),
-        ]
-    });
-    table(&["offset", "type", "name"], rows.collect())
-        + &carried(&["layout", "cells"], &header_file(&header.kind))
+        (field.offset, of, format!("`{}`", element_name(field)))
+    };
+    let filler = |(at, size)| (at, format!("{size} bytes"), "filler".to_string());
+    let mut rows: Vec<(usize, String, String)> = header.fields.iter().map(field).collect();
+    rows.extend(header.filler().into_iter().map(filler));
+    rows.sort();
+    let cells = rows
+        .into_iter()
+        .map(|(at, of, name)| vec![at.to_string(), of, name]);
+    table(&["offset", "type", "name"], cells.collect())
+        + &carried(definitions, &header_file(&header.kind))
 }
 
 fn counters(format: &Format) -> String {
@@ -282,9 +287,10 @@ fn named(name: &str, format: &Format, sources: &Sources) -> String {
         "order" => order(format, sources),
         "stages" => stages(sources),
         "own checks" => own_checks(format, sources),
-        "acquisition" => header(&format.headers[0]),
-        "image" => header(&format.headers[1]),
-        "waveform" => header(&format.headers[2]),
+        "acquisition" => header(&format.headers[0], &["layout", "cells"]),
+        "image" => header(&format.headers[1], &["layout", "cells"]),
+        "waveform" => header(&format.headers[2], &["offset", "typeOf", "cells"]),
+        "aligned waveform" => header(&format.headers[3], &["offset", "typeOf", "cells"]),
         "counters" => counters(format),
         "data types" => data_types(format),
         "flags" => flags(format),

@@ -103,7 +103,7 @@ impl Detail {
                 ),
             ],
             Detail::Image {
-                matrix_size: [x, y, z],
+                matrix_size,
                 channels,
                 data_type,
                 attribute_length,
@@ -111,11 +111,7 @@ impl Detail {
                 (PartName::Attributes, u128::from(attribute_length)),
                 (
                     PartName::Pixels,
-                    u128::from(x)
-                        * u128::from(y)
-                        * u128::from(z)
-                        * u128::from(channels)
-                        * element_size(data_type).expect("a data type that passed check 8"),
+                    pixels_length(matrix_size, channels, data_type),
                 ),
             ],
             Detail::Waveform { samples, channels } => vec![(
@@ -145,6 +141,12 @@ impl Detail {
         }
         None
     }
+}
+
+/// The bytes of all pixels of an image whose data type passed check 8.
+fn pixels_length([x, y, z]: [u16; 3], channels: u16, data_type: u16) -> u128 {
+    let element = element_size(data_type).expect("a data type that passed check 8");
+    u128::from(x) * u128::from(y) * u128::from(z) * u128::from(channels) * element
 }
 
 /// The bytes of one pixel of an image data type, if there is such a type.

@@ -5,6 +5,7 @@ use crate::message::{Detail, PartName};
 use crate::questions::kind_and_place;
 use crate::refusal::Refused;
 use crate::rules::Rules;
+use crate::stream::Record;
 
 /// A part of the given stream. An empty one still has its natural place.
 #[derive(Clone, Copy, Debug, PartialEq, Eq)]
@@ -27,6 +28,16 @@ pub fn bytes_of(stream: &[u8], part: Part) -> &[u8] {
     &stream[part.start as usize..][..part.length as usize]
 }
 
+fn part_in(rules: Rules, record: &Record, name: PartName) -> Result<Part, Refused> {
+    match record.detail.part(rules, name) {
+        Some((start, length)) => Ok(Part {
+            start: record.start + start as u64,
+            length: length as u64,
+        }),
+        None => Err(Refused::Other(17)),
+    }
+}
+
 /// The named part of the record of that number.
 fn part_of(
     rules: Rules,
@@ -36,13 +47,7 @@ fn part_of(
     name: PartName,
 ) -> Result<Part, Refused> {
     let record = kind_and_place(rules, stream, given, number)?;
-    match record.detail.part(rules, name) {
-        Some((start, length)) => Ok(Part {
-            start: record.start + start as u64,
-            length: length as u64,
-        }),
-        None => Err(Refused::Other(17)),
-    }
+    part_in(rules, &record, name)
 }
 
 /// The bytes of a configuration text, header text or text.
@@ -83,8 +88,9 @@ pub fn channel(
     number: u64,
     channel: u64,
 ) -> Result<Part, Refused> {
-    let data = part_of(rules, stream, given, number, PartName::Samples)?;
-    match kind_and_place(rules, stream, given, number)?.detail {
+    let record = kind_and_place(rules, stream, given, number)?;
+    let data = part_in(rules, &record, PartName::Samples)?;
+    match record.detail {
         Detail::Acquisition {
             samples,
             active_channels,

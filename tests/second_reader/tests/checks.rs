@@ -5,11 +5,18 @@ mod common;
 use common::*;
 use second_reader::*;
 
-fn number(stream: &[u8]) -> u32 {
-    match check(stream) {
+fn number_under(rules: Rules, stream: &[u8]) -> u32 {
+    match check(rules, stream) {
         Ok(_) => 0,
         Err(refusal) => refusal.number,
     }
+}
+
+/// The number under both layouts, which agree on streams without waveforms.
+fn number(stream: &[u8]) -> u32 {
+    let [packed, aligned] = Rules::ALL.map(|rules| number_under(rules, stream));
+    assert_eq!(packed, aligned);
+    packed
 }
 
 #[test]
@@ -19,10 +26,13 @@ fn check_3_looks_at_the_whole_fixed_part() {
         // A fixed part of zeros is a whole message of these kinds.
         assert_eq!(number(&message(id, &[&vec![0; fixed]])), 13);
     }
-    for (id, fixed) in [(1008_u16, 340), (1022, 206), (1026, 32)] {
-        // The version is not looked at before the fixed part is there.
-        assert_eq!(number(&headed(&[&message(id, &[&vec![0; fixed - 1]])])), 3);
-        assert_eq!(number(&headed(&[&message(id, &[&vec![0; fixed]])])), 4);
+    for rules in Rules::ALL {
+        for (id, fixed) in [(1008_u16, 340), (1022, 206), (1026, waveform_size(rules))] {
+            let zeros = |length| headed(&[&message(id, &[&vec![0; length]])]);
+            // The version is not looked at before the fixed part is there.
+            assert_eq!(number_under(rules, &zeros(fixed - 1)), 3);
+            assert_eq!(number_under(rules, &zeros(fixed)), 4);
+        }
     }
     // A whole image header without its 8-byte length.
     let header = image_header([0; 3], 0, 99, 0);
@@ -32,10 +42,12 @@ fn check_3_looks_at_the_whole_fixed_part() {
 
 #[test]
 fn check_4_takes_version_1_only() {
-    for version in [0, 1, 2, 256, 257, 65_535] {
+    let versions = [0, 1, 2, 256, 257, 65_535];
+    let under = |rules| versions.map(|version| (rules, version));
+    for (rules, version) in Rules::ALL.map(under).concat() {
         let mut acquisition_bytes = acquisition(&acquisition_header(1, 1, 1));
         let mut image_bytes = image(&image_header([1; 3], 1, 1, 0), &[], &[0; 2]);
-        let mut waveform_bytes = waveform_message(&waveform_header(1, 1), &[0; 4]);
+        let mut waveform_bytes = waveform_message(&waveform_header(rules, 1, 1), &[0; 4]);
         for bytes in [
             &mut acquisition_bytes,
             &mut image_bytes,
@@ -43,7 +55,7 @@ fn check_4_takes_version_1_only() {
         ] {
             put16(bytes, 2, version);
             let expected = if version == 1 { 0 } else { 4 };
-            assert_eq!(number(&whole(&[bytes])), expected);
+            assert_eq!(number_under(rules, &whole(&[bytes])), expected);
         }
     }
 }
@@ -85,7 +97,10 @@ fn a_mask_is_not_stated_or_agrees_or_differs() {
         for &(word, ones) in mask {
             put64(&mut header, 40 + 8 * word, ones);
         }
-        let records = records(&whole(&[&acquisition(&header)])).expect("no mask is refused");
+        let stream = whole(&[&acquisition(&header)]);
+        let [packed, aligned] = Rules::ALL.map(|rules| records(rules, &stream));
+        assert_eq!(packed, aligned);
+        let records = packed.expect("no mask is refused");
         match records[1].detail {
             Detail::Acquisition { mask, .. } => mask,
             other => panic!("no acquisition: {other:?}"),
@@ -197,7 +212,7 @@ fn check_9_takes_no_low_word_of_a_longer_length() {
 }
 
 #[test]
-fn check_10_at_the_limit_of_each_kind_with_a_body() {
+fn check_10_at_the_limits_of_acquisitions_and_images() {
     let first_after =
         |header: Vec<u8>, id: u16, rest: &[u8]| number(&headed(&[&message(id, &[&header, rest])]));
     let mut header = acquisition_header(0, 0, 0);
@@ -207,8 +222,6 @@ fn check_10_at_the_limit_of_each_kind_with_a_body() {
     assert_eq!(first_after(header.clone(), 1008, &[]), 11);
     put16(&mut header, 176, 1_025);
     assert_eq!(first_after(header, 1008, &[]), 10);
-    assert_eq!(first_after(waveform_header(65_535, 1_024), 1026, &[]), 11);
-    assert_eq!(first_after(waveform_header(65_535, 1_025), 1026, &[]), 10);
     // An image meets the limit exactly by its attributes.
     let limit = 268_435_456 - 208;
     let lengths = |length: u32| (image_header([0; 3], 7, 8, length), u64::from(length));
@@ -239,13 +252,10 @@ fn products_that_pass_32_or_64_bits_are_10() {
     // Samples of 2^32 bytes.
     let header = acquisition_header(32_768, 16_384, 0);
     assert_eq!(number(&whole(&[&message(1008, &[&header])])), 10);
-    assert_eq!(
-        number(&whole(&[&message(
-            1026,
-            &[&waveform_header(32_768, 32_768)]
-        )])),
-        10
-    );
+    for rules in Rules::ALL {
+        let stream = whole(&[&message(1026, &[&waveform_header(rules, 32_768, 32_768)])]);
+        assert_eq!(number_under(rules, &stream), 10);
+    }
     // Pixels of 2^64 bytes, then of 2^32.
     let header = image_header([32_768; 3], 32_768, 8, 0);
     assert_eq!(number(&whole(&[&image(&header, &[], &[])])), 10);
@@ -263,24 +273,32 @@ fn zero_sizes_are_accepted() {
         let header = image_header(matrix, channels, 8, 0);
         assert_eq!(number(&whole(&[&image(&header, &[], &[])])), 0);
     }
-    for (samples, channels) in [(0, 65_535), (65_535, 0)] {
-        let header = waveform_header(samples, channels);
-        assert_eq!(number(&whole(&[&waveform_message(&header, &[])])), 0);
+    for rules in Rules::ALL {
+        for (samples, channels) in [(0, 65_535), (65_535, 0)] {
+            let stream = whole(&[&message(
+                1026,
+                &[&waveform_header(rules, samples, channels)],
+            )]);
+            assert_eq!(number_under(rules, &stream), 0);
+        }
     }
 }
 
 #[test]
 fn check_11_wants_every_byte_of_the_message() {
-    let messages = [
-        text_message(5, b"text"),
-        acquisition(&acquisition_header(2, 2, 1)),
-        image(&image_header([2, 1, 1], 1, 1, 3), b"att", &[0; 4]),
-        image(&image_header([2, 1, 1], 1, 1, 0), b"att", &[0; 4]),
-        waveform_message(&waveform_header(2, 1), &[0; 8]),
-    ];
-    for bytes in &messages {
-        assert_eq!(number(&headed(&[bytes])), 13);
-        assert_eq!(number(&headed(&[&bytes[..bytes.len() - 1]])), 11);
+    for rules in Rules::ALL {
+        let messages = [
+            text_message(5, b"text"),
+            acquisition(&acquisition_header(2, 2, 1)),
+            image(&image_header([2, 1, 1], 1, 1, 3), b"att", &[0; 4]),
+            image(&image_header([2, 1, 1], 1, 1, 0), b"att", &[0; 4]),
+            waveform_message(&waveform_header(rules, 2, 1), &[0; 8]),
+        ];
+        for bytes in &messages {
+            let cut = &bytes[..bytes.len() - 1];
+            assert_eq!(number_under(rules, &headed(&[bytes])), 13);
+            assert_eq!(number_under(rules, &headed(&[cut])), 11);
+        }
     }
 }
 
@@ -305,11 +323,13 @@ fn order_of_messages() {
     assert_eq!(number(&[&name[..], &text, &[4, 0]].concat()), 12);
     assert_eq!(number(&[&text[..], &name, &[4, 0]].concat()), 12);
     assert_eq!(number(&[4, 0, 4, 0]), 12);
-    let wave = waveform_message(&waveform_header(1, 1), &[0; 4]);
-    assert_eq!(number(&whole(&[&wave, &wave])), 0);
-    assert_eq!(number(&[&wave[..], &[4, 0]].concat()), 12);
-    assert_eq!(number(&[&text[..], &wave, &[4, 0]].concat()), 12);
-    assert_eq!(number(&whole(&[&wave, &text])), 12);
+    for rules in Rules::ALL {
+        let wave = waveform_message(&waveform_header(rules, 1, 1), &[0; 4]);
+        assert_eq!(number_under(rules, &whole(&[&wave, &wave])), 0);
+        assert_eq!(number(&[&wave[..], &[4, 0]].concat()), 12);
+        assert_eq!(number(&[&text[..], &wave, &[4, 0]].concat()), 12);
+        assert_eq!(number_under(rules, &whole(&[&wave, &text])), 12);
+    }
 }
 
 #[test]
@@ -349,19 +369,28 @@ fn order_of_checks_at_one_message() {
 
 #[test]
 fn the_first_faulty_message_decides() {
-    let mut stream = whole(&[&text_message(5, b"abc"), &message(7, &[])]);
-    let refusal = check(&stream).unwrap_err();
-    assert_eq!((refusal.number, refusal.record, refusal.byte), (2, 2, 15));
-    put16(&mut stream, 6, 1);
-    let refusal = check(&stream).unwrap_err();
-    assert_eq!((refusal.number, refusal.record, refusal.byte), (12, 1, 6));
+    for rules in Rules::ALL {
+        let refused = |stream: &[u8]| {
+            let refusal = check(rules, stream).unwrap_err();
+            (refusal.number, refusal.record, refusal.byte)
+        };
+        let mut stream = whole(&[&text_message(5, b"abc"), &message(7, &[])]);
+        assert_eq!(refused(&stream), (2, 2, 15));
+        put16(&mut stream, 6, 1);
+        assert_eq!(refused(&stream), (12, 1, 6));
+    }
 }
 
 #[test]
 fn check_19_among_its_neighbours() {
     let texts = |count: usize| text_message(5, b"").repeat(count);
+    let checked = |stream: &[u8]| {
+        let [packed, aligned] = Rules::ALL.map(|rules| check(rules, stream));
+        assert_eq!(packed, aligned);
+        packed
+    };
     let refused = |stream: &[u8]| {
-        let refusal = check(stream).unwrap_err();
+        let refusal = checked(stream).unwrap_err();
         (refusal.number, refusal.record, refusal.byte)
     };
     let mut full = texts(1_000_000);
@@ -374,7 +403,7 @@ fn check_19_among_its_neighbours() {
     // The millionth message may be the close, and a byte after it is 12.
     let mut closed = texts(999_999);
     closed.extend_from_slice(&close());
-    assert_eq!(check(&closed), Ok(1_000_000));
+    assert_eq!(checked(&closed), Ok(1_000_000));
     closed.push(0);
     assert_eq!(refused(&closed), (12, 1_000_000, 5_999_996));
     let mut over = texts(1_000_000);

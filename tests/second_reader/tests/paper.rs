@@ -6,14 +6,21 @@ mod common;
 use common::*;
 use second_reader::*;
 
+/// The check's answer under both layouts, which agree on streams without waveforms.
+fn checked(stream: &[u8]) -> Result<u64, Refusal> {
+    let [packed, aligned] = Rules::ALL.map(|rules| check(rules, stream));
+    assert_eq!(packed, aligned);
+    packed
+}
+
 fn refused(stream: &[u8]) -> (u32, u64, u64) {
-    let refusal = check(stream).expect_err("a refused stream");
+    let refusal = checked(stream).expect_err("a refused stream");
     (refusal.number, refusal.record, refusal.byte)
 }
 
 #[test]
 fn p1_a_close_alone_is_one_record() {
-    assert_eq!(check(&[4, 0]), Ok(1));
+    assert_eq!(checked(&[4, 0]), Ok(1));
 }
 
 #[test]
@@ -60,15 +67,17 @@ fn p9_data_before_the_header() {
 fn p10_sizes_of_an_acquisition() {
     for (dimensions, size) in [(0, 4_438), (2, 6_486)] {
         let stream = whole(&[&acquisition(&acquisition_header(256, 2, dimensions))]);
-        let record = kind_and_place(&stream, GivenIndex::NONE, 1).unwrap();
-        assert_eq!((record.start, record.size), (6, size));
         let expected = Detail::Acquisition {
             samples: 256,
             active_channels: 2,
             dimensions,
             mask: Mask::NotStated,
         };
-        assert_eq!(record.detail, expected);
+        for rules in Rules::ALL {
+            let record = kind_and_place(rules, &stream, GivenIndex::NONE, 1).unwrap();
+            assert_eq!((record.start, record.size), (6, size));
+            assert_eq!(record.detail, expected);
+        }
     }
 }
 
@@ -103,9 +112,11 @@ fn a_stream_with_a_text_at_the_limit_is_accepted() {
     put16(&mut stream, 0, 5);
     put32(&mut stream, 2, 268_435_450);
     put16(&mut stream, 268_435_456, 4);
-    assert_eq!(check(&stream), Ok(2));
-    let part = text(&stream, GivenIndex::NONE, 0).unwrap();
-    assert_eq!((part.start, part.length), (6, 268_435_450));
+    assert_eq!(checked(&stream), Ok(2));
+    for rules in Rules::ALL {
+        let part = text(rules, &stream, GivenIndex::NONE, 0).unwrap();
+        assert_eq!((part.start, part.length), (6, 268_435_450));
+    }
 }
 
 #[test]
@@ -128,13 +139,15 @@ fn index_example() {
         0x04, 0x00, 0x00, 0x00, 0x00, 0x00,
         0x04, 0x04, 0x00, 0x02, 0x00, 0x00, 0x00,
     ];
-    assert_eq!(index_bytes(&INDEX_EXAMPLE).unwrap(), expected);
-    let mut output = [7; 60];
-    assert_eq!(write_index(&INDEX_EXAMPLE, &mut output), Ok(57));
-    assert_eq!(output[..57], expected);
-    assert_eq!(output[57..], [7; 3]);
-    let columns = own_columns(&INDEX_EXAMPLE).unwrap();
-    assert_eq!(columns, (vec![0, 6], vec![3, 4], vec![0, 0]));
+    for rules in Rules::ALL {
+        assert_eq!(index_bytes(rules, &INDEX_EXAMPLE).unwrap(), expected);
+        let mut output = [7; 60];
+        assert_eq!(write_index(rules, &INDEX_EXAMPLE, &mut output), Ok(57));
+        assert_eq!(output[..57], expected);
+        assert_eq!(output[57..], [7; 3]);
+        let columns = own_columns(rules, &INDEX_EXAMPLE).unwrap();
+        assert_eq!(columns, (vec![0, 6], vec![3, 4], vec![0, 0]));
+    }
 }
 
 #[test]

@@ -5,9 +5,36 @@ mod common;
 use common::*;
 use second_reader::*;
 
-fn written(id: u16, header: &[u8], parts: &Parts) -> Result<Vec<u8>, u32> {
+under_each_layout! {
+    one_message_of_each_kind_without_a_header
+    one_message_of_each_kind_with_a_header
+    refusals_2_and_3
+    refusal_5
+    refusals_6_to_8
+    the_writer_puts_the_true_attribute_length_and_never_gives_9
+    no_other_refusal_of_the_writer_looks_at_the_stated_length
+    refusal_10_by_the_header_comes_before_18_and_14
+    refusal_10_by_a_given_length_comes_before_18_and_14
+    refusal_18_for_each_part_of_each_kind
+    refusal_18_where_the_sum_is_right_and_the_lengths_are_not
+    refusal_14_by_output_and_position
+    normal_form_puts_the_true_length_into_every_image_header
+    normal_form_cleans_a_name_and_the_images_after_it
+    normal_form_cleans_names_of_any_length
+    normal_form_refuses_the_stream_then_the_output
+    records_differ_by_kind_and_by_every_part
+    records_of_images_differ_by_every_bit_but_those_of_the_stated_length
+    columns_hold_start_id_and_counter
+    columns_that_are_too_short_are_14_and_stay
+    index_file_refuses_the_stream_then_the_output
+    a_given_file_must_equal_byte_for_byte
+    given_columns_may_be_longer_but_not_shorter_or_different
+    both_forms_given_at_once_must_both_agree
+}
+
+fn written(rules: Rules, id: u16, header: &[u8], parts: &Parts) -> Result<Vec<u8>, u32> {
     let mut output = vec![0xAA; 2_000];
-    let end = write(id, header, parts, &mut output, 3);
+    let end = write(rules, id, header, parts, &mut output, 3);
     match end {
         Ok(end) => {
             assert!(output[..3].iter().all(|&byte| byte == 0xAA));
@@ -24,23 +51,25 @@ fn written(id: u16, header: &[u8], parts: &Parts) -> Result<Vec<u8>, u32> {
     }
 }
 
-#[test]
-fn one_message_of_each_kind() {
+fn one_message_of_each_kind_without_a_header(rules: Rules) {
     let none = Parts::default();
-    assert_eq!(written(4, &[], &none), Ok(close()));
+    assert_eq!(written(rules, 4, &[], &none), Ok(close()));
     let parts = Parts {
         name: b"name",
         ..none
     };
-    assert_eq!(written(1, &[], &parts), Ok(name_message(b"name", 0)));
+    assert_eq!(written(rules, 1, &[], &parts), Ok(name_message(b"name", 0)));
     for id in [2, 3, 5] {
-        assert_eq!(written(id, &[], &none), Ok(text_message(id, b"")));
-        let parts = Parts {
-            text: b"some text",
-            ..none
-        };
-        assert_eq!(written(id, &[], &parts), Ok(text_message(id, b"some text")));
+        for text in [&b""[..], b"some text"] {
+            let parts = Parts { text, ..none };
+            let expected = text_message(id, text);
+            assert_eq!(written(rules, id, &[], &parts), Ok(expected));
+        }
     }
+}
+
+fn one_message_of_each_kind_with_a_header(rules: Rules) {
+    let none = Parts::default();
     let header = acquisition_header(3, 2, 1);
     let message = acquisition(&header);
     let parts = Parts {
@@ -48,7 +77,7 @@ fn one_message_of_each_kind() {
         samples: &message[354..],
         ..none
     };
-    assert_eq!(written(1008, &header, &parts), Ok(message.clone()));
+    assert_eq!(written(rules, 1008, &header, &parts), Ok(message.clone()));
     let header = image_header([2, 2, 1], 1, 1, 3);
     let parts = Parts {
         attributes: b"abc",
@@ -56,37 +85,36 @@ fn one_message_of_each_kind() {
         ..none
     };
     let expected = image(&header, parts.attributes, parts.pixels);
-    assert_eq!(written(1022, &header, &parts), Ok(expected));
-    let header = waveform_header(1, 2);
+    assert_eq!(written(rules, 1022, &header, &parts), Ok(expected));
+    let header = waveform_header(rules, 1, 2);
     let parts = Parts {
         waveform: &[1, 2, 3, 4, 5, 6, 7, 8],
         ..none
     };
     let expected = waveform_message(&header, parts.waveform);
-    assert_eq!(written(1026, &header, &parts), Ok(expected));
+    assert_eq!(written(rules, 1026, &header, &parts), Ok(expected));
 }
 
-#[test]
-fn refusals_2_and_3() {
+fn refusals_2_and_3(rules: Rules) {
     let none = Parts::default();
-    assert_eq!(written(0, &[], &none), Err(2));
-    assert_eq!(written(6, &[1, 2], &none), Err(2));
+    assert_eq!(written(rules, 0, &[], &none), Err(2));
+    assert_eq!(written(rules, 6, &[1, 2], &none), Err(2));
     for id in 1..=5 {
-        assert_eq!(written(id, &[0], &none), Err(3));
+        assert_eq!(written(rules, id, &[0], &none), Err(3));
     }
-    for (id, size) in [(1008, 340), (1022, 198), (1026, 32)] {
+    for (id, size) in [(1008, 340), (1022, 198), (1026, waveform_size(rules))] {
         for length in [0, size - 1, size + 1] {
-            assert_eq!(written(id, &vec![0; length], &none), Err(3));
+            assert_eq!(written(rules, id, &vec![0; length], &none), Err(3));
         }
-        assert_eq!(written(id, &vec![0; size], &none), Err(4));
+        assert_eq!(written(rules, id, &vec![0; size], &none), Err(4));
     }
-    assert_eq!(written(1022, &[0; 206], &none), Err(3));
+    assert_eq!(written(rules, 1022, &[0; 206], &none), Err(3));
 }
 
-#[test]
-fn refusal_5() {
+fn refusal_5(rules: Rules) {
     let named = |name: &[u8]| {
         written(
+            rules,
             1,
             &[],
             &Parts {
@@ -102,20 +130,19 @@ fn refusal_5() {
     assert_eq!(named(b""), Ok(name_message(b"", 0)));
 }
 
-#[test]
-fn refusals_6_to_8() {
+fn refusals_6_to_8(rules: Rules) {
     let none = Parts::default();
     let mut header = acquisition_header(0, 1, 0);
     put16(&mut header, 168, 1);
     put16(&mut header, 36, 0);
-    assert_eq!(written(1008, &header, &none), Err(6));
+    assert_eq!(written(rules, 1008, &header, &none), Err(6));
     put16(&mut header, 36, 1);
-    assert_eq!(written(1008, &header, &none), Err(7));
+    assert_eq!(written(rules, 1008, &header, &none), Err(7));
     put16(&mut header, 168, 0);
     // Any mask is written as it is given.
     for mask in [0, 1 << 40, 3, u64::MAX] {
         put64(&mut header, 40, mask);
-        let message = written(1008, &header, &none).expect("no mask is refused");
+        let message = written(rules, 1008, &header, &none).expect("no mask is refused");
         assert_eq!(message[2..], header);
     }
     let attributes = Parts {
@@ -123,17 +150,16 @@ fn refusals_6_to_8() {
         ..none
     };
     assert_eq!(
-        written(1022, &image_header([0; 3], 0, 9, 1), &attributes),
+        written(rules, 1022, &image_header([0; 3], 0, 9, 1), &attributes),
         Err(8)
     );
-    assert!(written(1022, &image_header([0; 3], 0, 8, 2), &attributes).is_ok());
+    assert!(written(rules, 1022, &image_header([0; 3], 0, 8, 2), &attributes).is_ok());
 }
 
 /// What an image header may hold as attribute length, right or not.
 const STATED: [u32; 8] = [0, 1, 2, 3, 4, 256, 1 << 31, u32::MAX];
 
-#[test]
-fn the_writer_puts_the_true_attribute_length_and_never_gives_9() {
+fn the_writer_puts_the_true_attribute_length_and_never_gives_9(rules: Rules) {
     for stated in STATED {
         for attributes in [&b""[..], b"abc"] {
             let header = image_header([2, 1, 1], 1, 1, stated);
@@ -144,19 +170,18 @@ fn the_writer_puts_the_true_attribute_length_and_never_gives_9() {
             };
             let true_header = image_header([2, 1, 1], 1, 1, attributes.len() as u32);
             let expected = image(&true_header, attributes, parts.pixels);
-            assert_eq!(written(1022, &header, &parts), Ok(expected.clone()));
-            assert_eq!(check(&whole(&[&expected])), Ok(3));
+            assert_eq!(written(rules, 1022, &header, &parts), Ok(expected.clone()));
+            assert_eq!(check(rules, &whole(&[&expected])), Ok(3));
         }
     }
 }
 
-#[test]
-fn no_other_refusal_of_the_writer_looks_at_the_stated_length() {
+fn no_other_refusal_of_the_writer_looks_at_the_stated_length(rules: Rules) {
     let parts = Parts {
         attributes: b"abc",
         ..Parts::default()
     };
-    let judged = |header: &[u8]| written(1022, header, &parts);
+    let judged = |header: &[u8]| written(rules, 1022, header, &parts);
     for stated in STATED {
         let mut header = image_header([1; 3], 1, 9, stated);
         assert_eq!(judged(&header[..197]), Err(3));
@@ -169,56 +194,45 @@ fn no_other_refusal_of_the_writer_looks_at_the_stated_length() {
         assert_eq!(judged(&header), Err(18));
         let header = image_header([0; 3], 1, 8, stated);
         let mut short = [0; 210];
-        assert_eq!(write(1022, &header, &parts, &mut short, 0), Err(14));
+        assert_eq!(write(rules, 1022, &header, &parts, &mut short, 0), Err(14));
     }
 }
 
-#[test]
-fn refusal_10_comes_before_18_and_14() {
-    let none = Parts::default();
-    let mut nothing = [];
-    assert_eq!(
-        write(
-            1008,
-            &acquisition_header(65_535, 65_535, 0),
-            &none,
-            &mut nothing,
-            9
-        ),
-        Err(10)
-    );
-    assert_eq!(
-        write(
-            1026,
-            &waveform_header(65_535, 65_535),
-            &none,
-            &mut nothing,
-            9
-        ),
-        Err(10)
-    );
-    let header = image_header([32_768; 3], 32_768, 8, 0);
-    assert_eq!(write(1022, &header, &none, &mut nothing, 9), Err(10));
+/// The writer's refusal into an output without any room.
+fn refused_without_room(rules: Rules, id: u16, header: &[u8], parts: &Parts) -> u32 {
+    write(rules, id, header, parts, &mut [], 0).expect_err("no message fits")
+}
+
+fn refusal_10_by_the_header_comes_before_18_and_14(rules: Rules) {
+    let headers = [
+        (1008, acquisition_header(65_535, 65_535, 0)),
+        (1022, image_header([32_768; 3], 32_768, 8, 0)),
+        (1026, waveform_header(rules, 65_535, 65_535)),
+    ];
+    for (id, header) in headers {
+        let number = refused_without_room(rules, id, &header, &Parts::default());
+        assert_eq!(number, 10, "id {id}");
+    }
+}
+
+fn refusal_10_by_a_given_length_comes_before_18_and_14(rules: Rules) {
     let long = vec![0; 268_435_451];
+    let none = Parts::default();
+    // At the limit the part that a text lacks shows, then the missing output.
+    let texts: [(&[u8], &[u8], u32); 3] = [
+        (&long, &[1], 10),
+        (&long[1..], &[1], 18),
+        (&long[1..], &[], 14),
+    ];
     for id in [2, 3, 5] {
-        let parts = Parts {
-            text: &long,
-            pixels: &[1],
-            ..none
-        };
-        assert_eq!(write(id, &[], &parts, &mut nothing, 0), Err(10));
-        // At the limit the wrong part shows, then the missing output.
-        let parts = Parts {
-            text: &long[1..],
-            pixels: &[1],
-            ..none
-        };
-        assert_eq!(write(id, &[], &parts, &mut nothing, 0), Err(18));
-        let parts = Parts {
-            text: &long[1..],
-            ..none
-        };
-        assert_eq!(write(id, &[], &parts, &mut nothing, 0), Err(14));
+        for (text, pixels, expected) in texts {
+            let parts = Parts {
+                text,
+                pixels,
+                ..none
+            };
+            assert_eq!(refused_without_room(rules, id, &[], &parts), expected);
+        }
     }
     // An image's by the given attributes, whatever the header says of them.
     let most = 268_435_456 - 208;
@@ -229,14 +243,27 @@ fn refusal_10_comes_before_18_and_14() {
                 attributes: &long[..length as usize],
                 ..none
             };
-            let answer = write(1022, &header, &parts, &mut nothing, 0);
-            assert_eq!(answer, Err(expected));
+            assert_eq!(refused_without_room(rules, 1022, &header, &parts), expected);
         }
     }
 }
 
-#[test]
-fn refusal_18_for_each_part_of_each_kind() {
+/// One part alone.
+fn one_part(name: PartName, bytes: &[u8]) -> Parts<'_> {
+    let mut parts = Parts::default();
+    match name {
+        PartName::Name => parts.name = bytes,
+        PartName::Text => parts.text = bytes,
+        PartName::Trajectory => parts.trajectory = bytes,
+        PartName::Samples => parts.samples = bytes,
+        PartName::Attributes => parts.attributes = bytes,
+        PartName::Pixels => parts.pixels = bytes,
+        PartName::Waveform => parts.waveform = bytes,
+    }
+    parts
+}
+
+fn refusal_18_for_each_part_of_each_kind(rules: Rules) {
     let byte: &[u8] = &[1];
     let headers = [
         (1, vec![]),
@@ -246,22 +273,9 @@ fn refusal_18_for_each_part_of_each_kind() {
         (5, vec![]),
         (1008, acquisition_header(0, 0, 0)),
         (1022, image_header([0; 3], 0, 1, 0)),
-        (1026, waveform_header(0, 0)),
+        (1026, waveform_header(rules, 0, 0)),
     ];
     for (id, header) in &headers {
-        let part = |name: PartName| {
-            let mut parts = Parts::default();
-            match name {
-                PartName::Name => parts.name = byte,
-                PartName::Text => parts.text = byte,
-                PartName::Trajectory => parts.trajectory = byte,
-                PartName::Samples => parts.samples = byte,
-                PartName::Attributes => parts.attributes = byte,
-                PartName::Pixels => parts.pixels = byte,
-                PartName::Waveform => parts.waveform = byte,
-            }
-            written(*id, header, &parts)
-        };
         for name in PartName::ALL {
             let expected = match (id, name) {
                 (1, PartName::Name) => Ok(name_message(byte, 0)),
@@ -271,34 +285,34 @@ fn refusal_18_for_each_part_of_each_kind() {
                 }
                 _ => Err(18),
             };
-            assert_eq!(part(name), expected, "id {id} {name:?}");
+            let answer = written(rules, *id, header, &one_part(name, byte));
+            assert_eq!(answer, expected, "id {id} {name:?}");
         }
     }
-    // Parts whose sum is right and whose own lengths are not.
-    let header = acquisition_header(1, 1, 1);
-    let parts = Parts {
-        trajectory: &[0; 8],
-        samples: &[0; 4],
-        ..Parts::default()
-    };
-    assert_eq!(written(1008, &header, &parts), Err(18));
-    let parts = Parts {
-        trajectory: &[0; 4],
-        samples: &[0; 8],
-        ..Parts::default()
-    };
-    assert!(written(1008, &header, &parts).is_ok());
 }
 
-#[test]
-fn refusal_14_by_output_and_position() {
+fn refusal_18_where_the_sum_is_right_and_the_lengths_are_not(rules: Rules) {
+    let header = acquisition_header(1, 1, 1);
+    let judged = |trajectory: &[u8], samples: &[u8]| {
+        let parts = Parts {
+            trajectory,
+            samples,
+            ..Parts::default()
+        };
+        written(rules, 1008, &header, &parts).map(drop)
+    };
+    assert_eq!(judged(&[0; 8], &[0; 4]), Err(18));
+    assert_eq!(judged(&[0; 4], &[0; 8]), Ok(()));
+}
+
+fn refusal_14_by_output_and_position(rules: Rules) {
     let parts = Parts {
         text: b"abc",
         ..Parts::default()
     };
     let at = |length: usize, position: u64| {
         let mut output = vec![0; length];
-        write(5, &[], &parts, &mut output, position)
+        write(rules, 5, &[], &parts, &mut output, position)
     };
     assert_eq!(at(9, 0), Ok(9));
     assert_eq!(at(8, 0), Err(14));
@@ -311,14 +325,16 @@ fn refusal_14_by_output_and_position() {
     assert_eq!(at(12, u64::MAX - 5), Err(14));
 }
 
-fn normal(stream: &[u8]) -> Vec<u8> {
+fn normal(rules: Rules, stream: &[u8]) -> Vec<u8> {
     let mut output = vec![0xAA; stream.len()];
-    assert_eq!(normal_form(stream, &mut output), Ok(stream.len() as u64));
+    assert_eq!(
+        normal_form(rules, stream, &mut output),
+        Ok(stream.len() as u64)
+    );
     output
 }
 
-#[test]
-fn normal_form_puts_the_true_length_into_every_image_header() {
+fn normal_form_puts_the_true_length_into_every_image_header(rules: Rules) {
     // Two images with attributes and one without, and what each header says of them.
     let stating = |first: u32, last: u32| {
         let header = |stated| image_header([1; 3], 1, 1, stated);
@@ -333,10 +349,10 @@ fn normal_form_puts_the_true_length_into_every_image_header() {
     for (first, last) in [(0, 0), (0, 300), (3, 0), (3, 300)] {
         let stream = stating(first, last);
         // One meaning, one set of bytes, and that is its own normal form.
-        assert_eq!(contents(&stream), contents(&expected));
-        assert_eq!(normal(&stream), expected);
+        assert_eq!(contents(rules, &stream), contents(rules, &expected));
+        assert_eq!(normal(rules, &stream), expected);
     }
-    assert_eq!(normal(&expected), expected);
+    assert_eq!(normal(rules, &expected), expected);
     // The four bytes of the number and no others were changed.
     let zero = stating(0, 0);
     let changed: Vec<usize> = (0..zero.len())
@@ -346,8 +362,7 @@ fn normal_form_puts_the_true_length_into_every_image_header() {
     assert_eq!(changed, [6 + 196, second + 196, second + 197]);
 }
 
-#[test]
-fn normal_form_cleans_a_name_and_the_images_after_it() {
+fn normal_form_cleans_a_name_and_the_images_after_it(rules: Rules) {
     let made = |filler: u8, stated: u32| {
         let header = image_header([0; 3], 0, 1, stated);
         [
@@ -359,30 +374,34 @@ fn normal_form_cleans_a_name_and_the_images_after_it() {
         .concat()
     };
     for (filler, stated) in [(0, 0), (0x5A, 0), (0x5A, 2), (0, 2)] {
-        assert_eq!(normal(&made(filler, stated)), made(0, 2));
+        assert_eq!(normal(rules, &made(filler, stated)), made(0, 2));
     }
 }
 
-#[test]
-fn normal_form_cleans_names_of_any_length() {
+fn normal_form_cleans_names_of_any_length(rules: Rules) {
     let rest = [text_message(3, b"\0\x01"), close()].concat();
     for length in [0, 1, 500, 1_022, 1_023] {
         let name = vec![b'n'; length];
         let stream = [&name_message(&name, 0x5A)[..], &rest].concat();
         let expected = [&name_message(&name, 0)[..], &rest].concat();
         let mut output = vec![1; stream.len() + 2];
-        assert_eq!(normal_form(&stream, &mut output), Ok(stream.len() as u64));
+        assert_eq!(
+            normal_form(rules, &stream, &mut output),
+            Ok(stream.len() as u64)
+        );
         assert_eq!(output[..stream.len()], expected);
         assert_eq!(output[stream.len()..], [1, 1]);
-        assert_eq!(contents(&stream), contents(&expected));
+        assert_eq!(contents(rules, &stream), contents(rules, &expected));
     }
 }
 
-#[test]
-fn normal_form_refuses_the_stream_then_the_output() {
+fn normal_form_refuses_the_stream_then_the_output(rules: Rules) {
     let stream = [text_message(5, b"abc"), close()].concat();
     let mut output = vec![7; stream.len() - 1];
-    assert_eq!(normal_form(&stream, &mut output), Err(Refused::Other(14)));
+    assert_eq!(
+        normal_form(rules, &stream, &mut output),
+        Err(Refused::Other(14))
+    );
     assert!(output.iter().all(|&byte| byte == 7));
     let refusal = Refusal {
         number: 13,
@@ -390,31 +409,32 @@ fn normal_form_refuses_the_stream_then_the_output() {
         byte: 9,
     };
     assert_eq!(
-        normal_form(&stream[..9], &mut []),
+        normal_form(rules, &stream[..9], &mut []),
         Err(Refused::Stream(refusal))
     );
 }
 
-#[test]
-fn records_differ_by_kind_and_by_every_part() {
-    let of = |messages: &[&[u8]]| contents(&whole(messages)).unwrap();
+fn records_differ_by_kind_and_by_every_part(rules: Rules) {
+    let of = |messages: &[&[u8]]| contents(rules, &whole(messages)).unwrap();
     let header = acquisition_header(1, 1, 1);
     let message = acquisition(&header);
     for byte in 2..message.len() {
         let mut other = message.clone();
         other[byte] ^= 1;
-        if check(&whole(&[&other])).is_ok() {
+        if check(rules, &whole(&[&other])).is_ok() {
             assert_ne!(of(&[&message]), of(&[&other]), "byte {byte}");
         }
     }
     let as_configuration = [text_message(2, b"same"), close()].concat();
     let as_text = [text_message(5, b"same"), close()].concat();
-    assert_ne!(contents(&as_configuration), contents(&as_text));
+    assert_ne!(
+        contents(rules, &as_configuration),
+        contents(rules, &as_text)
+    );
 }
 
-#[test]
-fn records_of_images_differ_by_every_bit_but_those_of_the_stated_length() {
-    let of = |message: &[u8]| contents(&whole(&[message]));
+fn records_of_images_differ_by_every_bit_but_those_of_the_stated_length(rules: Rules) {
+    let of = |message: &[u8]| contents(rules, &whole(&[message]));
     let message = image(&image_header([1; 3], 1, 1, 4), b"attr", &[1, 2]);
     let mine = of(&message);
     assert!(mine.is_ok());
@@ -428,13 +448,13 @@ fn records_of_images_differ_by_every_bit_but_those_of_the_stated_length() {
     assert_eq!(equal, [8 * 196 + 2]);
 }
 
-fn indexed() -> Vec<u8> {
+fn indexed(rules: Rules) -> Vec<u8> {
     let mut acquisition_head = acquisition_header(0, 0, 0);
     put32(&mut acquisition_head, 14, 0x0102_0304);
     let mut image_head = image_header([0; 3], 0, 1, 0);
     put32(&mut image_head, 12, u32::MAX);
-    let mut waveform_head = waveform_header(0, 0);
-    put32(&mut waveform_head, 14, 0xFFFF_FFFF);
+    let mut waveform_head = waveform_header(rules, 0, 0);
+    put32(&mut waveform_head, waveform_counter(rules), 0xFFFF_FFFF);
     whole(&[
         &acquisition(&acquisition_head),
         &image(&image_head, b"", &[]),
@@ -442,58 +462,61 @@ fn indexed() -> Vec<u8> {
     ])
 }
 
-#[test]
-fn columns_hold_start_id_and_counter() {
-    let stream = indexed();
+fn columns_hold_start_id_and_counter(rules: Rules) {
+    let stream = indexed(rules);
     let mut starts = [9; 6];
     let mut ids = [9; 7];
     let mut counters = [9; 5];
     assert_eq!(
-        fill_columns(&stream, &mut starts, &mut ids, &mut counters),
+        fill_columns(rules, &stream, &mut starts, &mut ids, &mut counters),
         Ok(5)
     );
-    assert_eq!(starts, [0, 6, 348, 556, 590, 9]);
+    let last = 558 + waveform_size(rules) as u64;
+    assert_eq!(starts, [0, 6, 348, 556, last, 9]);
     assert_eq!(ids, [3, 1008, 1022, 1026, 4, 9, 9]);
     assert_eq!(counters, [0, 0x0102_0304, 0, 0xFFFF_FFFF, 0]);
 }
 
-#[test]
-fn columns_that_are_too_short_are_14_and_stay() {
-    let stream = indexed();
+fn columns_that_are_too_short_are_14_and_stay(rules: Rules) {
+    let stream = indexed(rules);
     for short in 0..3 {
         let length = |column| if column == short { 4 } else { 5 };
         let mut starts = vec![9; length(0)];
         let mut ids = vec![9; length(1)];
         let mut counters = vec![9; length(2)];
-        let answer = fill_columns(&stream, &mut starts, &mut ids, &mut counters);
+        let answer = fill_columns(rules, &stream, &mut starts, &mut ids, &mut counters);
         assert_eq!(answer, Err(Refused::Other(14)));
         assert!(starts.iter().all(|&start| start == 9));
         assert!(ids.iter().all(|&id| id == 9));
         assert!(counters.iter().all(|&counter| counter == 9));
     }
-    let answer = fill_columns(&stream[..6], &mut [], &mut [], &mut []);
+    let answer = fill_columns(rules, &stream[..6], &mut [], &mut [], &mut []);
     assert_eq!(answer.unwrap_err().number(), 13);
 }
 
-#[test]
-fn index_file_refuses_the_stream_then_the_output() {
-    let stream = indexed();
+fn index_file_refuses_the_stream_then_the_output(rules: Rules) {
+    let stream = indexed(rules);
     let size = 5 + 11 + 5 * 17 + 7;
-    assert_eq!(index_bytes(&stream).unwrap().len(), size);
+    assert_eq!(index_bytes(rules, &stream).unwrap().len(), size);
     let mut output = vec![3; size - 1];
-    assert_eq!(write_index(&stream, &mut output), Err(Refused::Other(14)));
+    assert_eq!(
+        write_index(rules, &stream, &mut output),
+        Err(Refused::Other(14))
+    );
     assert!(output.iter().all(|&byte| byte == 3));
     assert_eq!(
-        write_index(&stream[..6], &mut output).unwrap_err().number(),
+        write_index(rules, &stream[..6], &mut output)
+            .unwrap_err()
+            .number(),
         13
     );
 }
 
-#[test]
-fn a_given_file_must_equal_byte_for_byte() {
-    let stream = indexed();
-    let file = index_bytes(&stream).unwrap();
-    let agrees = |bytes: &[u8]| second_reader::agrees(&stream, GivenIndex::file(bytes)).unwrap();
+fn a_given_file_must_equal_byte_for_byte(rules: Rules) {
+    let stream = indexed(rules);
+    let file = index_bytes(rules, &stream).unwrap();
+    let agrees =
+        |bytes: &[u8]| second_reader::agrees(rules, &stream, GivenIndex::file(bytes)).unwrap();
     assert!(agrees(&file));
     for byte in 0..file.len() {
         let mut other = file.clone();
@@ -502,15 +525,17 @@ fn a_given_file_must_equal_byte_for_byte() {
         assert!(!agrees(&file[..byte]), "{byte} bytes");
     }
     assert!(!agrees(&[&file[..], &[0]].concat()));
-    assert_eq!(second_reader::agrees(&stream, GivenIndex::NONE), Ok(true));
+    assert_eq!(
+        second_reader::agrees(rules, &stream, GivenIndex::NONE),
+        Ok(true)
+    );
 }
 
-#[test]
-fn given_columns_may_be_longer_but_not_shorter_or_different() {
-    let stream = indexed();
-    let (starts, ids, counters) = own_columns(&stream).unwrap();
+fn given_columns_may_be_longer_but_not_shorter_or_different(rules: Rules) {
+    let stream = indexed(rules);
+    let (starts, ids, counters) = own_columns(rules, &stream).unwrap();
     let agrees = |starts: &[u64], ids: &[u16], counters: &[u32]| {
-        second_reader::agrees(&stream, GivenIndex::columns(starts, ids, counters)).unwrap()
+        second_reader::agrees(rules, &stream, GivenIndex::columns(starts, ids, counters)).unwrap()
     };
     assert!(agrees(&starts, &ids, &counters));
     assert!(agrees(
@@ -532,17 +557,19 @@ fn given_columns_may_be_longer_but_not_shorter_or_different() {
         other[record] ^= 1;
         assert!(!agrees(&starts, &ids, &other));
     }
-    // Both forms given at once must both agree.
-    let file = index_bytes(&stream).unwrap();
+}
+
+fn both_forms_given_at_once_must_both_agree(rules: Rules) {
+    let stream = indexed(rules);
+    let (starts, ids, counters) = own_columns(rules, &stream).unwrap();
+    let file = index_bytes(rules, &stream).unwrap();
     let columns = GivenIndex::columns(&starts, &ids, &counters).columns;
     let both = |file| {
-        second_reader::agrees(
-            &stream,
-            GivenIndex {
-                file: Some(file),
-                columns,
-            },
-        )
+        let given = GivenIndex {
+            file: Some(file),
+            columns,
+        };
+        agrees(rules, &stream, given)
     };
     assert_eq!(both(&file), Ok(true));
     assert_eq!(both(&file[1..]), Ok(false));

@@ -1,6 +1,21 @@
-//! Messages built by hand for the tests, with offsets written out from document 01.
+//! Messages built by hand for the tests, with offsets written out from documents 01 and 02.
 
 #![allow(dead_code)]
+
+use second_reader::{Layout, Rules};
+
+/// Each of these functions as a test under each layout.
+#[macro_export]
+macro_rules! under_each_layout {
+    ($($test:ident)*) => {
+        mod packed {
+            $(#[test] fn $test() { super::$test(second_reader::Rules::PACKED) })*
+        }
+        mod aligned {
+            $(#[test] fn $test() { super::$test(second_reader::Rules::ALIGNED) })*
+        }
+    };
+}
 
 pub fn put16(bytes: &mut [u8], at: usize, number: u16) {
     bytes[at..at + 2].copy_from_slice(&number.to_le_bytes());
@@ -73,11 +88,32 @@ pub fn image(header: &[u8], attributes: &[u8], pixels: &[u8]) -> Vec<u8> {
     message(1022, &[header, &length, attributes, pixels])
 }
 
-pub fn waveform_header(samples: u16, channels: u16) -> Vec<u8> {
-    let mut header = vec![0; 32];
+/// The bytes of a waveform header.
+pub fn waveform_size(rules: Rules) -> usize {
+    match rules.layout {
+        Layout::Packed => 32,
+        Layout::Aligned => 40,
+    }
+}
+
+/// Where a waveform header has its scan counter.
+pub fn waveform_counter(rules: Rules) -> usize {
+    match rules.layout {
+        Layout::Packed => 14,
+        Layout::Aligned => 20,
+    }
+}
+
+/// A waveform header of version 1; filler is zero.
+pub fn waveform_header(rules: Rules, samples: u16, channels: u16) -> Vec<u8> {
+    let mut header = vec![0; waveform_size(rules)];
+    let (samples_at, channels_at) = match rules.layout {
+        Layout::Packed => (22, 24),
+        Layout::Aligned => (28, 30),
+    };
     put16(&mut header, 0, 1);
-    put16(&mut header, 22, samples);
-    put16(&mut header, 24, channels);
+    put16(&mut header, samples_at, samples);
+    put16(&mut header, channels_at, channels);
     header
 }
 

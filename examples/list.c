@@ -5,10 +5,13 @@
 #include "read_whole.h"
 #include <cotterleaf.h>
 
+/* Packed waveform headers; {true} is for aligned ones. Nothing in a stream tells which it has. */
+static const mrd_rules rules = {false};
+
 static int list(const uint8_t *stream, size_t length)
 {
-    mrd_step step = mrd_next(stream, length, mrd_beginning());
-    for (; !step.ended; step = mrd_next(stream, length, step.next)) {
+    mrd_step step = mrd_next(rules, stream, length, mrd_beginning());
+    for (; !step.ended; step = mrd_next(rules, stream, length, step.next)) {
         printf("record %zu: id %u, %zu bytes from byte %zu", step.here.number, step.here.id,
                step.here.size, step.here.start);
         if (step.here.mask == MRD_MASK_DIFFERS)

@@ -2,11 +2,12 @@
 //!
 //!     cargo run --example read -- ../samples/all_kinds.mrd
 
-use cotterleaf::{Refusal, Stream};
+use cotterleaf::{Refusal, Rules, Stream};
 use std::process::ExitCode;
 
 fn list(bytes: &[u8]) -> Result<(), Refusal> {
-    for record in Stream::new(bytes).records() {
+    // Packed waveform headers; `Rules::aligned()` is for aligned ones. Nothing in a stream tells which it has.
+    for record in Stream::new(Rules::packed(), bytes).records() {
         let record = record?;
         println!(
             "{} at byte {}: {:?}",

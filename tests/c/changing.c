@@ -2,11 +2,14 @@
  * written. Each output ends where a page begins that may not be touched, and what lies before it in its own page is
  * looked at in the end.
  *
- * The stream is a text whose bytes are themselves messages, empty texts, a configuration name, a header text and an
- * image, and a close. The other thread flips the text's length between all of them and none: 2 records or TEXTS + 5
- * and more, both accepted. It also flips the byte that ends the name, so that the name has 1 or 1,023 bytes and the
- * normal form as much filler to clear as remains; and the length of the image's attributes, whose bytes are empty
- * texts, between all of them and none: its header says 0, so the normal form puts that length there. */
+ * The stream is a text whose bytes are themselves messages, empty texts, a configuration name, a header text, an image
+ * and a waveform, and a close. The other thread flips the text's length between all of them and none: 2 records or
+ * TEXTS + 6 and more, both accepted. It also flips the byte that ends the name, so that the name has 1 or 1,023 bytes
+ * and the normal form as much filler to clear as remains; and the length of the image's attributes, whose bytes are
+ * empty texts, between all of them and none: its header says 0, so the normal form puts that length there.
+ *
+ * The calls take both layouts of waveform headers in turn, and the waveform is one of either. Packed it has 8 samples;
+ * aligned it has 6, which are empty texts, or by another flip none, and filler for the normal form to clear. */
 #define _DEFAULT_SOURCE
 #include "cotterleaf.h"
 
@@ -26,7 +29,12 @@ enum {
     STATED = IMAGE + 2 + 194,          /* what its header says of its attributes */
     ATTRIBUTE_LENGTH = IMAGE + 2 + 198,
     ATTRIBUTES = 10 * EMPTY,
-    LENGTH = ATTRIBUTE_LENGTH + 8 + ATTRIBUTES + 2,
+    WAVEFORM = ATTRIBUTE_LENGTH + 8 + ATTRIBUTES + 2, /* its header's first byte, after its id */
+    FILLER = WAVEFORM + 2,                            /* packed, the first of its flags */
+    FILLER_BYTES = 6,
+    DATA = WAVEFORM + MRD_ALIGNED_WAVEFORM_HEADER_SIZE,
+    DATA_BYTES = 4 * EMPTY,
+    LENGTH = DATA + DATA_BYTES + 2,
     TURNS = 2000000
 };
 
@@ -42,6 +50,7 @@ static void *flip(void *unused)
             bytes[2 + i] = (uint8_t)(length >> (8 * i));
         bytes[NAME + 1] = turn & 2 ? 'f' : 0;
         bytes[ATTRIBUTE_LENGTH] = turn & 4 ? ATTRIBUTES : 0;
+        bytes[WAVEFORM + MRD_ALIGNED_WAVEFORM_NUMBER_OF_SAMPLES] = turn & 8 ? DATA_BYTES / 4 : 0;
     }
     return unused;
 }
@@ -59,6 +68,15 @@ static void set_up(void)
     stream[IMAGE + 4] = 1; /* data type; its sizes are 0 */
     for (size_t i = 0; i < ATTRIBUTES; i += EMPTY)
         stream[ATTRIBUTE_LENGTH + 8 + i] = 5;
+    stream[WAVEFORM - 2] = MRD_ID_WAVEFORM & 255;
+    stream[WAVEFORM - 1] = MRD_ID_WAVEFORM >> 8;
+    stream[WAVEFORM] = 1; /* version */
+    memset(stream + FILLER, 'f', FILLER_BYTES);
+    stream[WAVEFORM + MRD_WAVEFORM_NUMBER_OF_SAMPLES] = (LENGTH - 2 - WAVEFORM - MRD_WAVEFORM_HEADER_SIZE) / 4;
+    stream[WAVEFORM + MRD_WAVEFORM_CHANNELS] = 1;
+    stream[WAVEFORM + MRD_ALIGNED_WAVEFORM_CHANNELS] = 1;
+    for (size_t i = 0; i < DATA_BYTES; i += EMPTY)
+        stream[DATA + i] = 5;
     stream[LENGTH - 2] = 4;
 }
 
@@ -87,7 +105,12 @@ static int untouched(const void *output, size_t bytes)
 
 int main(void)
 {
-    enum { STARTS = 2 * sizeof(uint64_t), IDS = 2 * sizeof(uint16_t), COUNTERS = 2 * sizeof(uint32_t), INDEX = 23 + 2 * 17 };
+    enum {
+        STARTS = 2 * sizeof(uint64_t),
+        IDS = 2 * sizeof(uint16_t),
+        COUNTERS = 2 * sizeof(uint32_t),
+        INDEX = 23 + 2 * 17
+    };
     set_up();
     uint64_t *starts = guarded(STARTS);
     uint16_t *ids = guarded(IDS);
@@ -99,25 +122,28 @@ int main(void)
         perror("changing: no second thread");
         return EXIT_FAILURE;
     }
-    unsigned long filled = 0, refused = 0, cleared = 0, kept = 0, stated = 0;
+    unsigned long filled = 0, refused = 0, cleared = 0, kept = 0, stated = 0, settled = 0, left = 0;
     for (long turn = 0; turn < TURNS; turn++) {
-        mrd_written columns = mrd_fill_columns(stream, LENGTH, starts, 2, ids, 2, counters, 2);
+        mrd_rules rules = {turn / 16 % 2 == 1};
+        mrd_written columns = mrd_fill_columns(rules, stream, LENGTH, starts, 2, ids, 2, counters, 2);
         filled += columns.refusal == 0;
         refused += columns.refusal != 0;
-        mrd_write_index(stream, LENGTH, index, INDEX);
-        if (turn % 16 == 0 && mrd_normal_form(stream, LENGTH, copy, LENGTH).refusal == 0) {
+        mrd_write_index(rules, stream, LENGTH, index, INDEX);
+        if (turn % 16 == 0 && mrd_normal_form(rules, stream, LENGTH, copy, LENGTH).refusal == 0) {
             cleared += copy[NAME + NAME_BYTES / 2] == 0;
             kept += copy[NAME + NAME_BYTES / 2] == 'f';
             stated += copy[STATED] == ATTRIBUTES;
+            settled += rules.aligned_waveforms && copy[FILLER] == 0;
+            left += !rules.aligned_waveforms && copy[FILLER] == 'f';
         }
     }
     done = 1;
     pthread_join(other, NULL);
-    if (filled == 0 || refused == 0 || cleared == 0 || kept == 0 || stated == 0) {
+    if (filled == 0 || refused == 0 || cleared == 0 || kept == 0 || stated == 0 || settled == 0 || left == 0) {
         fprintf(stderr,
                 "changing: the stream did not change during the calls: %lu filled, %lu refused, %lu cleared, %lu kept, "
-                "%lu lengths put\n",
-                filled, refused, cleared, kept, stated);
+                "%lu lengths put, %lu fillers cleared, %lu flags left\n",
+                filled, refused, cleared, kept, stated, settled, left);
         return EXIT_FAILURE;
     }
     if (!untouched(starts, STARTS) || !untouched(ids, IDS) || !untouched(counters, COUNTERS) ||

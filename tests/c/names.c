@@ -7,6 +7,8 @@
 #include <stdio.h>
 #include <string.h>
 
+static const mrd_rules rules = {false};
+
 static unsigned checks;
 
 #define CHECK(test)                                                  \
@@ -68,23 +70,24 @@ static int sentences(void)
 /* Header elements of the sample's acquisition 4, image 6 and waveform 7, by name. */
 static int elements(const uint8_t *s, size_t n)
 {
-    CHECK(mrd_field(s, n, 4, MRD_ACQUISITION_NUMBER_OF_SAMPLES).whole == 32);
-    CHECK(mrd_field(s, n, 4, MRD_ACQUISITION_SCAN_COUNTER).whole == 1);
-    CHECK(mrd_field(s, n, 4, MRD_ACQUISITION_COUNTERS + 2 * MRD_COUNTER_KSPACE_ENCODE_STEP_1).whole == 1);
-    CHECK(mrd_field(s, n, 4, MRD_ACQUISITION_USER_INT).integer == -2);
-    CHECK(mrd_float_of(mrd_field(s, n, 4, MRD_ACQUISITION_SAMPLE_TIME_US).float_bits) == 15.0F);
-    CHECK(mrd_flag_test(mrd_field(s, n, 3, MRD_ACQUISITION_FLAGS).whole, MRD_FLAG_FIRST_IN_SLICE));
-    CHECK(mrd_field(s, n, 6, MRD_IMAGE_DATA_TYPE).whole == MRD_DATA_TYPE_FLOAT);
-    CHECK(mrd_field(s, n, 6, MRD_IMAGE_ATTRIBUTE_STRING_LEN).whole == 134);
-    CHECK(mrd_field(s, n, 7, MRD_WAVEFORM_NUMBER_OF_SAMPLES).whole == 20);
-    CHECK(mrd_field(s, n, 7, MRD_WAVEFORM_HEADER_SIZE).refusal == MRD_REFUSED_NO_FIELD);
+    CHECK(mrd_field(rules, s, n, 4, MRD_ACQUISITION_NUMBER_OF_SAMPLES).whole == 32);
+    CHECK(mrd_field(rules, s, n, 4, MRD_ACQUISITION_SCAN_COUNTER).whole == 1);
+    CHECK(mrd_field(rules, s, n, 4, MRD_ACQUISITION_COUNTERS + 2 * MRD_COUNTER_KSPACE_ENCODE_STEP_1).whole == 1);
+    CHECK(mrd_field(rules, s, n, 4, MRD_ACQUISITION_USER_INT).integer == -2);
+    CHECK(mrd_float_of(mrd_field(rules, s, n, 4, MRD_ACQUISITION_SAMPLE_TIME_US).float_bits) == 15.0F);
+    CHECK(mrd_flag_test(mrd_field(rules, s, n, 3, MRD_ACQUISITION_FLAGS).whole, MRD_FLAG_FIRST_IN_SLICE));
+    CHECK(mrd_field(rules, s, n, 6, MRD_IMAGE_DATA_TYPE).whole == MRD_DATA_TYPE_FLOAT);
+    CHECK(mrd_field(rules, s, n, 6, MRD_IMAGE_ATTRIBUTE_STRING_LEN).whole == 134);
+    CHECK(mrd_field(rules, s, n, 7, MRD_WAVEFORM_NUMBER_OF_SAMPLES).whole == 20);
+    CHECK(mrd_field(rules, s, n, 7, MRD_WAVEFORM_HEADER_SIZE).refusal == MRD_REFUSED_NO_FIELD);
+    CHECK(MRD_WAVEFORM_HEADER_SIZE == 32 && MRD_ALIGNED_WAVEFORM_HEADER_SIZE == 40);
     return 0;
 }
 
 /* The samples of a channel whose view starts at an odd address. */
 static int samples(const uint8_t *s, size_t n)
 {
-    mrd_view_place place = mrd_view(s, n, 3, MRD_PART_CHANNEL, 1);
+    mrd_view_place place = mrd_view(rules, s, n, 3, MRD_PART_CHANNEL, 1);
     CHECK(place.refusal == MRD_OK && place.length == 32 * 8);
     CHECK((place.start & 1) == 1);
     for (size_t i = 0; i < 32; i++) {

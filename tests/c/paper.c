@@ -1,9 +1,11 @@
-/* The worked examples of document 01, each call of the library once, what a mask says, and an image header that says 0
- * of its attributes, from C. */
+/* The worked examples of document 01, each call of the library once for each layout of waveform headers, what a mask
+ * says, and an image header that says 0 of its attributes, from C. */
 #include "cotterleaf.h"
 
 #include <stdio.h>
 #include <string.h>
+
+static const mrd_rules PACKED = {false}, ALIGNED = {true};
 
 static int checks, failures;
 
@@ -42,13 +44,13 @@ static void answers(void)
         {{0xF0, 3}, 2, {MRD_REFUSED_ORDER, 0, 0, 0}},
     };
     for (size_t i = 0; i < sizeof rows / sizeof rows[0]; i++) {
-        mrd_checked answer = mrd_check(rows[i].bytes, rows[i].length);
+        mrd_checked answer = mrd_check(PACKED, rows[i].bytes, rows[i].length);
         CHECK(answer.refusal == rows[i].answer.refusal);
         CHECK(answer.record == rows[i].answer.record);
         CHECK(answer.byte == rows[i].answer.byte);
         CHECK(answer.count == rows[i].answer.count);
     }
-    CHECK(mrd_check(NULL, 0).refusal == MRD_REFUSED_NO_CLOSE); /* an empty slice may have any pointer */
+    CHECK(mrd_check(PACKED, NULL, 0).refusal == MRD_REFUSED_NO_CLOSE); /* an empty slice may have any pointer */
 }
 
 enum { SAMPLES = 256, CHANNELS = 2, DATA = SAMPLES * CHANNELS * 8, TRAJECTORY = SAMPLES * 2 * 4 };
@@ -76,21 +78,21 @@ static size_t write_stream(size_t *second)
 {
     uint8_t header[340];
     mrd_parts text = {.text = (const uint8_t *)"<xml/>", .text_length = 6};
-    mrd_put end = mrd_write_parts(MRD_ID_HEADER_TEXT, &text, written, sizeof written, 0);
+    mrd_put end = mrd_write_parts(PACKED, MRD_ID_HEADER_TEXT, &text, written, sizeof written, 0);
     CHECK(end.refusal == 0 && end.position == 12);
 
     set_acquisition(header, 0);
     mrd_parts parts = {.header = header, .header_length = 340, .samples = samples, .samples_length = DATA};
-    end = mrd_write_parts(MRD_ID_ACQUISITION, &parts, written, sizeof written, end.position);
+    end = mrd_write_parts(PACKED, MRD_ID_ACQUISITION, &parts, written, sizeof written, end.position);
     CHECK(end.refusal == 0 && end.position == 12 + 4438);
     *second = end.position;
 
     set_acquisition(header, 2);
     parts.trajectory = trajectory;
     parts.trajectory_length = TRAJECTORY;
-    end = mrd_write_parts(MRD_ID_ACQUISITION, &parts, written, sizeof written, end.position);
+    end = mrd_write_parts(PACKED, MRD_ID_ACQUISITION, &parts, written, sizeof written, end.position);
     CHECK(end.refusal == 0 && end.position == *second + 6486);
-    end = mrd_write_parts(MRD_ID_CLOSE, &(mrd_parts){0}, written, sizeof written, end.position);
+    end = mrd_write_parts(PACKED, MRD_ID_CLOSE, &(mrd_parts){0}, written, sizeof written, end.position);
     CHECK(end.refusal == 0 && end.position == *second + 6486 + 2);
     return end.position;
 }
@@ -106,16 +108,16 @@ static void written_reads_back(void)
     size_t length = write_stream(&second);
     CHECK(written[length] == 0xEE);
 
-    CHECK(mrd_check(written, length).count == 4);
-    CHECK(mrd_place(written, length, 1).size == 4438);
-    mrd_placed placed = mrd_place(written, length, 2);
+    CHECK(mrd_check(PACKED, written, length).count == 4);
+    CHECK(mrd_place(PACKED, written, length, 1).size == 4438);
+    mrd_placed placed = mrd_place(PACKED, written, length, 2);
     CHECK(placed.size == 6486 && placed.start == second && placed.id == MRD_ID_ACQUISITION);
     CHECK(placed.number_of_samples == SAMPLES && placed.channels == CHANNELS && placed.trajectory_dimensions == 2);
-    mrd_view_place channel = mrd_view(written, length, 2, MRD_PART_CHANNEL, 1);
+    mrd_view_place channel = mrd_view(PACKED, written, length, 2, MRD_PART_CHANNEL, 1);
     CHECK(channel.refusal == 0 && channel.length == SAMPLES * 8);
     CHECK(channel.start == second + 342 + TRAJECTORY + SAMPLES * 8);
     CHECK(memcmp(written + channel.start, samples + SAMPLES * 8, SAMPLES * 8) == 0);
-    mrd_view_place empty = mrd_view(written, length, 1, MRD_PART_TRAJECTORY, 0);
+    mrd_view_place empty = mrd_view(PACKED, written, length, 1, MRD_PART_TRAJECTORY, 0);
     CHECK(empty.refusal == 0 && empty.length == 0 && empty.start == 12 + 342);
 }
 
@@ -127,14 +129,14 @@ static void writer_refuses(void)
     memcpy(kept, out, sizeof out);
     mrd_parts none = {0};
     mrd_parts text = {.text = kept, .text_length = 3};
-    CHECK(mrd_write_parts(6, &none, out, sizeof out, 0).refusal == MRD_REFUSED_UNKNOWN_ID);
-    CHECK(mrd_write_parts(MRD_ID_IMAGE, &none, out, sizeof out, 0).refusal == MRD_REFUSED_FIXED_PART_CUT);
-    CHECK(mrd_write_parts(MRD_ID_CLOSE, &text, out, sizeof out, 0).refusal == MRD_REFUSED_BODY_LENGTH);
-    CHECK(mrd_write_parts(MRD_ID_TEXT, &text, out, sizeof out, 0).refusal == MRD_REFUSED_OUTPUT_SHORT);
-    CHECK(mrd_write_parts(MRD_ID_CLOSE, &none, out, sizeof out, 7).refusal == MRD_REFUSED_OUTPUT_SHORT);
-    CHECK(mrd_write_parts(MRD_ID_CLOSE, &none, out, sizeof out, SIZE_MAX).refusal == MRD_REFUSED_OUTPUT_SHORT);
+    CHECK(mrd_write_parts(PACKED, 6, &none, out, sizeof out, 0).refusal == MRD_REFUSED_UNKNOWN_ID);
+    CHECK(mrd_write_parts(PACKED, MRD_ID_IMAGE, &none, out, sizeof out, 0).refusal == MRD_REFUSED_FIXED_PART_CUT);
+    CHECK(mrd_write_parts(PACKED, MRD_ID_CLOSE, &text, out, sizeof out, 0).refusal == MRD_REFUSED_BODY_LENGTH);
+    CHECK(mrd_write_parts(PACKED, MRD_ID_TEXT, &text, out, sizeof out, 0).refusal == MRD_REFUSED_OUTPUT_SHORT);
+    CHECK(mrd_write_parts(PACKED, MRD_ID_CLOSE, &none, out, sizeof out, 7).refusal == MRD_REFUSED_OUTPUT_SHORT);
+    CHECK(mrd_write_parts(PACKED, MRD_ID_CLOSE, &none, out, sizeof out, SIZE_MAX).refusal == MRD_REFUSED_OUTPUT_SHORT);
     CHECK(memcmp(out, kept, sizeof out) == 0);
-    CHECK(mrd_write_parts(MRD_ID_CLOSE, &none, out, sizeof out, 6).position == 8);
+    CHECK(mrd_write_parts(PACKED, MRD_ID_CLOSE, &none, out, sizeof out, 6).position == 8);
 }
 
 /* P11 and P12. */
@@ -160,7 +162,7 @@ static const uint8_t INDEX[57] = {
 
 static mrd_reply with_file(mrd_question question, const uint8_t *file, size_t length)
 {
-    return mrd_ask_with_file(TWO_RECORDS, 8, question, file, length);
+    return mrd_ask_with_file(PACKED, TWO_RECORDS, 8, question, file, length);
 }
 
 /* The 57 bytes, written and given: believed as they are, 15 with any one of them changed. */
@@ -168,22 +170,22 @@ static void index_file(void)
 {
     uint8_t out[60];
     memset(out, 0xEE, sizeof out);
-    CHECK(mrd_write_index(TWO_RECORDS, 8, out, 56).refusal == MRD_REFUSED_OUTPUT_SHORT);
+    CHECK(mrd_write_index(PACKED, TWO_RECORDS, 8, out, 56).refusal == MRD_REFUSED_OUTPUT_SHORT);
     CHECK(out[0] == 0xEE);
-    CHECK(mrd_write_index(TWO_RECORDS, 8, out, sizeof out).length == 57);
+    CHECK(mrd_write_index(PACKED, TWO_RECORDS, 8, out, sizeof out).length == 57);
     CHECK(memcmp(out, INDEX, 57) == 0);
     CHECK(out[57] == 0xEE && out[58] == 0xEE && out[59] == 0xEE);
 
-    CHECK(mrd_index_matches(TWO_RECORDS, 8, INDEX, 57).refusal == 0);
-    CHECK(mrd_index_matches(TWO_RECORDS, 8, out, 58).refusal == MRD_REFUSED_INDEX_DIFFERS);
-    CHECK(mrd_index_matches(TWO_RECORDS, 8, NULL, 0).refusal == MRD_REFUSED_INDEX_DIFFERS);
-    mrd_matched before = mrd_index_matches(TWO_RECORDS, 6, INDEX, 57);
+    CHECK(mrd_index_matches(PACKED, TWO_RECORDS, 8, INDEX, 57).refusal == 0);
+    CHECK(mrd_index_matches(PACKED, TWO_RECORDS, 8, out, 58).refusal == MRD_REFUSED_INDEX_DIFFERS);
+    CHECK(mrd_index_matches(PACKED, TWO_RECORDS, 8, NULL, 0).refusal == MRD_REFUSED_INDEX_DIFFERS);
+    mrd_matched before = mrd_index_matches(PACKED, TWO_RECORDS, 6, INDEX, 57);
     CHECK(before.refusal == MRD_REFUSED_NO_CLOSE && before.record == 1 && before.byte == 6);
     CHECK(with_file(mrd_question_place(1), INDEX, 57).place.start == 6);
     CHECK(with_file(mrd_question_about(0, 1), INDEX, 57).refusal == MRD_REFUSED_NO_PART);
     CHECK(with_file(mrd_question_about(5, 2), INDEX, 57).refusal == MRD_REFUSED_NO_RECORD);
     CHECK(with_file(mrd_question_about(5, 2), INDEX, 56).refusal == MRD_REFUSED_INDEX_DIFFERS);
-    mrd_reply refused = mrd_ask_with_file(TWO_RECORDS, 6, mrd_question_place(0), INDEX, 57);
+    mrd_reply refused = mrd_ask_with_file(PACKED, TWO_RECORDS, 6, mrd_question_place(0), INDEX, 57);
     CHECK(refused.refusal == MRD_REFUSED_NO_CLOSE && refused.record == 1 && refused.byte == 6);
     CHECK(refused.place.refusal == MRD_REFUSED_NO_CLOSE && refused.view.byte == 6 && refused.found.record == 1);
     CHECK(with_file(mrd_question_place(2), INDEX, 57).place.refusal == MRD_REFUSED_NO_RECORD);
@@ -193,7 +195,7 @@ static void index_file(void)
     CHECK(with_file(mrd_question_find(0, asked), INDEX, 57).found.refusal == MRD_REFUSED_NO_RECORD);
     for (size_t i = 0; i < 57; i++) {
         out[i] ^= 1;
-        CHECK(mrd_index_matches(TWO_RECORDS, 8, out, 57).refusal == MRD_REFUSED_INDEX_DIFFERS);
+        CHECK(mrd_index_matches(PACKED, TWO_RECORDS, 8, out, 57).refusal == MRD_REFUSED_INDEX_DIFFERS);
         CHECK(with_file(mrd_question_place(9), out, 57).place.refusal == MRD_REFUSED_INDEX_DIFFERS);
         out[i] ^= 1;
     }
@@ -208,23 +210,23 @@ static void index_columns(void)
     uint64_t starts[3] = {91, 92, 93};
     uint16_t ids[3] = {94, 95, 96};
     uint32_t counters[3] = {97, 98, 99};
-    CHECK(mrd_fill_columns(TWO_RECORDS, 8, starts, 3, ids, 1, counters, 3).refusal == MRD_REFUSED_OUTPUT_SHORT);
+    CHECK(mrd_fill_columns(PACKED, TWO_RECORDS, 8, starts, 3, ids, 1, counters, 3).refusal == MRD_REFUSED_OUTPUT_SHORT);
     CHECK(starts[0] == 91 && ids[0] == 94 && counters[0] == 97);
-    CHECK(mrd_fill_columns(TWO_RECORDS, 8, starts, 3, ids, 2, counters, 3).length == 2);
+    CHECK(mrd_fill_columns(PACKED, TWO_RECORDS, 8, starts, 3, ids, 2, counters, 3).length == 2);
     CHECK(starts[0] == 0 && starts[1] == 6 && starts[2] == 93);
     CHECK(ids[0] == 3 && ids[1] == 4 && ids[2] == 96);
     CHECK(counters[0] == 0 && counters[1] == 0 && counters[2] == 99);
 
-#define WITH_COLUMNS(question) mrd_ask_with_columns(TWO_RECORDS, 8, question, starts, 3, ids, 3, counters, 2)
+#define WITH_COLUMNS(question) mrd_ask_with_columns(PACKED, TWO_RECORDS, 8, question, starts, 3, ids, 3, counters, 2)
     uint16_t asked[17] = {0};
-    CHECK(mrd_columns_match(TWO_RECORDS, 8, starts, 3, ids, 3, counters, 2).refusal == 0);
+    CHECK(mrd_columns_match(PACKED, TWO_RECORDS, 8, starts, 3, ids, 3, counters, 2).refusal == 0);
     CHECK(WITH_COLUMNS(mrd_question_place(1)).place.start == 6);
     CHECK(WITH_COLUMNS(mrd_question_view(0, 2, 0)).view.start == 6);
     CHECK(WITH_COLUMNS(mrd_question_field(0, 0)).field.refusal == 20);
     CHECK(WITH_COLUMNS(mrd_question_find(0, asked)).found.refusal == 16);
-    CHECK(mrd_columns_match(TWO_RECORDS, 8, starts, 1, ids, 3, counters, 2).refusal == MRD_REFUSED_INDEX_DIFFERS);
+    CHECK(mrd_columns_match(PACKED, TWO_RECORDS, 8, starts, 1, ids, 3, counters, 2).refusal == 15);
     ids[1] = 5;
-    CHECK(mrd_columns_match(TWO_RECORDS, 8, starts, 3, ids, 3, counters, 2).refusal == MRD_REFUSED_INDEX_DIFFERS);
+    CHECK(mrd_columns_match(PACKED, TWO_RECORDS, 8, starts, 3, ids, 3, counters, 2).refusal == 15);
     CHECK(WITH_COLUMNS(mrd_question_place(1)).place.refusal == 15);
     CHECK(WITH_COLUMNS(mrd_question_view(0, 2, 0)).view.refusal == 15);
     CHECK(WITH_COLUMNS(mrd_question_field(0, 0)).field.refusal == 15);
@@ -234,14 +236,14 @@ static void index_columns(void)
 /* A refused view is the empty part at the stream's front; its place says why. */
 static void refused_views(void)
 {
-    mrd_view_place wrong = mrd_view(TWO_RECORDS, 8, 1, MRD_PART_TEXT, 0);
+    mrd_view_place wrong = mrd_view(PACKED, TWO_RECORDS, 8, 1, MRD_PART_TEXT, 0);
     CHECK(wrong.refusal == MRD_REFUSED_NO_PART && wrong.start == 0 && wrong.length == 0);
-    CHECK(mrd_view(TWO_RECORDS, 8, 0, 99, 0).refusal == MRD_REFUSED_NO_PART);
-    CHECK(mrd_view(TWO_RECORDS, 8, SIZE_MAX, MRD_PART_TEXT, 0).refusal == MRD_REFUSED_NO_RECORD);
-    mrd_view_place of_refused = mrd_view(TWO_RECORDS, 7, 0, MRD_PART_TEXT, 0);
+    CHECK(mrd_view(PACKED, TWO_RECORDS, 8, 0, 99, 0).refusal == MRD_REFUSED_NO_PART);
+    CHECK(mrd_view(PACKED, TWO_RECORDS, 8, SIZE_MAX, MRD_PART_TEXT, 0).refusal == MRD_REFUSED_NO_RECORD);
+    mrd_view_place of_refused = mrd_view(PACKED, TWO_RECORDS, 7, 0, MRD_PART_TEXT, 0);
     CHECK(of_refused.refusal == MRD_REFUSED_ID_CUT && of_refused.record == 1 && of_refused.byte == 6);
     CHECK(of_refused.start == 0 && of_refused.length == 0);
-    mrd_view_place empty_text = mrd_view(TWO_RECORDS, 8, 0, MRD_PART_TEXT, 7);
+    mrd_view_place empty_text = mrd_view(PACKED, TWO_RECORDS, 8, 0, MRD_PART_TEXT, 7);
     CHECK(empty_text.refusal == 0 && empty_text.start == 6 && empty_text.length == 0);
 }
 
@@ -260,12 +262,13 @@ static void one_normal_form(void)
     memset(normal_one, 0xEE, sizeof normal_one);
     memset(normal_other, 0xEE, sizeof normal_other);
     CHECK(memcmp(one, other, sizeof one) != 0);
-    CHECK(mrd_normal_form(one, 1028, normal_one, 1027).refusal == MRD_REFUSED_OUTPUT_SHORT && normal_one[0] == 0xEE);
-    CHECK(mrd_normal_form(one, 1028, normal_one, 1030).length == 1028);
-    CHECK(mrd_normal_form(other, 1028, normal_other, 1030).length == 1028);
+    CHECK(mrd_normal_form(PACKED, one, 1028, normal_one, 1027).refusal == MRD_REFUSED_OUTPUT_SHORT);
+    CHECK(normal_one[0] == 0xEE);
+    CHECK(mrd_normal_form(PACKED, one, 1028, normal_one, 1030).length == 1028);
+    CHECK(mrd_normal_form(PACKED, other, 1028, normal_other, 1030).length == 1028);
     CHECK(memcmp(normal_one, normal_other, 1030) == 0);
     CHECK(normal_one[8] == 0 && normal_one[1025] == 0 && normal_one[1026] == 4 && normal_one[1028] == 0xEE);
-    mrd_view_place name = mrd_view(one, 1028, 0, MRD_PART_NAME, 0);
+    mrd_view_place name = mrd_view(PACKED, one, 1028, 0, MRD_PART_NAME, 0);
     CHECK(name.start == 2 && name.length == 6);
 }
 
@@ -279,21 +282,21 @@ static void fields_and_find(void)
     put(stream, 6, 2, MRD_ID_ACQUISITION);
     memcpy(stream + 8, header, 340);
     put(stream, 348, 2, MRD_ID_CLOSE);
-    mrd_field_answer counter = mrd_field(stream, sizeof stream, 1, 14);
+    mrd_field_answer counter = mrd_field(PACKED, stream, sizeof stream, 1, 14);
     CHECK(counter.refusal == 0 && counter.value_type == MRD_WHOLE && counter.whole == 77);
-    mrd_field_answer integer = mrd_field(stream, sizeof stream, 1, 276);
+    mrd_field_answer integer = mrd_field(PACKED, stream, sizeof stream, 1, 276);
     CHECK(integer.value_type == MRD_SIGNED && integer.integer == -2);
-    mrd_field_answer nan = mrd_field(stream, sizeof stream, 1, 178);
+    mrd_field_answer nan = mrd_field(PACKED, stream, sizeof stream, 1, 178);
     CHECK(nan.value_type == MRD_FLOAT && nan.float_bits == 0x7F800001);
     CHECK(mrd_float_of(0x3F800000) == 1.0f);
-    CHECK(mrd_field(stream, sizeof stream, 1, 15).refusal == MRD_REFUSED_NO_FIELD);
-    CHECK(mrd_field(stream, sizeof stream, 0, 0).refusal == MRD_REFUSED_NO_FIELD);
-    CHECK(mrd_field(stream, sizeof stream, 3, 15).refusal == MRD_REFUSED_NO_RECORD);
+    CHECK(mrd_field(PACKED, stream, sizeof stream, 1, 15).refusal == MRD_REFUSED_NO_FIELD);
+    CHECK(mrd_field(PACKED, stream, sizeof stream, 0, 0).refusal == MRD_REFUSED_NO_FIELD);
+    CHECK(mrd_field(PACKED, stream, sizeof stream, 3, 15).refusal == MRD_REFUSED_NO_RECORD);
     uint16_t asked[17] = {5};
-    CHECK(mrd_find(stream, sizeof stream, 0, asked).number == 1);
-    CHECK(mrd_find(stream, sizeof stream, 2, asked).refusal == MRD_REFUSED_NO_RECORD);
+    CHECK(mrd_find(PACKED, stream, sizeof stream, 0, asked).number == 1);
+    CHECK(mrd_find(PACKED, stream, sizeof stream, 2, asked).refusal == MRD_REFUSED_NO_RECORD);
     asked[16] = 1;
-    CHECK(mrd_find(stream, sizeof stream, 0, asked).refusal == MRD_REFUSED_NO_RECORD);
+    CHECK(mrd_find(PACKED, stream, sizeof stream, 0, asked).refusal == MRD_REFUSED_NO_RECORD);
 }
 
 /* What a mask says, at every place where a kind is handed out: by number, in a walk, and with an index of either form. */
@@ -323,24 +326,24 @@ static void masks(void)
         put(stream, 8 + MRD_ACQUISITION_CHANNEL_MASK, 8, rows[i].first);
         put(stream, 8 + MRD_ACQUISITION_CHANNEL_MASK + 120, 8, rows[i].last);
         put(stream, 348, 2, MRD_ID_CLOSE);
-        CHECK(mrd_check(stream, sizeof stream).count == 3);
-        CHECK(mrd_write_index(stream, sizeof stream, file, sizeof file).length == sizeof file);
-        CHECK(mrd_fill_columns(stream, sizeof stream, starts, 3, ids, 3, counters, 3).length == 3);
-        mrd_step header = mrd_next(stream, sizeof stream, mrd_beginning());
+        CHECK(mrd_check(PACKED, stream, sizeof stream).count == 3);
+        CHECK(mrd_write_index(PACKED, stream, sizeof stream, file, sizeof file).length == sizeof file);
+        CHECK(mrd_fill_columns(PACKED, stream, sizeof stream, starts, 3, ids, 3, counters, 3).length == 3);
+        mrd_step header = mrd_next(PACKED, stream, sizeof stream, mrd_beginning());
         mrd_question question = mrd_question_place(1);
         mrd_placed placed[] = {
-            mrd_place(stream, sizeof stream, 1),
-            mrd_next(stream, sizeof stream, header.next).here,
-            mrd_ask_with_file(stream, sizeof stream, question, file, sizeof file).place,
-            mrd_ask_with_columns(stream, sizeof stream, question, starts, 3, ids, 3, counters, 3).place,
+            mrd_place(PACKED, stream, sizeof stream, 1),
+            mrd_next(PACKED, stream, sizeof stream, header.next).here,
+            mrd_ask_with_file(PACKED, stream, sizeof stream, question, file, sizeof file).place,
+            mrd_ask_with_columns(PACKED, stream, sizeof stream, question, starts, 3, ids, 3, counters, 3).place,
         };
         for (size_t k = 0; k < sizeof placed / sizeof placed[0]; k++)
             CHECK(placed[k].refusal == 0 && placed[k].channels == rows[i].active && placed[k].mask == rows[i].mask &&
                   placed[k].mask_ones == rows[i].ones);
         CHECK(header.here.mask == 0 && header.here.mask_ones == 0); /* a text has no mask */
         put(stream, 8 + MRD_ACQUISITION_ACTIVE_CHANNELS, 2, 4); /* of 3 available */
-        CHECK(mrd_check(stream, sizeof stream).refusal == MRD_REFUSED_CHANNELS);
-        CHECK(mrd_place(stream, sizeof stream, 1).mask == 0);
+        CHECK(mrd_check(PACKED, stream, sizeof stream).refusal == MRD_REFUSED_CHANNELS);
+        CHECK(mrd_place(PACKED, stream, sizeof stream, 1).mask == 0);
     }
 }
 
@@ -379,26 +382,26 @@ static void stated_lengths(void)
     for (uint32_t stated = 0; stated <= 3; stated += 3) {
         image_stream stream = image_saying(stated);
         const uint8_t *bytes = stream.bytes;
-        CHECK(mrd_check(bytes, length).count == 3);
-        mrd_step text = mrd_next(bytes, length, mrd_beginning());
-        mrd_placed placed[] = {mrd_place(bytes, length, 1), mrd_next(bytes, length, text.next).here};
+        CHECK(mrd_check(PACKED, bytes, length).count == 3);
+        mrd_step text = mrd_next(PACKED, bytes, length, mrd_beginning());
+        mrd_placed placed[] = {mrd_place(PACKED, bytes, length, 1), mrd_next(PACKED, bytes, length, text.next).here};
         for (size_t i = 0; i < 2; i++)
             CHECK(placed[i].id == MRD_ID_IMAGE && placed[i].attribute_length == 3 && placed[i].size == 208 + 3 + 4);
-        mrd_field_answer fields[] = {mrd_field(bytes, length, 1, MRD_IMAGE_ATTRIBUTE_STRING_LEN),
-                                     mrd_field_at(bytes, length, text.next, MRD_IMAGE_ATTRIBUTE_STRING_LEN)};
+        mrd_field_answer fields[] = {mrd_field(PACKED, bytes, length, 1, MRD_IMAGE_ATTRIBUTE_STRING_LEN),
+                                     mrd_field_at(PACKED, bytes, length, text.next, MRD_IMAGE_ATTRIBUTE_STRING_LEN)};
         for (size_t i = 0; i < 2; i++)
             CHECK(fields[i].refusal == 0 && fields[i].value_type == MRD_WHOLE && fields[i].whole == stated);
-        mrd_view_place attributes = mrd_view(bytes, length, 1, MRD_PART_ATTRIBUTES, 0);
+        mrd_view_place attributes = mrd_view(PACKED, bytes, length, 1, MRD_PART_ATTRIBUTES, 0);
         CHECK(attributes.refusal == 0 && attributes.start == ATTRIBUTES && attributes.length == 3);
-        CHECK(mrd_view(bytes, length, 1, MRD_PART_PIXELS, 0).start == PIXELS);
+        CHECK(mrd_view(PACKED, bytes, length, 1, MRD_PART_PIXELS, 0).start == PIXELS);
         memset(&out, 0xEE, sizeof out);
-        CHECK(mrd_normal_form(bytes, length, out.bytes, length).length == length);
+        CHECK(mrd_normal_form(PACKED, bytes, length, out.bytes, length).length == length);
         CHECK(memcmp(out.bytes, normal.bytes, length) == 0);
     }
     static const uint32_t others[] = {1, 2, 4, 3 << 8, UINT32_MAX};
     for (size_t i = 0; i < sizeof others / sizeof others[0]; i++) {
         image_stream stream = image_saying(others[i]);
-        mrd_checked refused = mrd_check(stream.bytes, length);
+        mrd_checked refused = mrd_check(PACKED, stream.bytes, length);
         CHECK(refused.refusal == MRD_REFUSED_ATTRIBUTE_LENGTH && refused.record == 1 && refused.byte == IMAGE);
     }
 }
@@ -420,7 +423,7 @@ static void lengths_past_32_bits(void)
     for (size_t i = 0; i < sizeof rows / sizeof rows[0]; i++) {
         image_stream stream = image_saying(rows[i].stated);
         put(stream.bytes, IMAGE + 200, 8, rows[i].length);
-        CHECK(mrd_check(stream.bytes, sizeof stream.bytes).refusal == rows[i].refusal);
+        CHECK(mrd_check(PACKED, stream.bytes, sizeof stream.bytes).refusal == rows[i].refusal);
     }
 }
 
@@ -436,41 +439,241 @@ static void stated_lengths_written(void)
         mrd_parts parts = {.header = stream.bytes + IMAGE + 2, .header_length = 198,
                            .attributes = (const uint8_t *)"abc", .attributes_length = 3,
                            .pixels = stream.bytes + PIXELS, .pixels_length = 4};
-        mrd_put end = mrd_write_parts(MRD_ID_IMAGE, &parts, out, sizeof out, 0);
+        mrd_put end = mrd_write_parts(PACKED, MRD_ID_IMAGE, &parts, out, sizeof out, 0);
         CHECK(end.refusal == 0 && end.position == sizeof out);
         CHECK(memcmp(out, normal.bytes + IMAGE, sizeof out) == 0);
     }
 }
 
+enum {
+    WAVEFORM = 6,
+    WAVEFORM_HEADER = WAVEFORM + 2,
+    WAVEFORM_DATA = WAVEFORM_HEADER + MRD_ALIGNED_WAVEFORM_HEADER_SIZE,
+    WAVEFORM_END = WAVEFORM_DATA + 2 * 2 * 4
+};
+
+/* A header text, an aligned waveform of 2 samples and 2 channels whose filler has this byte, and the close. Packed, the
+ * same bytes are a waveform of 6 samples and 1 channel: 42 + 16 bytes, and 34 + 24. */
+typedef struct {
+    uint8_t bytes[WAVEFORM_END + 2];
+} waveform_stream;
+
+static waveform_stream waveform_filled(uint8_t filler)
+{
+    waveform_stream stream = {{3, 0}};
+    uint8_t *header = stream.bytes + WAVEFORM_HEADER;
+    put(stream.bytes, WAVEFORM, 2, MRD_ID_WAVEFORM);
+    memset(header, filler, MRD_ALIGNED_WAVEFORM_HEADER_SIZE);
+    put(header, MRD_ALIGNED_WAVEFORM_VERSION, 2, 1);
+    put(header, MRD_ALIGNED_WAVEFORM_FLAGS, 8, UINT64_C(0x8877665544332211));
+    put(header, MRD_ALIGNED_WAVEFORM_MEASUREMENT_UID, 4, 0x89ABCDEF);
+    put(header, MRD_ALIGNED_WAVEFORM_SCAN_COUNTER, 4, 6 << 16 | 77); /* packed, its upper half are the samples */
+    put(header, MRD_ALIGNED_WAVEFORM_TIME_STAMP, 4, 5 << 16 | 1);    /* and its lower half here the channels */
+    put(header, MRD_ALIGNED_WAVEFORM_NUMBER_OF_SAMPLES, 2, 2);
+    put(header, MRD_ALIGNED_WAVEFORM_CHANNELS, 2, 2);
+    put(header, MRD_ALIGNED_WAVEFORM_SAMPLE_TIME_US, 4, 0x7F800001); /* a signalling NaN */
+    put(header, MRD_ALIGNED_WAVEFORM_WAVEFORM_ID, 2, 0x4321);
+    memset(stream.bytes + WAVEFORM_DATA, 0x5A, WAVEFORM_END - WAVEFORM_DATA);
+    put(stream.bytes, WAVEFORM_END, 2, MRD_ID_CLOSE);
+    return stream;
+}
+
+/* The elements of that header. At any other offset there is none. */
+static const struct {
+    size_t offset;
+    uint32_t value_type;
+    uint64_t whole;
+    uint32_t float_bits;
+} aligned_elements[] = {
+    {MRD_ALIGNED_WAVEFORM_VERSION, MRD_WHOLE, 1, 0},
+    {MRD_ALIGNED_WAVEFORM_FLAGS, MRD_WHOLE, UINT64_C(0x8877665544332211), 0},
+    {MRD_ALIGNED_WAVEFORM_MEASUREMENT_UID, MRD_WHOLE, 0x89ABCDEF, 0},
+    {MRD_ALIGNED_WAVEFORM_SCAN_COUNTER, MRD_WHOLE, 6 << 16 | 77, 0},
+    {MRD_ALIGNED_WAVEFORM_TIME_STAMP, MRD_WHOLE, 5 << 16 | 1, 0},
+    {MRD_ALIGNED_WAVEFORM_NUMBER_OF_SAMPLES, MRD_WHOLE, 2, 0},
+    {MRD_ALIGNED_WAVEFORM_CHANNELS, MRD_WHOLE, 2, 0},
+    {MRD_ALIGNED_WAVEFORM_SAMPLE_TIME_US, MRD_FLOAT, 0, 0x7F800001},
+    {MRD_ALIGNED_WAVEFORM_WAVEFORM_ID, MRD_WHOLE, 0x4321, 0},
+};
+
+/* An aligned stream with its index in both forms. */
+typedef struct {
+    waveform_stream stream;
+    uint8_t file[23 + 3 * 17];
+    uint64_t starts[3];
+    uint16_t ids[3];
+    uint32_t counters[3];
+} aligned_indexed;
+
+#define STREAM_OF(of) (of)->stream.bytes, sizeof(of)->stream.bytes
+#define COLUMNS_OF(of) (of)->starts, 3, (of)->ids, 3, (of)->counters, 3
+
+/* The index and what compares it: it has the scan counter of the layout that it was made under, and is no index of the
+ * same bytes under the other one. */
+static void aligned_index(aligned_indexed *of)
+{
+    CHECK(mrd_write_index(ALIGNED, STREAM_OF(of), of->file, sizeof of->file).length == sizeof of->file);
+    CHECK(mrd_fill_columns(ALIGNED, STREAM_OF(of), COLUMNS_OF(of)).length == 3);
+    CHECK(of->starts[1] == WAVEFORM && of->ids[1] == MRD_ID_WAVEFORM && of->counters[1] == (6 << 16 | 77));
+    CHECK(mrd_index_matches(ALIGNED, STREAM_OF(of), of->file, sizeof of->file).refusal == MRD_OK);
+    CHECK(mrd_columns_match(ALIGNED, STREAM_OF(of), COLUMNS_OF(of)).refusal == MRD_OK);
+    CHECK(mrd_index_matches(PACKED, STREAM_OF(of), of->file, sizeof of->file).refusal == MRD_REFUSED_INDEX_DIFFERS);
+    CHECK(mrd_columns_match(PACKED, STREAM_OF(of), COLUMNS_OF(of)).refusal == MRD_REFUSED_INDEX_DIFFERS);
+}
+
+static mrd_reply ask_aligned(const aligned_indexed *of, mrd_question question, bool by_file)
+{
+    return by_file ? mrd_ask_with_file(ALIGNED, STREAM_OF(of), question, of->file, sizeof of->file)
+                   : mrd_ask_with_columns(ALIGNED, STREAM_OF(of), question, COLUMNS_OF(of));
+}
+
+/* Every element at its offset, and 20 at every other, filler and packed offsets among them: by number, at a cursor, and
+ * with an index of either form. */
+static void aligned_fields(const aligned_indexed *of, mrd_cursor cursor)
+{
+    enum { ELEMENTS = sizeof aligned_elements / sizeof aligned_elements[0] };
+    for (size_t offset = 0; offset < 50; offset++) {
+        size_t e = 0;
+        while (e < ELEMENTS && aligned_elements[e].offset != offset)
+            e++;
+        mrd_question question = mrd_question_field(1, offset);
+        mrd_field_answer fields[] = {
+            mrd_field(ALIGNED, STREAM_OF(of), 1, offset),
+            mrd_field_at(ALIGNED, STREAM_OF(of), cursor, offset),
+            ask_aligned(of, question, true).field,
+            ask_aligned(of, question, false).field,
+        };
+        for (size_t i = 0; i < sizeof fields / sizeof fields[0]; i++) {
+            CHECK(fields[i].refusal == (e < ELEMENTS ? MRD_OK : MRD_REFUSED_NO_FIELD));
+            if (e < ELEMENTS)
+                CHECK(fields[i].value_type == aligned_elements[e].value_type &&
+                      fields[i].whole == aligned_elements[e].whole &&
+                      fields[i].float_bits == aligned_elements[e].float_bits);
+        }
+    }
+}
+
+/* Place and data: by number, at a cursor of a walk and of the columns, and with an index of either form. */
+static void aligned_places(const aligned_indexed *of, mrd_cursor cursor)
+{
+    static const uint16_t asked[17] = {0};
+    mrd_cursor_answer made = mrd_cursor_for(ALIGNED, of->starts, 3, of->ids, 3, 1);
+    CHECK(made.refusal == MRD_OK && made.cursor.start == cursor.start && made.cursor.number == cursor.number);
+    mrd_placed placed[] = {
+        mrd_place(ALIGNED, STREAM_OF(of), 1),
+        mrd_next(ALIGNED, STREAM_OF(of), cursor).here,
+        ask_aligned(of, mrd_question_place(1), true).place,
+        ask_aligned(of, mrd_question_place(1), false).place,
+    };
+    for (size_t i = 0; i < sizeof placed / sizeof placed[0]; i++)
+        CHECK(placed[i].refusal == MRD_OK && placed[i].id == MRD_ID_WAVEFORM && placed[i].start == WAVEFORM &&
+              placed[i].size == WAVEFORM_END - WAVEFORM && placed[i].number_of_samples == 2 &&
+              placed[i].channels == 2);
+    mrd_view_place views[] = {
+        mrd_view(ALIGNED, STREAM_OF(of), 1, MRD_PART_WAVEFORM, 0),
+        mrd_view_at(ALIGNED, STREAM_OF(of), cursor, MRD_PART_WAVEFORM, 0),
+        mrd_view_at(ALIGNED, STREAM_OF(of), made.cursor, MRD_PART_WAVEFORM, 0),
+        ask_aligned(of, mrd_question_view(1, MRD_PART_WAVEFORM, 0), true).view,
+        ask_aligned(of, mrd_question_view(1, MRD_PART_WAVEFORM, 0), false).view,
+    };
+    for (size_t i = 0; i < sizeof views / sizeof views[0]; i++)
+        CHECK(views[i].refusal == MRD_OK && views[i].start == WAVEFORM_DATA &&
+              views[i].length == WAVEFORM_END - WAVEFORM_DATA);
+    CHECK(mrd_find(ALIGNED, STREAM_OF(of), 0, asked).refusal == MRD_REFUSED_NO_RECORD);
+}
+
+/* Each call once with aligned waveform headers. What filler holds is no part of any answer, and the normal form has it
+ * zero. */
+static void aligned_waveforms(void)
+{
+    for (int filler = 0; filler < 256; filler += 85) {
+        aligned_indexed of = {.stream = waveform_filled((uint8_t)filler)};
+        waveform_stream normal = waveform_filled(0), out;
+        CHECK(mrd_check(ALIGNED, STREAM_OF(&of)).count == 3);
+        mrd_step text = mrd_next(ALIGNED, STREAM_OF(&of), mrd_beginning());
+        CHECK(mrd_check_from(ALIGNED, STREAM_OF(&of), text.next).count == 3);
+        aligned_index(&of);
+        aligned_fields(&of, text.next);
+        aligned_places(&of, text.next);
+        memset(&out, 0xEE, sizeof out);
+        CHECK(mrd_normal_form(ALIGNED, STREAM_OF(&of), out.bytes, sizeof out.bytes).length == sizeof out.bytes);
+        CHECK(memcmp(&out, &normal, sizeof out) == 0);
+    }
+}
+
+/* The same bytes under both layouts: accepted twice, with other records. Packed, no byte of the header is filler. */
+static void one_stream_two_layouts(void)
+{
+    waveform_stream stream = waveform_filled(0xA5), out;
+    const size_t length = sizeof stream.bytes;
+    CHECK(mrd_check(PACKED, stream.bytes, length).count == 3 && mrd_check(ALIGNED, stream.bytes, length).count == 3);
+    mrd_placed packed = mrd_place(PACKED, stream.bytes, length, 1);
+    CHECK(packed.size == WAVEFORM_END - WAVEFORM && packed.number_of_samples == 6 && packed.channels == 1);
+    mrd_view_place data = mrd_view(PACKED, stream.bytes, length, 1, MRD_PART_WAVEFORM, 0);
+    CHECK(data.start == WAVEFORM_HEADER + MRD_WAVEFORM_HEADER_SIZE && data.length == 24);
+    CHECK(mrd_field(PACKED, stream.bytes, length, 1, MRD_WAVEFORM_FLAGS).whole == UINT64_C(0x2211A5A5A5A5A5A5));
+    CHECK(mrd_normal_form(PACKED, stream.bytes, length, out.bytes, length).length == length);
+    CHECK(memcmp(&out, &stream, sizeof out) == 0);
+}
+
+/* An aligned header has 40 bytes before there is anything to judge in it. */
+static void aligned_refusals(void)
+{
+    waveform_stream stream = waveform_filled(0xA5);
+    mrd_checked cut = mrd_check(ALIGNED, stream.bytes, WAVEFORM_HEADER + 39);
+    CHECK(cut.refusal == MRD_REFUSED_FIXED_PART_CUT && cut.record == 1 && cut.byte == WAVEFORM);
+    CHECK(mrd_check(PACKED, stream.bytes, WAVEFORM_HEADER + 39).refusal == MRD_REFUSED_MESSAGE_CUT);
+    CHECK(mrd_check(ALIGNED, stream.bytes, WAVEFORM_HEADER + 40).refusal == MRD_REFUSED_MESSAGE_CUT);
+    put(stream.bytes, WAVEFORM_HEADER + MRD_ALIGNED_WAVEFORM_VERSION, 2, 2);
+    CHECK(mrd_check(ALIGNED, stream.bytes, WAVEFORM_HEADER + 40).refusal == MRD_REFUSED_VERSION);
+}
+
+/* The writer takes a header of 40 bytes and makes its filler zero; one of the other layout's size is 3. */
+static void aligned_written(void)
+{
+    waveform_stream given = waveform_filled(0xA5), normal = waveform_filled(0);
+    uint8_t out[WAVEFORM_END - WAVEFORM], kept[sizeof out];
+    memset(out, 0xEE, sizeof out);
+    memcpy(kept, out, sizeof out);
+    mrd_parts parts = {.header = given.bytes + WAVEFORM_HEADER, .header_length = 32,
+                       .waveform = given.bytes + WAVEFORM_DATA, .waveform_length = 16};
+    CHECK(mrd_write_parts(ALIGNED, MRD_ID_WAVEFORM, &parts, out, sizeof out, 0).refusal == MRD_REFUSED_FIXED_PART_CUT);
+    parts.header_length = 40;
+    CHECK(mrd_write_parts(PACKED, MRD_ID_WAVEFORM, &parts, out, sizeof out, 0).refusal == MRD_REFUSED_FIXED_PART_CUT);
+    CHECK(memcmp(out, kept, sizeof out) == 0);
+    CHECK(mrd_write_parts(ALIGNED, MRD_ID_WAVEFORM, &parts, out, sizeof out, 0).position == sizeof out);
+    CHECK(memcmp(out, normal.bytes + WAVEFORM, sizeof out) == 0);
+}
+
 /* A walk hands out each record once and then the answer; from any cursor there is one. */
 static void walk(void)
 {
-    mrd_step first = mrd_next(TWO_RECORDS, 8, mrd_beginning());
+    mrd_step first = mrd_next(PACKED, TWO_RECORDS, 8, mrd_beginning());
     CHECK(!first.ended && first.here.id == 3 && first.here.size == 6 && first.next.phase == 2);
-    mrd_step second = mrd_next(TWO_RECORDS, 8, first.next);
+    mrd_step second = mrd_next(PACKED, TWO_RECORDS, 8, first.next);
     CHECK(!second.ended && second.here.id == 4 && second.here.start == 6 && second.next.phase == 3);
-    mrd_step end = mrd_next(TWO_RECORDS, 8, second.next);
+    mrd_step end = mrd_next(PACKED, TWO_RECORDS, 8, second.next);
     CHECK(end.ended && end.answer.refusal == 0 && end.answer.count == 2);
-    CHECK(mrd_check_from(TWO_RECORDS, 8, first.next).count == 2);
+    CHECK(mrd_check_from(PACKED, TWO_RECORDS, 8, first.next).count == 2);
     mrd_cursor over = {7, 6, 400};
-    mrd_checked answer = mrd_check_from(TWO_RECORDS, 8, over);
+    mrd_checked answer = mrd_check_from(PACKED, TWO_RECORDS, 8, over);
     CHECK(answer.refusal == MRD_REFUSED_ORDER && answer.record == 7 && answer.byte == 6);
     mrd_cursor past = {1000000, SIZE_MAX, 0};
-    CHECK(mrd_next(TWO_RECORDS, 8, past).answer.refusal == MRD_REFUSED_NO_CLOSE);
+    CHECK(mrd_next(PACKED, TWO_RECORDS, 8, past).answer.refusal == MRD_REFUSED_NO_CLOSE);
 }
 
 /* Where a walk stands, views and fields are those by number. */
 static void where_a_walk_stands(void)
 {
     mrd_cursor first = mrd_beginning();
-    mrd_cursor second = mrd_next(TWO_RECORDS, 8, first).next;
-    mrd_cursor end = mrd_next(TWO_RECORDS, 8, second).next;
-    mrd_view_place text = mrd_view_at(TWO_RECORDS, 8, first, MRD_PART_TEXT, 0);
+    mrd_cursor second = mrd_next(PACKED, TWO_RECORDS, 8, first).next;
+    mrd_cursor end = mrd_next(PACKED, TWO_RECORDS, 8, second).next;
+    mrd_view_place text = mrd_view_at(PACKED, TWO_RECORDS, 8, first, MRD_PART_TEXT, 0);
     CHECK(text.refusal == 0 && text.start == 6 && text.length == 0);
-    CHECK(mrd_view_at(TWO_RECORDS, 8, second, MRD_PART_TEXT, 0).refusal == MRD_REFUSED_NO_PART);
-    CHECK(mrd_view_at(TWO_RECORDS, 8, end, MRD_PART_TEXT, 0).refusal == MRD_REFUSED_NO_RECORD);
-    CHECK(mrd_field_at(TWO_RECORDS, 8, first, 0).refusal == MRD_REFUSED_NO_FIELD);
-    mrd_field_answer cut = mrd_field_at(TWO_RECORDS, 7, second, 0);
+    CHECK(mrd_view_at(PACKED, TWO_RECORDS, 8, second, MRD_PART_TEXT, 0).refusal == MRD_REFUSED_NO_PART);
+    CHECK(mrd_view_at(PACKED, TWO_RECORDS, 8, end, MRD_PART_TEXT, 0).refusal == MRD_REFUSED_NO_RECORD);
+    CHECK(mrd_field_at(PACKED, TWO_RECORDS, 8, first, 0).refusal == MRD_REFUSED_NO_FIELD);
+    mrd_field_answer cut = mrd_field_at(PACKED, TWO_RECORDS, 7, second, 0);
     CHECK(cut.refusal == MRD_REFUSED_ID_CUT && cut.record == 1 && cut.byte == 6);
 }
 
@@ -480,16 +683,16 @@ static void where_the_columns_say(void)
     uint64_t starts[2];
     uint16_t ids[2];
     uint32_t counters[2];
-    CHECK(mrd_fill_columns(TWO_RECORDS, 8, starts, 2, ids, 2, counters, 2).length == 2);
-    mrd_cursor_answer first = mrd_cursor_for(starts, 2, ids, 2, 0);
+    CHECK(mrd_fill_columns(PACKED, TWO_RECORDS, 8, starts, 2, ids, 2, counters, 2).length == 2);
+    mrd_cursor_answer first = mrd_cursor_for(PACKED, starts, 2, ids, 2, 0);
     CHECK(first.refusal == 0 && first.cursor.number == 0 && first.cursor.start == 0 && first.cursor.phase == 0);
-    CHECK(mrd_view_at(TWO_RECORDS, 8, first.cursor, MRD_PART_TEXT, 0).start == 6);
-    mrd_cursor_answer second = mrd_cursor_for(starts, 2, ids, 2, 1);
+    CHECK(mrd_view_at(PACKED, TWO_RECORDS, 8, first.cursor, MRD_PART_TEXT, 0).start == 6);
+    mrd_cursor_answer second = mrd_cursor_for(PACKED, starts, 2, ids, 2, 1);
     CHECK(second.refusal == 0 && second.cursor.number == 1 && second.cursor.start == 6 && second.cursor.phase == 2);
-    CHECK(mrd_field_at(TWO_RECORDS, 8, second.cursor, 0).refusal == MRD_REFUSED_NO_FIELD);
-    CHECK(mrd_cursor_for(starts, 1, ids, 2, 1).refusal == MRD_REFUSED_NO_RECORD);
-    CHECK(mrd_cursor_for(starts, 2, ids, 1, 1).refusal == MRD_REFUSED_NO_RECORD);
-    CHECK(mrd_cursor_for(NULL, 0, NULL, 0, SIZE_MAX).cursor.start == 0);
+    CHECK(mrd_field_at(PACKED, TWO_RECORDS, 8, second.cursor, 0).refusal == MRD_REFUSED_NO_FIELD);
+    CHECK(mrd_cursor_for(PACKED, starts, 1, ids, 2, 1).refusal == MRD_REFUSED_NO_RECORD);
+    CHECK(mrd_cursor_for(PACKED, starts, 2, ids, 1, 1).refusal == MRD_REFUSED_NO_RECORD);
+    CHECK(mrd_cursor_for(PACKED, NULL, 0, NULL, 0, SIZE_MAX).cursor.start == 0);
 }
 
 int main(void)
@@ -507,6 +710,10 @@ int main(void)
     stated_lengths();
     lengths_past_32_bits();
     stated_lengths_written();
+    aligned_waveforms();
+    one_stream_two_layouts();
+    aligned_refusals();
+    aligned_written();
     walk();
     where_a_walk_stands();
     where_the_columns_say();

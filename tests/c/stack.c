@@ -1,4 +1,5 @@
-/* How much stack each family of calls takes on a large stream: below 64 KiB, or this program fails.
+/* How much stack each family of calls takes on a large stream, for each layout of waveform headers: below 64 KiB, or
+ * this program fails.
  *
  * Each family runs in a thread whose stack is painted before; how deep the paint is gone afterwards is what the
  * thread took, its own start and end included. The line `idle` is a thread that calls nothing. */
@@ -10,6 +11,9 @@
 #include <stdlib.h>
 
 enum { STACK = 512 * 1024, MOST = 64 * 1024, PAINT = 0xA5, ROUNDS = 2000 };
+
+/* The rules that all is read and written by. */
+static mrd_rules rules;
 
 /* The stream, and its index in both forms. */
 static uint8_t *stream, *out, *file;
@@ -40,7 +44,7 @@ static void put(uint8_t *bytes, size_t at, int width, uint64_t number)
 
 static void add(uint16_t id, mrd_parts parts)
 {
-    mrd_put end = mrd_write_parts(id, &parts, stream, room, length);
+    mrd_put end = mrd_write_parts(rules, id, &parts, stream, room, length);
     if (end.refusal != 0) {
         printf("stack.c: a message of id %u is refused with %u\n", id, end.refusal);
         exit(EXIT_FAILURE);
@@ -80,11 +84,15 @@ static void add_image(const uint8_t *body)
 /* 100 samples of 2 channels. */
 static void add_waveform(const uint8_t *body)
 {
-    uint8_t header[32] = {1};
-    put(header, 22, 2, 100);
-    put(header, 24, 2, 2);
+    bool aligned = rules.aligned_waveforms;
+    uint8_t header[MRD_ALIGNED_WAVEFORM_HEADER_SIZE] = {1};
+    put(header, aligned ? MRD_ALIGNED_WAVEFORM_NUMBER_OF_SAMPLES : MRD_WAVEFORM_NUMBER_OF_SAMPLES, 2, 100);
+    put(header, aligned ? MRD_ALIGNED_WAVEFORM_CHANNELS : MRD_WAVEFORM_CHANNELS, 2, 2);
     add(MRD_ID_WAVEFORM,
-        (mrd_parts){.header = header, .header_length = 32, .waveform = body, .waveform_length = 800});
+        (mrd_parts){.header = header,
+                    .header_length = aligned ? MRD_ALIGNED_WAVEFORM_HEADER_SIZE : MRD_WAVEFORM_HEADER_SIZE,
+                    .waveform = body,
+                    .waveform_length = 800});
 }
 
 /* All kinds, 8,003 records, some 16 MB. */
@@ -92,6 +100,7 @@ static void build(void)
 {
     static const uint8_t body[4096];
     room = (size_t)ROUNDS * 9000 + 4096;
+    length = count = 0;
     stream = need(room);
     add(MRD_ID_CONFIGURATION_NAME, (mrd_parts){.name = (const uint8_t *)"radial", .name_length = 6});
     add(MRD_ID_HEADER_TEXT, (mrd_parts){.text = body, .text_length = 1000});
@@ -110,6 +119,16 @@ static void build(void)
     counters = need(count * sizeof *counters);
 }
 
+static void release(void)
+{
+    free(stream);
+    free(out);
+    free(file);
+    free(starts);
+    free(ids);
+    free(counters);
+}
+
 /* The families. Each is true where its calls were accepted, so that they walked the whole stream. */
 static bool idle(void)
 {
@@ -118,50 +137,50 @@ static bool idle(void)
 
 static bool check(void)
 {
-    return mrd_check(stream, length).count == count;
+    return mrd_check(rules, stream, length).count == count;
 }
 
 static bool walk(void)
 {
-    mrd_step step = mrd_next(stream, length, mrd_beginning());
+    mrd_step step = mrd_next(rules, stream, length, mrd_beginning());
     while (!step.ended)
-        step = mrd_next(stream, length, step.next);
-    return step.answer.count == count && mrd_check_from(stream, length, mrd_beginning()).count == count;
+        step = mrd_next(rules, stream, length, step.next);
+    return step.answer.count == count && mrd_check_from(rules, stream, length, mrd_beginning()).count == count;
 }
 
 static bool place(void)
 {
-    return mrd_place(stream, length, last_acquisition).id == MRD_ID_ACQUISITION;
+    return mrd_place(rules, stream, length, last_acquisition).id == MRD_ID_ACQUISITION;
 }
 
 static bool view(void)
 {
-    return mrd_view(stream, length, last_acquisition, MRD_PART_CHANNEL, 3).length == 512;
+    return mrd_view(rules, stream, length, last_acquisition, MRD_PART_CHANNEL, 3).length == 512;
 }
 
 static bool field(void)
 {
-    return mrd_field(stream, length, last_acquisition, 34).whole == 64;
+    return mrd_field(rules, stream, length, last_acquisition, 34).whole == 64;
 }
 
 static bool find(void)
 {
-    return mrd_find(stream, length, 0, asked).number == last_acquisition;
+    return mrd_find(rules, stream, length, 0, asked).number == last_acquisition;
 }
 
 static bool normal_form(void)
 {
-    return mrd_normal_form(stream, length, out, room).length == length;
+    return mrd_normal_form(rules, stream, length, out, room).length == length;
 }
 
 static bool write_index(void)
 {
-    return mrd_write_index(stream, length, file, file_length).length == file_length;
+    return mrd_write_index(rules, stream, length, file, file_length).length == file_length;
 }
 
 static bool index_matches(void)
 {
-    return mrd_index_matches(stream, length, file, file_length).refusal == 0;
+    return mrd_index_matches(rules, stream, length, file, file_length).refusal == 0;
 }
 
 static bool with_file(void)
@@ -169,22 +188,22 @@ static bool with_file(void)
     size_t n = last_acquisition;
     mrd_question view = mrd_question_view(n, MRD_PART_CHANNEL, 3);
     mrd_question find = mrd_question_find(0, asked);
-    return mrd_ask_with_file(stream, length, mrd_question_place(n), file, file_length).refusal == 0
-           && mrd_ask_with_file(stream, length, view, file, file_length).view.length == 512
-           && mrd_ask_with_file(stream, length, mrd_question_field(n, 34), file, file_length).field.whole == 64
-           && mrd_ask_with_file(stream, length, find, file, file_length).found.number == n;
+    return mrd_ask_with_file(rules, stream, length, mrd_question_place(n), file, file_length).refusal == 0
+           && mrd_ask_with_file(rules, stream, length, view, file, file_length).view.length == 512
+           && mrd_ask_with_file(rules, stream, length, mrd_question_field(n, 34), file, file_length).field.whole == 64
+           && mrd_ask_with_file(rules, stream, length, find, file, file_length).found.number == n;
 }
 
 #define COLUMNS starts, count, ids, count, counters, count
 
 static bool fill_columns(void)
 {
-    return mrd_fill_columns(stream, length, COLUMNS).length == count;
+    return mrd_fill_columns(rules, stream, length, COLUMNS).length == count;
 }
 
 static bool columns_match(void)
 {
-    return mrd_columns_match(stream, length, COLUMNS).refusal == 0;
+    return mrd_columns_match(rules, stream, length, COLUMNS).refusal == 0;
 }
 
 static bool with_columns(void)
@@ -192,19 +211,19 @@ static bool with_columns(void)
     size_t n = last_acquisition;
     mrd_question view = mrd_question_view(n, MRD_PART_CHANNEL, 3);
     mrd_question find = mrd_question_find(0, asked);
-    return mrd_ask_with_columns(stream, length, mrd_question_place(n), COLUMNS).refusal == 0
-           && mrd_ask_with_columns(stream, length, view, COLUMNS).view.length == 512
-           && mrd_ask_with_columns(stream, length, mrd_question_field(n, 34), COLUMNS).field.whole == 64
-           && mrd_ask_with_columns(stream, length, find, COLUMNS).found.number == n;
+    return mrd_ask_with_columns(rules, stream, length, mrd_question_place(n), COLUMNS).refusal == 0
+           && mrd_ask_with_columns(rules, stream, length, view, COLUMNS).view.length == 512
+           && mrd_ask_with_columns(rules, stream, length, mrd_question_field(n, 34), COLUMNS).field.whole == 64
+           && mrd_ask_with_columns(rules, stream, length, find, COLUMNS).found.number == n;
 }
 
 static bool write_message(void)
 {
-    mrd_placed at = mrd_place(stream, length, last_acquisition);
+    mrd_placed at = mrd_place(rules, stream, length, last_acquisition);
     const uint8_t *message = stream + at.start;
     mrd_parts parts = {.header = message + 2, .header_length = 340, .trajectory = message + 342,
                        .trajectory_length = 512, .samples = message + 854, .samples_length = 2048};
-    return mrd_write_parts(MRD_ID_ACQUISITION, &parts, out, room, 0).position == at.size;
+    return mrd_write_parts(rules, MRD_ID_ACQUISITION, &parts, out, room, 0).position == at.size;
 }
 
 static bool flags(void)
@@ -267,25 +286,38 @@ static const struct {
     {"flags", flags},
 };
 
-int main(void)
+static size_t most;
+static const char *who = "";
+
+/* Whether all families were run and took little enough; the most that one took is kept. */
+static bool measured(void)
 {
-    build();
-    size_t most = 0;
-    const char *who = "";
-    bool failed = false;
+    const char *layout = rules.aligned_waveforms ? "aligned" : "packed";
+    bool passed = true;
     for (size_t i = 0; i < sizeof families / sizeof families[0]; i++) {
         size_t bytes = taken(families[i].family);
-        printf("%s: %zu bytes of stack\n", families[i].name, bytes);
+        printf("%s, %s: %zu bytes of stack\n", families[i].name, layout, bytes);
         if (bytes == 0 || bytes >= MOST) {
-            failed = true;
-            printf("%s: %s\n", families[i].name, bytes == 0 ? "refused, or not run" : "64 KiB or more");
+            passed = false;
+            printf("%s, %s: %s\n", families[i].name, layout, bytes == 0 ? "refused, or not run" : "64 KiB or more");
         }
         if (bytes > most) {
             most = bytes;
             who = families[i].name;
         }
     }
-    printf("stack.c: %s, at most %zu bytes of stack (%s) on %zu records\n", failed ? "FAILED" : "ok", most, who,
-           count);
-    return failed;
+    return passed;
+}
+
+int main(void)
+{
+    bool passed = true;
+    for (int aligned = 0; aligned < 2; aligned++) {
+        rules.aligned_waveforms = aligned;
+        build();
+        passed = measured() && passed;
+        release();
+    }
+    printf("stack.c: %s, at most %zu bytes of stack (%s) on %zu records\n", passed ? "ok" : "FAILED", most, who, count);
+    return !passed;
 }

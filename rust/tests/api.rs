@@ -9,6 +9,14 @@ const ALL_KINDS: &[u8] = include_bytes!("../../samples/all_kinds.mrd");
 /// A text of two bytes and the close.
 const SHORT: [u8; 10] = [5, 0, 2, 0, 0, 0, b'h', b'i', 4, 0];
 
+fn packed(bytes: &[u8]) -> Stream<'_> {
+    Stream::new(Rules::packed(), bytes)
+}
+
+fn aligned(bytes: &[u8]) -> Stream<'_> {
+    Stream::new(Rules::aligned(), bytes)
+}
+
 fn number_of<T: std::fmt::Debug>(answer: Result<T, Refusal>) -> u32 {
     answer.expect_err("a refusal").number
 }
@@ -48,7 +56,7 @@ impl Kept {
 
 #[test]
 fn records_come_once_each_and_then_the_refusal() {
-    let whole = Stream::new(ALL_KINDS);
+    let whole = packed(ALL_KINDS);
     let records: Vec<Record> = whole.records().map(|record| *record.unwrap()).collect();
     assert_eq!(records.len(), 9);
     for record in &records {
@@ -65,7 +73,7 @@ fn records_come_once_each_and_then_the_refusal() {
     assert_eq!(masks.map(Mask::ones), [2, 2, 8]);
     assert_eq!(Mask::NotStated.ones(), 0);
 
-    let cut = Stream::new(&ALL_KINDS[..6_307]);
+    let cut = packed(&ALL_KINDS[..6_307]);
     let fault = Fault {
         record: 8,
         byte: 6_307,
@@ -87,7 +95,7 @@ fn records_come_once_each_and_then_the_refusal() {
 
 #[test]
 fn a_view_is_the_very_part_of_the_given_stream() {
-    let stream = Stream::new(ALL_KINDS);
+    let stream = packed(ALL_KINDS);
     let name = stream.view(0, Part::Name).unwrap();
     assert_eq!(name, b"default.xml");
     assert!(std::ptr::eq(name, &ALL_KINDS[2..13]));
@@ -101,7 +109,7 @@ fn a_view_is_the_very_part_of_the_given_stream() {
     assert_eq!(number_of(stream.view_place(9, Part::Text)), 16);
     let kept;
     {
-        let stream = Stream::new(ALL_KINDS);
+        let stream = packed(ALL_KINDS);
         kept = stream.view(2, Part::Text).unwrap();
     }
     assert_eq!(kept, b"three radial readouts follow\n");
@@ -111,13 +119,10 @@ fn a_view_is_the_very_part_of_the_given_stream() {
 fn fields_keep_their_type_and_floats_their_bits() {
     let mut bytes = ALL_KINDS.to_vec();
     let sample_time = 1_417 + 2 + 178;
-    assert_eq!(
-        Stream::new(&bytes).field(3, 178).unwrap().float(),
-        Some(15.0)
-    );
+    assert_eq!(packed(&bytes).field(3, 178).unwrap().float(), Some(15.0));
     // A signalling NaN: a float register on the way might set its quiet bit.
     bytes[sample_time..sample_time + 4].copy_from_slice(&0x7F80_0001_u32.to_le_bytes());
-    let stream = Stream::new(&bytes);
+    let stream = packed(&bytes);
     assert_eq!(stream.field(3, 178), Ok(Field::Float { bits: 0x7F80_0001 }));
     assert_eq!(stream.field(3, 34), Ok(Field::Whole(32)));
     assert_eq!(stream.field(4, 276), Ok(Field::Signed(-2)));
@@ -175,7 +180,7 @@ fn accessors_give_what_the_library_answers() {
         198,
     );
     patterned(&mut bytes, 6_113 + 2, &[0..2, 22..26], 32);
-    let stream = Stream::new(&bytes);
+    let stream = packed(&bytes);
     let records: Vec<RecordAt> = stream.records().map(|record| record.unwrap()).collect();
     let (record, header) = (&records[3], records[3].acquisition().unwrap());
     check_accessors!(record, header, acquisition,
@@ -221,7 +226,7 @@ fn accessors_give_what_the_library_answers() {
 
 #[test]
 fn samples_are_pairs_read_from_any_byte() {
-    let stream = Stream::new(ALL_KINDS);
+    let stream = packed(ALL_KINDS);
     let record = stream.records().nth(4).unwrap().unwrap();
     let samples: Vec<(f32, f32)> = record.samples(1).unwrap().collect();
     assert_eq!(samples.len(), 32);
@@ -241,7 +246,7 @@ fn samples_are_pairs_read_from_any_byte() {
 
 #[test]
 fn find_begins_at_the_record_asked_for() {
-    let stream = Stream::new(ALL_KINDS);
+    let stream = packed(ALL_KINDS);
     let mut counters = [0; 17];
     counters[0] = 1;
     assert_eq!(stream.find(0, &counters), Ok(4));
@@ -251,9 +256,9 @@ fn find_begins_at_the_record_asked_for() {
 
 #[test]
 fn an_index_is_believed_where_it_is_the_streams_own() {
-    let stream = Stream::new(ALL_KINDS);
+    let stream = packed(ALL_KINDS);
     let kept = Kept::of(&stream);
-    let another = Kept::of(&Stream::new(&SHORT));
+    let another = Kept::of(&packed(&SHORT));
     for (own, other) in kept.forms().into_iter().zip(another.forms()) {
         assert_eq!(stream.matches(own), Ok(()));
         assert_eq!(number_of(stream.matches(other)), 15);
@@ -273,10 +278,10 @@ fn an_index_is_believed_where_it_is_the_streams_own() {
 
 #[test]
 fn a_cursor_from_the_columns_is_at_the_record() {
-    let stream = Stream::new(ALL_KINDS);
+    let stream = packed(ALL_KINDS);
     let kept = Kept::of(&stream);
     for n in 0..9 {
-        let cursor = Cursor::for_record(&kept.starts, &kept.ids, n).unwrap();
+        let cursor = Cursor::for_record(stream.rules(), &kept.starts, &kept.ids, n).unwrap();
         let Step::Record(record, _) = stream.step(cursor) else {
             panic!("no record {n}")
         };
@@ -287,11 +292,21 @@ fn a_cursor_from_the_columns_is_at_the_record() {
         assert_eq!(stream.field_at(cursor, 8), stream.field(n, 8));
     }
     assert_eq!(
-        number_of(Cursor::for_record(&kept.starts, &kept.ids, 9)),
+        number_of(Cursor::for_record(
+            stream.rules(),
+            &kept.starts,
+            &kept.ids,
+            9
+        )),
         16
     );
     assert_eq!(
-        number_of(Cursor::for_record(&kept.starts, &kept.ids[..3], 3)),
+        number_of(Cursor::for_record(
+            stream.rules(),
+            &kept.starts,
+            &kept.ids[..3],
+            3
+        )),
         16
     );
 }
@@ -301,9 +316,9 @@ fn message_of<'a>(stream: &Stream<'a>, record: &Record) -> Message<'a> {
     let n = record.number;
     let part = |part| stream.view(n, part).unwrap_or_default();
     let header_length = match record.kind {
-        Kind::Acquisition { .. } => 340,
-        Kind::Image { .. } => 198,
-        Kind::Waveform { .. } => 32,
+        Kind::Acquisition { .. } => AcquisitionHeader::SIZE,
+        Kind::Image { .. } => ImageHeader::SIZE,
+        Kind::Waveform { .. } => WaveformHeader::size(stream.rules().layout),
         _ => 0,
     };
     // The samples of both channels adjoin.
@@ -326,12 +341,12 @@ fn message_of<'a>(stream: &Stream<'a>, record: &Record) -> Message<'a> {
 
 #[test]
 fn records_written_back_are_the_normal_form() {
-    let stream = Stream::new(ALL_KINDS);
+    let stream = packed(ALL_KINDS);
     let mut out = vec![0xEE; ALL_KINDS.len()];
     let mut position = 0;
     for record in stream.records() {
         let message = message_of(&stream, &record.unwrap());
-        position = message.write(&mut out, position).unwrap();
+        position = message.write(stream.rules(), &mut out, position).unwrap();
     }
     assert_eq!(position, ALL_KINDS.len());
     let mut normal = vec![0; ALL_KINDS.len()];
@@ -346,7 +361,7 @@ fn records_written_back_are_the_normal_form() {
         number: 2,
         place: None,
     };
-    assert_eq!(unknown.write(&mut out, 0), Err(refusal));
+    assert_eq!(unknown.write(Rules::packed(), &mut out, 0), Err(refusal));
 }
 
 /// Record 6 of the sample is an image whose header says the length of its attributes, in these bytes.
@@ -362,10 +377,10 @@ fn sample_saying(stated: u32) -> Vec<u8> {
 #[test]
 fn an_image_header_says_its_attribute_length_or_0() {
     let mut normal = vec![0; ALL_KINDS.len()];
-    assert!(Stream::new(ALL_KINDS).normal_form(&mut normal).is_ok());
+    assert!(packed(ALL_KINDS).normal_form(&mut normal).is_ok());
     for stated in [0, ATTRIBUTES] {
         let bytes = sample_saying(stated);
-        let stream = Stream::new(&bytes);
+        let stream = packed(&bytes);
         assert_eq!(stream.check(), Ok(9));
         let record = stream.records().nth(6).unwrap().unwrap();
         let Kind::Image {
@@ -386,7 +401,7 @@ fn an_image_header_says_its_attribute_length_or_0() {
         assert!(out == normal && out[STATED..][..4] == ATTRIBUTES.to_le_bytes());
     }
     for stated in [1, ATTRIBUTES - 1, ATTRIBUTES + 1, u32::MAX] {
-        let refusal = Stream::new(&sample_saying(stated)).check().unwrap_err();
+        let refusal = packed(&sample_saying(stated)).check().unwrap_err();
         let fault = Fault {
             record: 6,
             byte: 4_747,
@@ -400,7 +415,7 @@ fn an_image_header_says_its_attribute_length_or_0() {
 
 #[test]
 fn the_writer_puts_the_true_attribute_length() {
-    let stream = Stream::new(ALL_KINDS);
+    let stream = packed(ALL_KINDS);
     let message = message_of(&stream, &stream.place(6).unwrap());
     for stated in [0, 1, ATTRIBUTES, 0xDEAD_BEEF] {
         let mut header = message.header.to_vec();
@@ -410,9 +425,225 @@ fn the_writer_puts_the_true_attribute_length() {
             ..message
         };
         let mut out = vec![0xEE; 1_366];
-        assert_eq!(given.write(&mut out, 0), Ok(1_366));
+        assert_eq!(given.write(stream.rules(), &mut out, 0), Ok(1_366));
         assert!(out == ALL_KINDS[4_747..6_113]);
     }
+}
+
+/// An aligned waveform header, another value in every field and in the filler. It says 2 samples and 2 channels; packed,
+/// the same bytes say 6 and 1.
+const ALIGNED: [u8; 40] = [
+    1, 0, 0xF1, 0xF2, 0xF3, 0xF4, 0xF5, 0xF6, // version, filler
+    0x10, 0x11, 0x12, 0x13, 0x14, 0x15, 0x16, 0x97, // flags
+    0x20, 0x21, 0x22, 0x23, 0x30, 0x31, 6, 0, // measurement uid, scan counter
+    1, 0, 0x42, 0x43, 2, 0, 2, 0, // time stamp, samples, channels
+    0x50, 0x51, 0x80, 0x3F, 0x60, 0x61, 0xF7, 0xF8, // sample time, waveform id, filler
+];
+
+/// Where the filler of an aligned header lies.
+const FILLER: [usize; 8] = [2, 3, 4, 5, 6, 7, 38, 39];
+
+/// A header text, two waveforms with that header, and the close. Each waveform has 58 bytes, aligned 42 + 16 and packed
+/// 34 + 24, so that both layouts accept the stream.
+fn waveforms() -> Vec<u8> {
+    let mut bytes = vec![3, 0, 0, 0, 0, 0];
+    for data in [0x70, 0x80] {
+        bytes.extend(id::WAVEFORM.to_le_bytes());
+        bytes.extend(ALIGNED);
+        bytes.extend(data..data + 16);
+    }
+    bytes.extend(id::CLOSE.to_le_bytes());
+    bytes
+}
+
+/// The same with the filler of its headers zero.
+fn without_filler(mut bytes: Vec<u8>) -> Vec<u8> {
+    for header in [6 + 2, 64 + 2] {
+        FILLER.iter().for_each(|at| bytes[header + at] = 0);
+    }
+    bytes
+}
+
+#[test]
+fn aligned_waveforms_are_walked() {
+    let bytes = waveforms();
+    let stream = aligned(&bytes);
+    assert_eq!(stream.rules(), Rules::aligned());
+    assert_eq!(stream.check(), Ok(4));
+    let records: Vec<RecordAt> = stream.records().map(|record| record.unwrap()).collect();
+    assert_eq!(records.len(), 4);
+    for (record, start) in records[1..3].iter().zip([6, 64]) {
+        let kind = Kind::Waveform {
+            number_of_samples: 2,
+            channels: 2,
+        };
+        assert_eq!((record.start, record.size, record.kind), (start, 58, kind));
+        assert_eq!(stream.place(record.number), Ok(**record));
+        let data = &bytes[start + 42..start + 58];
+        assert_eq!(record.view(Part::Waveform), Ok(data));
+        assert_eq!(stream.view(record.number, Part::Waveform), Ok(data));
+        assert_eq!(stream.check_from(record.cursor()), Ok(4));
+    }
+    assert_eq!(number_of(stream.find(0, &[0; 17])), 16);
+}
+
+#[test]
+fn aligned_fields_by_offset_and_by_name() {
+    let bytes = waveforms();
+    let stream = aligned(&bytes);
+    let record = stream.records().nth(2).unwrap().unwrap();
+    let header = record.waveform().unwrap();
+    assert_eq!(
+        (header.layout(), header.bytes()),
+        (Layout::Aligned, &ALIGNED[..])
+    );
+    assert_eq!(header, WaveformHeader::aligned(&ALIGNED));
+    check_accessors!(record, header, aligned_waveform,
+        [
+         version VERSION, flags FLAGS, measurement_uid MEASUREMENT_UID, scan_counter SCAN_COUNTER,
+         time_stamp TIME_STAMP, number_of_samples NUMBER_OF_SAMPLES, channels CHANNELS,
+         sample_time_us SAMPLE_TIME_US to_bits, waveform_id WAVEFORM_ID
+        ],
+        []);
+    assert_eq!(header.flags(), 0x9716_1514_1312_1110);
+    assert_eq!(
+        (header.measurement_uid(), header.scan_counter()),
+        (0x2322_2120, 0x0006_3130)
+    );
+    assert_eq!((header.number_of_samples(), header.channels()), (2, 2));
+    assert_eq!(
+        (header.time_stamp(), header.waveform_id()),
+        (0x4342_0001, 0x6160)
+    );
+    assert_eq!(header.sample_time_us().to_bits(), 0x3F80_5150);
+    // An element starts at these offsets and at no other: not in filler, and not where only packed headers have one.
+    let kept = Kept::of(&stream);
+    for at in 0..50 {
+        let starts = [0, 8, 16, 20, 24, 28, 30, 32, 36].contains(&at);
+        assert!(!starts || !FILLER.contains(&at));
+        let mut answers = vec![record.field(at), stream.field(2, at)];
+        answers.extend(kept.forms().map(|index| stream.with(index).field(2, at)));
+        for answer in answers {
+            match starts {
+                true => assert!(answer.is_ok(), "offset {at}"),
+                false => assert_eq!(number_of(answer), refused::NO_FIELD, "offset {at}"),
+            }
+        }
+    }
+}
+
+#[test]
+fn the_normal_form_and_the_writer_clear_filler() {
+    let bytes = waveforms();
+    let stream = aligned(&bytes);
+    let normal = without_filler(bytes.clone());
+    assert_ne!(normal, bytes);
+    let mut out = vec![0xEE; bytes.len()];
+    assert_eq!(stream.normal_form(&mut out), Ok(bytes.len()));
+    assert_eq!(out, normal);
+    // What filler holds is no part of a record.
+    assert_eq!(Kept::of(&aligned(&normal)).file, Kept::of(&stream).file);
+
+    let mut written = vec![0xEE; bytes.len()];
+    let mut position = 0;
+    for record in stream.records() {
+        let message = message_of(&stream, &record.unwrap());
+        position = message
+            .write(stream.rules(), &mut written, position)
+            .unwrap();
+    }
+    assert_eq!((position, written), (bytes.len(), normal));
+}
+
+#[test]
+fn a_writer_takes_the_header_of_its_layout() {
+    let data = [7; 24];
+    let write = |rules, header, waveform| {
+        let message = Message {
+            id: id::WAVEFORM,
+            header,
+            waveform,
+            ..Message::default()
+        };
+        let mut out = [0xEE; 58];
+        let position = message.write(rules, &mut out, 0);
+        (position, out)
+    };
+    for (rules, header) in [
+        (Rules::aligned(), &ALIGNED[..32]),
+        (Rules::packed(), &ALIGNED),
+    ] {
+        let (answer, out) = write(rules, header, &data[..16]);
+        assert_eq!(number_of(answer), refused::FIXED_PART_CUT);
+        assert_eq!(out, [0xEE; 58]);
+    }
+    let (answer, out) = write(Rules::aligned(), &ALIGNED, &data[..16]);
+    assert_eq!(answer, Ok(58));
+    let cleared = FILLER.iter().all(|at| out[2 + at] == 0);
+    assert!(cleared && out[2 + 8..2 + 38] == ALIGNED[8..38]);
+    let (answer, out) = write(Rules::packed(), &ALIGNED[..32], &data);
+    assert_eq!(answer, Ok(58));
+    assert!(out[2..34] == ALIGNED[..32]);
+}
+
+/// Nothing in a stream tells its layout: these bytes are a stream under both, with other records.
+#[test]
+fn one_stream_under_both_layouts() {
+    let bytes = waveforms();
+    let streams = [packed(&bytes), aligned(&bytes)];
+    assert_eq!(streams.map(|stream| stream.check()), [Ok(4), Ok(4)]);
+    let sizes = streams.map(|stream| {
+        let record = stream.records().nth(1).unwrap().unwrap();
+        let header = record.waveform().unwrap();
+        assert_eq!(
+            header.bytes().len(),
+            WaveformHeader::size(stream.rules().layout)
+        );
+        (header.number_of_samples(), header.channels())
+    });
+    assert_eq!(sizes, [(6, 1), (2, 2)]);
+    let starts = streams.map(|stream| stream.view_place(1, Part::Waveform).unwrap().start);
+    assert_eq!(starts, [6 + 34, 6 + 42]);
+    // Packed, what is filler there is in the flags.
+    let flags = streams.map(|stream| stream.field(1, 2));
+    assert_eq!(flags[0], Ok(Field::Whole(0x1110_F6F5_F4F3_F2F1)));
+    assert_eq!(number_of(flags[1]), refused::NO_FIELD);
+    let mut out = vec![0xEE; bytes.len()];
+    assert_eq!(streams[0].normal_form(&mut out), Ok(bytes.len()));
+    assert_eq!(out, bytes);
+    // An index has the scan counters of its layout.
+    for (of, other) in [(0, 1), (1, 0)] {
+        for index in Kept::of(&streams[of]).forms() {
+            assert_eq!(streams[of].matches(index), Ok(()));
+            assert_eq!(number_of(streams[other].matches(index)), 15);
+            assert_eq!(number_of(streams[other].with(index).place(1)), 15);
+        }
+    }
+    let kept = Kept::of(&streams[1]);
+    let cursor = Cursor::for_record(Rules::aligned(), &kept.starts, &kept.ids, 2).unwrap();
+    let data = streams[1].view_at(cursor, Part::Waveform);
+    assert_eq!(data, streams[1].view(2, Part::Waveform));
+}
+
+/// 40 bytes of header before there is anything to judge in it.
+#[test]
+fn an_aligned_header_is_whole_or_cut() {
+    let bytes = waveforms();
+    let cut = &bytes[..6 + 2 + 39];
+    let refusal = aligned(cut).check().unwrap_err();
+    let fault = Fault { record: 1, byte: 6 };
+    assert_eq!(
+        (refusal.number, refusal.place),
+        (refused::FIXED_PART_CUT, Some(fault))
+    );
+    assert_eq!(number_of(packed(cut).check()), refused::MESSAGE_CUT);
+    assert_eq!(
+        number_of(aligned(&bytes[..6 + 2 + 40]).check()),
+        refused::MESSAGE_CUT
+    );
+    let mut old = bytes.clone();
+    old[6 + 2] = 2;
+    assert_eq!(number_of(aligned(&old).check()), refused::VERSION);
 }
 
 #[test]
@@ -430,13 +661,13 @@ fn flags_and_counters() {
 
 #[test]
 fn a_refusal_says_what_where_and_what_to_do() {
-    let refusal = Stream::new(&SHORT[..8]).check().unwrap_err();
+    let refusal = packed(&SHORT[..8]).check().unwrap_err();
     assert_eq!(
         refusal.to_string(),
         "refused 13 at record 1, byte 8: the stream ends without a close; \
          wait for the rest, or add a close (04 00) if the recording is over."
     );
-    let unplaced = Stream::new(&SHORT).normal_form(&mut []).unwrap_err();
+    let unplaced = packed(&SHORT).normal_form(&mut []).unwrap_err();
     assert_eq!(
         unplaced.to_string(),
         "refused 14: the output is too short, or the position is past its end; give a longer output."

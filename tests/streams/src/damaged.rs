@@ -1,21 +1,22 @@
 //! Streams with a fault: each refusal number on purpose, and damage whose outcome is left open.
 
+use crate::either::accepted_by_both;
 use crate::messages::{self, message, Message};
 use crate::rng::Rng;
 use crate::stated;
 use crate::well_formed::{joined, opening, well_formed};
 use crate::SHORT_REFUSALS;
 use second_reader::message::STATED_LENGTH;
-use second_reader::{numbers, Kind};
+use second_reader::{numbers, Kind, Layout, Rules};
 
 const DATA: [Kind; 3] = [Kind::Acquisition, Kind::Image, Kind::Waveform];
 
 /// What stands behind a faulty message: nothing, further messages, or any bytes. It never
 /// changes the verdict, as the first faulty message decides.
-fn rest(rng: &mut Rng) -> Vec<u8> {
+fn rest(rules: Rules, rng: &mut Rng) -> Vec<u8> {
     match rng.below(3) {
         0 => vec![],
-        1 => joined(&well_formed(rng, 2_000)),
+        1 => joined(&well_formed(rules, rng, 2_000)),
         _ => {
             let length = rng.below(60) as usize;
             rng.bytes(length)
@@ -24,46 +25,44 @@ fn rest(rng: &mut Rng) -> Vec<u8> {
 }
 
 /// A stream of at most about 30,000 bytes that is refused with this number, one of 1 to 13.
-pub fn refused_with(rng: &mut Rng, number: u32) -> Vec<u8> {
+pub fn refused_with(rules: Rules, rng: &mut Rng, number: u32) -> Vec<u8> {
     if number == 12 {
-        return broken_order(rng);
+        return broken_order(rules, rng);
     }
     let headed = match number {
         4 | 6..=9 => true,
         5 => false,
         _ => rng.one_in(2),
     };
-    let mut stream = joined(&opening(rng, headed));
-    let faulty = match number {
-        1 => {
-            let byte = rng.number() as u8;
-            return [stream, vec![byte]].concat();
-        }
+    let mut stream = joined(&opening(rules, rng, headed));
+    stream.extend(faulty(rules, rng, number, headed));
+    // Where too few bytes are left, or none, nothing may follow.
+    if !matches!(number, 1 | 3 | 11 | 13) {
+        stream.extend(rest(rules, rng));
+    }
+    stream
+}
+
+/// What gets this number after an opening; for 13 nothing.
+fn faulty(rules: Rules, rng: &mut Rng, number: u32, headed: bool) -> Vec<u8> {
+    match number {
+        1 => vec![rng.number() as u8],
         2 => unknown_id(rng).to_le_bytes().to_vec(),
-        3 => {
-            stream.extend(short_fixed_part(rng, headed));
-            return stream;
-        }
-        4 => wrong_version(rng),
+        3 => short_fixed_part(rules, rng, headed),
+        4 => wrong_version(rules, rng),
         5 => rng.bytes(1_024).iter().fold(vec![1, 0], |mut name, &byte| {
             name.push(byte.max(1));
             name
         }),
-        6 => wrong_channels(rng),
-        7 => wrong_discards(rng),
-        8 => wrong_data_type(rng),
-        9 => wrong_stated_length(rng),
-        10 => too_large(rng, headed),
-        11 => {
-            stream.extend(short_body(rng, headed));
-            return stream;
-        }
-        13 => return stream,
+        6 => wrong_channels(rules, rng),
+        7 => wrong_discards(rules, rng),
+        8 => wrong_data_type(rules, rng),
+        9 => wrong_stated_length(rules, rng),
+        10 => too_large(rules, rng, headed),
+        11 => short_body(rules, rng, headed),
+        13 => vec![],
         _ => panic!("no short stream is refused with {number}"),
-    };
-    stream.extend(faulty);
-    stream.extend(rest(rng));
-    stream
+    }
 }
 
 /// Ids near the known ones, known ones with their bytes swapped, and any others.
@@ -94,34 +93,37 @@ fn kind_allowed(rng: &mut Rng, headed: bool) -> Kind {
     }
 }
 
-fn short_fixed_part(rng: &mut Rng, headed: bool) -> Vec<u8> {
+fn short_fixed_part(rules: Rules, rng: &mut Rng, headed: bool) -> Vec<u8> {
     let kind = kind_allowed(rng, headed);
+    let fixed = kind.fixed_size(rules);
     let length = match rng.below(3) {
-        0 => kind.fixed_size() - 1,
-        _ => rng.below(kind.fixed_size() as u64) as usize,
+        0 => fixed - 1,
+        // An aligned waveform header without its last filler, or as long as a packed one.
+        1 if kind == Kind::Waveform => fixed - rng.pick(&[1, 2, 8]),
+        _ => rng.below(fixed as u64) as usize,
     };
     // Whatever the bytes hold, the missing ones are met first.
     let bytes = match rng.below(2) {
         0 => rng.bytes(length),
-        _ => message(rng, kind, 50).bytes()[2..2 + length].to_vec(),
+        _ => message(rules, rng, kind, 50).bytes()[2..2 + length].to_vec(),
     };
     [kind.id().to_le_bytes().to_vec(), bytes].concat()
 }
 
-fn wrong_version(rng: &mut Rng) -> Vec<u8> {
+fn wrong_version(rules: Rules, rng: &mut Rng) -> Vec<u8> {
     let kind = rng.pick(&DATA);
-    let mut message = message(rng, kind, 100);
+    let mut message = message(rules, rng, kind, 100);
     if rng.one_in(2) {
         // Every later check may fail too.
-        message.header = rng.bytes(kind.header_size());
+        message.header = rng.bytes(kind.header_size(rules));
     }
     let version = rng.pick(&[0, 2, 3, 255, 256, 257, 65_535]);
     message.set("version", 0, version);
     message.bytes()
 }
 
-fn wrong_channels(rng: &mut Rng) -> Vec<u8> {
-    let mut message = messages::acquisition(rng, 600);
+fn wrong_channels(rules: Rules, rng: &mut Rng) -> Vec<u8> {
+    let mut message = messages::acquisition(rules, rng, 600);
     if rng.one_in(3) {
         message.set("discard_pre", 0, 65_535);
         message.set("discard_post", 0, 65_535);
@@ -136,8 +138,8 @@ fn wrong_channels(rng: &mut Rng) -> Vec<u8> {
     message.bytes()
 }
 
-fn wrong_discards(rng: &mut Rng) -> Vec<u8> {
-    let mut message = messages::acquisition(rng, 600);
+fn wrong_discards(rules: Rules, rng: &mut Rng) -> Vec<u8> {
+    let mut message = messages::acquisition(rules, rng, 600);
     if rng.one_in(4) {
         message.set("number_of_samples", 0, 65_535);
     }
@@ -157,8 +159,8 @@ fn wrong_discards(rng: &mut Rng) -> Vec<u8> {
     message.bytes()
 }
 
-fn wrong_data_type(rng: &mut Rng) -> Vec<u8> {
-    let mut message = messages::image(rng, 600);
+fn wrong_data_type(rules: Rules, rng: &mut Rng) -> Vec<u8> {
+    let mut message = messages::image(rules, rng, 600);
     let data_type = rng.pick(&[0, 9, 10, 16, 255, 256, 257, 264, 65_535]);
     message.set("data_type", 0, data_type);
     if rng.one_in(2) {
@@ -169,8 +171,8 @@ fn wrong_data_type(rng: &mut Rng) -> Vec<u8> {
 }
 
 /// An image whose header says neither its attribute length nor 0.
-fn wrong_stated_length(rng: &mut Rng) -> Vec<u8> {
-    let mut message = messages::image(rng, 600);
+fn wrong_stated_length(rules: Rules, rng: &mut Rng) -> Vec<u8> {
+    let mut message = messages::image(rules, rng, 600);
     if rng.one_in(3) {
         set_image_sizes(&mut message, [65_535; 4], 8);
     }
@@ -189,8 +191,8 @@ fn set_image_sizes(message: &mut Message, sizes: [u64; 4], data_type: u64) {
 }
 
 /// A text that claims `length` bytes and has few.
-fn claiming_text(rng: &mut Rng, kind: Kind, length: u64) -> Vec<u8> {
-    let mut bytes = messages::text(rng, kind, 40).bytes();
+fn claiming_text(rules: Rules, rng: &mut Rng, kind: Kind, length: u64) -> Vec<u8> {
+    let mut bytes = messages::text(rules, rng, kind, 40).bytes();
     numbers::put(&mut bytes, 2, 4, length);
     bytes
 }
@@ -218,11 +220,11 @@ fn too_long_attributes(rng: &mut Rng) -> u64 {
     ])
 }
 
-fn too_large(rng: &mut Rng, headed: bool) -> Vec<u8> {
+fn too_large(rules: Rules, rng: &mut Rng, headed: bool) -> Vec<u8> {
     let kind = kind_allowed(rng, headed);
     match kind {
         Kind::Acquisition => {
-            let mut message = messages::acquisition(rng, 40);
+            let mut message = messages::acquisition(rules, rng, 40);
             let (samples, channels, dimensions) = rng.pick(&[
                 (65_535, 65_535, 65_535),
                 (65_535, 512, 1),
@@ -238,19 +240,8 @@ fn too_large(rng: &mut Rng, headed: bool) -> Vec<u8> {
             message.set("discard_post", 0, 0);
             message.bytes()
         }
-        Kind::Image => too_large_image(rng),
-        Kind::Waveform => {
-            let mut message = messages::waveform(rng, 40);
-            let (samples, channels) = rng.pick(&[
-                (65_535, 65_535),
-                (32_768, 32_768),
-                (65_535, 1_025),
-                (1_025, 65_535),
-            ]);
-            message.set("number_of_samples", 0, samples);
-            message.set("channels", 0, channels);
-            message.bytes()
-        }
+        Kind::Image => too_large_image(rules, rng),
+        Kind::Waveform => too_large_waveform(rules, rng),
         _ => {
             let kind = if kind == Kind::ConfigurationName {
                 Kind::ConfigurationText
@@ -258,13 +249,48 @@ fn too_large(rng: &mut Rng, headed: bool) -> Vec<u8> {
                 kind
             };
             let length = rng.pick(&[268_435_451, 268_435_452, 1 << 31, u64::from(u32::MAX)]);
-            claiming_text(rng, kind, length)
+            claiming_text(rules, rng, kind, length)
         }
     }
 }
 
-fn too_large_image(rng: &mut Rng) -> Vec<u8> {
-    let mut message = messages::image(rng, 40);
+/// The samples and channels of the largest waveforms that check 10 lets pass, and of the smallest that it refuses.
+/// An aligned header leaves room for two numbers less.
+pub fn around_the_limit(rules: Rules) -> ([(u64, u64); 2], [(u64, u64); 2]) {
+    match rules.layout {
+        Layout::Packed => (
+            [(17_449, 3_846), (64_219, 1_045)],
+            [(44_949, 1_493), (62_660, 1_071)],
+        ),
+        Layout::Aligned => (
+            [(17_159, 3_911), (62_836, 1_068)],
+            [(17_449, 3_846), (64_219, 1_045)],
+        ),
+    }
+}
+
+fn too_large_waveform(rules: Rules, rng: &mut Rng) -> Vec<u8> {
+    let just = rng.pick(&around_the_limit(rules).1);
+    let sizes = rng.pick(&[
+        just,
+        (65_535, 65_535),
+        (32_768, 32_768),
+        (65_535, 1_025),
+        (1_025, 65_535),
+    ]);
+    waveform_claiming(rules, rng, sizes)
+}
+
+/// A waveform that claims this many samples and channels and has few.
+fn waveform_claiming(rules: Rules, rng: &mut Rng, (samples, channels): (u64, u64)) -> Vec<u8> {
+    let mut message = messages::waveform(rules, rng, 40);
+    message.set("number_of_samples", 0, samples);
+    message.set("channels", 0, channels);
+    message.bytes()
+}
+
+fn too_large_image(rules: Rules, rng: &mut Rng) -> Vec<u8> {
+    let mut message = messages::image(rules, rng, 40);
     if rng.one_in(2) {
         let length = too_long_attributes(rng);
         return claiming_image(rng, &message, length);
@@ -283,20 +309,24 @@ fn too_large_image(rng: &mut Rng) -> Vec<u8> {
     message.bytes()
 }
 
-fn short_body(rng: &mut Rng, headed: bool) -> Vec<u8> {
+fn short_body(rules: Rules, rng: &mut Rng, headed: bool) -> Vec<u8> {
     if rng.one_in(3) {
         // At most check 10's limit, and far more than there is.
         let length = rng.pick(&[65_536, 1 << 20, 268_435_450]);
         return match headed {
-            true if rng.one_in(2) => claiming_image_within(rng),
-            true => claiming_text(rng, Kind::Text, length),
-            false => claiming_text(rng, Kind::HeaderText, length),
+            true if rng.one_in(3) => claiming_image_within(rules, rng),
+            true if rng.one_in(2) => {
+                let sizes = rng.pick(&around_the_limit(rules).0);
+                waveform_claiming(rules, rng, sizes)
+            }
+            true => claiming_text(rules, rng, Kind::Text, length),
+            false => claiming_text(rules, rng, Kind::HeaderText, length),
         };
     }
     loop {
         let kind = kind_allowed(rng, headed);
-        let bytes = message(rng, kind, 400).bytes();
-        let fixed = 2 + kind.fixed_size();
+        let bytes = message(rules, rng, kind, 400).bytes();
+        let fixed = 2 + kind.fixed_size(rules);
         if bytes.len() > fixed {
             let cut = match rng.below(2) {
                 0 => bytes.len() - 1,
@@ -308,15 +338,15 @@ fn short_body(rng: &mut Rng, headed: bool) -> Vec<u8> {
 }
 
 /// An image of no pixels with as many attributes as check 10 lets pass.
-fn claiming_image_within(rng: &mut Rng) -> Vec<u8> {
-    let mut message = messages::image(rng, 40);
+fn claiming_image_within(rules: Rules, rng: &mut Rng) -> Vec<u8> {
+    let mut message = messages::image(rules, rng, 40);
     set_image_sizes(&mut message, [0; 4], 8);
     message.attributes.clear();
     message.pixels.clear();
     claiming_image(rng, &message, 268_435_248)
 }
 
-fn broken_order(rng: &mut Rng) -> Vec<u8> {
+fn broken_order(rules: Rules, rng: &mut Rng) -> Vec<u8> {
     let early = rng.pick(&DATA);
     let late = rng.pick(&[
         Kind::ConfigurationName,
@@ -328,9 +358,9 @@ fn broken_order(rng: &mut Rng) -> Vec<u8> {
     let any = rng.pick(&Kind::ALL);
     let case = rng.below(4);
     let mut build = |headed: bool, kinds: &[Kind]| {
-        let mut stream = joined(&opening(rng, headed));
+        let mut stream = joined(&opening(rules, rng, headed));
         for &kind in kinds {
-            stream.extend(message(rng, kind, 100).bytes());
+            stream.extend(message(rules, rng, kind, 100).bytes());
         }
         stream
     };
@@ -341,13 +371,13 @@ fn broken_order(rng: &mut Rng) -> Vec<u8> {
         _ => (build(true, &[Kind::Close]), any),
     };
     // The order is judged before the message's own checks, even if only its id is there.
-    let faulty = message(rng, last, 100).bytes();
+    let faulty = message(rules, rng, last, 100).bytes();
     let length = match rng.below(3) {
         0 => 2,
         _ => faulty.len(),
     };
     stream.extend_from_slice(&faulty[..length]);
-    stream.extend(rest(rng));
+    stream.extend(rest(rules, rng));
     stream
 }
 
@@ -361,25 +391,25 @@ pub fn too_many(close: bool) -> Vec<u8> {
 
 /// Streams of one image whose pixels or attributes pass 64 bits and would be few if the size wrapped: to 0 bytes, to
 /// at most `most` bytes that are all there, and to some more that are not.
-pub fn huge_images(rng: &mut Rng, most: u64) -> Vec<Vec<u8>> {
+pub fn huge_images(rules: Rules, rng: &mut Rng, most: u64) -> Vec<Vec<u8>> {
     let mut streams = Vec::new();
     let mut add = |rng: &mut Rng, sizes: [u64; 4], wrapped: u64| {
-        let mut message = messages::image(rng, 40);
+        let mut message = messages::image(rules, rng, 40);
         set_image_sizes(&mut message, sizes, 8);
         message.pixels = rng.bytes(wrapped as usize);
-        streams.push(with_image(rng, &message.bytes()));
+        streams.push(with_image(rules, rng, &message.bytes()));
     };
     add(rng, [32_768; 4], 0);
     for limit in [most, 1 << 24] {
         let (sizes, wrapped) = wrapping_sizes(rng, limit);
         add(rng, sizes, if wrapped <= most { wrapped } else { 0 });
     }
-    streams.extend(wrapping_attributes(rng));
+    streams.extend(wrapping_attributes(rules, rng));
     streams
 }
 
-fn with_image(rng: &mut Rng, image: &[u8]) -> Vec<u8> {
-    let mut stream = joined(&opening(rng, true));
+fn with_image(rules: Rules, rng: &mut Rng, image: &[u8]) -> Vec<u8> {
+    let mut stream = joined(&opening(rules, rng, true));
     stream.extend_from_slice(image);
     stream.extend_from_slice(&[4, 0]);
     stream
@@ -387,8 +417,8 @@ fn with_image(rng: &mut Rng, image: &[u8]) -> Vec<u8> {
 
 /// Images of 64 bytes of pixels whose attribute length, which no header can say, brings the whole size to just below
 /// 2^64, to it, and past it by an id, by an image's fixed part and by all but one byte of the message.
-fn wrapping_attributes(rng: &mut Rng) -> Vec<Vec<u8>> {
-    let mut message = messages::image(rng, 40);
+fn wrapping_attributes(rules: Rules, rng: &mut Rng) -> Vec<Vec<u8>> {
+    let mut message = messages::image(rules, rng, 40);
     set_image_sizes(&mut message, [2, 2, 1, 1], 8);
     message.pixels = rng.bytes(64);
     message.attributes.clear();
@@ -396,7 +426,7 @@ fn wrapping_attributes(rng: &mut Rng) -> Vec<Vec<u8>> {
     let mut streams = Vec::new();
     for past in [0, 1, 1 + 2, 1 + 208, whole] {
         let claiming = claiming_image(rng, &message, u64::MAX - whole + past);
-        streams.push(with_image(rng, &claiming));
+        streams.push(with_image(rules, rng, &claiming));
     }
     streams
 }
@@ -422,7 +452,7 @@ fn wrapping_sizes(rng: &mut Rng, most: u64) -> ([u64; 4], u64) {
 }
 
 /// The kinds of damage that `damaged` does.
-pub const DAMAGES: [&str; 14] = [
+pub const DAMAGES: [&str; 16] = [
     "truncated",
     "one byte flipped",
     "header field at a boundary",
@@ -437,68 +467,82 @@ pub const DAMAGES: [&str; 14] = [
     "any bytes",
     "two damages",
     "attribute lengths of an image",
+    "a waveform of the other layout",
+    "cut within a waveform header",
 ];
 
 /// A well-formed stream with the damage of that number in `DAMAGES`. Some damage leaves a stream
 /// that is still accepted.
-pub fn damaged(rng: &mut Rng, damage: usize, limit: usize) -> Vec<u8> {
-    let mut messages = well_formed(rng, limit);
+pub fn damaged(rules: Rules, rng: &mut Rng, damage: usize, limit: usize) -> Vec<u8> {
+    let mut messages = well_formed(rules, rng, limit);
+    damage_messages(rules, rng, damage, &mut messages);
+    let mut bytes = match damage {
+        4 | 8 | 13 => damaged_pieces(rng, damage, &messages),
+        15 => cut_within_a_waveform_header(rules, rng, &messages),
+        _ => joined(&messages),
+    };
     match damage {
-        2 | 3 => {
-            let count = if damage == 2 { 1 } else { 2 + rng.below(4) };
-            set_boundaries(rng, &mut messages, count);
-            joined(&messages)
-        }
-        5 => {
-            swap_or_repeat(rng, &mut messages);
-            joined(&messages)
-        }
-        6 => {
-            messages.pop();
-            joined(&messages)
-        }
-        4 | 8 | 13 => {
-            let mut pieces: Vec<Vec<u8>> = messages.iter().map(Message::bytes).collect();
-            match damage {
-                4 => set_text_length(rng, &messages, &mut pieces),
-                8 => set_unknown_id(rng, &mut pieces),
-                _ => set_attribute_lengths(rng, &messages, &mut pieces),
-            }
-            pieces.concat()
-        }
         12 => {
-            if rng.one_in(2) {
-                set_boundaries(rng, &mut messages, 2);
-            } else {
-                swap_or_repeat(rng, &mut messages);
-            }
-            let mut bytes = joined(&messages);
             let second = rng.pick(&[0, 1, 9, 10]);
             damage_bytes(rng, second, &mut bytes);
-            bytes
         }
-        _ => {
-            let mut bytes = joined(&messages);
-            damage_bytes(rng, damage, &mut bytes);
-            bytes
+        0 | 1 | 7 | 9..=11 => damage_bytes(rng, damage, &mut bytes),
+        _ => {}
+    }
+    bytes
+}
+
+/// The damages that are done before messages become bytes.
+fn damage_messages(rules: Rules, rng: &mut Rng, damage: usize, messages: &mut Vec<Message>) {
+    match damage {
+        2 => set_boundaries(rng, messages, 1),
+        3 => {
+            let count = 2 + rng.below(4);
+            set_boundaries(rng, messages, count);
         }
+        5 => swap_or_repeat(rng, messages),
+        6 => {
+            messages.pop();
+        }
+        12 if rng.one_in(2) => set_boundaries(rng, messages, 2),
+        12 => swap_or_repeat(rng, messages),
+        14 => set_other_layout(rules, rng, messages),
+        _ => {}
     }
 }
 
-/// The stream of that number in a run, and what it is: well formed, made for one refusal number, or damaged.
-/// The refusals and damages come in turn.
-pub fn drawn(rng: &mut Rng, number: u64, limit: usize) -> (String, Vec<u8>) {
+/// The damages that are done to the bytes of one message.
+fn damaged_pieces(rng: &mut Rng, damage: usize, messages: &[Message]) -> Vec<u8> {
+    let mut pieces: Vec<Vec<u8>> = messages.iter().map(Message::bytes).collect();
+    match damage {
+        4 => set_text_length(rng, messages, &mut pieces),
+        8 => set_unknown_id(rng, &mut pieces),
+        _ => set_attribute_lengths(rng, messages, &mut pieces),
+    }
+    pieces.concat()
+}
+
+/// The stream of that number in a run, and what it is: well formed, accepted under both layouts, made for one
+/// refusal number, or damaged. The refusals and damages come in turn.
+pub fn drawn(rules: Rules, rng: &mut Rng, number: u64, limit: usize) -> (String, Vec<u8>) {
     let turn = (number / 10) as usize;
     match number % 10 {
-        0..=3 => ("well formed".to_string(), joined(&well_formed(rng, limit))),
+        0 if turn % 2 == 0 => ("for both layouts".to_string(), accepted_by_both(rng)),
+        0..=3 => {
+            let messages = well_formed(rules, rng, limit);
+            ("well formed".to_string(), joined(&messages))
+        }
         4..=6 => {
             let wanted = SHORT_REFUSALS[turn % SHORT_REFUSALS.len()];
             let what = format!("made for refusal {wanted}");
-            (what, refused_with(rng, wanted))
+            (what, refused_with(rules, rng, wanted))
         }
         _ => {
             let damage = turn % DAMAGES.len();
-            (DAMAGES[damage].to_string(), damaged(rng, damage, limit))
+            (
+                DAMAGES[damage].to_string(),
+                damaged(rules, rng, damage, limit),
+            )
         }
     }
 }
@@ -573,10 +617,7 @@ fn set_boundaries(rng: &mut Rng, messages: &mut [Message], count: u64) {
         return;
     }
     let message = &mut messages[rng.pick(&with_header)];
-    let table = message
-        .kind()
-        .and_then(Kind::table)
-        .expect("it has a header");
+    let table = message.table().expect("it has a header");
     for _ in 0..count {
         let name = rng.pick(&JUDGED);
         if let Some(entry) = table.entry(name) {
@@ -585,6 +626,23 @@ fn set_boundaries(rng: &mut Rng, messages: &mut [Message], count: u64) {
             message.set(name, i, number);
         }
     }
+}
+
+/// Puts a waveform of the other layout in place of one.
+fn set_other_layout(rules: Rules, rng: &mut Rng, messages: &mut [Message]) {
+    if let Some(at) = message_of(rng, messages, |kind| kind == Kind::Waveform) {
+        messages[at] = messages::waveform(rules.with_other_layout(), rng, 400);
+    }
+}
+
+fn cut_within_a_waveform_header(rules: Rules, rng: &mut Rng, messages: &[Message]) -> Vec<u8> {
+    let Some(at) = message_of(rng, messages, |kind| kind == Kind::Waveform) else {
+        return joined(messages);
+    };
+    let header = rng.below(Kind::Waveform.header_size(rules) as u64) as usize;
+    let mut bytes = joined(&messages[..at]);
+    bytes.extend_from_slice(&messages[at].bytes()[..2 + header]);
+    bytes
 }
 
 fn set_unknown_id(rng: &mut Rng, pieces: &mut [Vec<u8>]) {

@@ -5,7 +5,7 @@ use crate::messages::{self, message, Message};
 use crate::rng::Rng;
 use second_reader::message::STATED_LENGTH;
 use second_reader::questions::counters_of;
-use second_reader::{index_bytes, own_columns, records, Kind, PartName};
+use second_reader::{index_bytes, own_columns, records, Kind, PartName, Rules};
 
 /// What a writer is given: the message's id, header and parts, an output and a position in it.
 #[derive(Clone, Debug)]
@@ -31,8 +31,8 @@ fn with_room(rng: &mut Rng, message: Message) -> WriterInput {
 }
 
 /// A message as a writer is given it: an image's header says anything of its attributes.
-fn given(rng: &mut Rng, kind: Kind, most: u64) -> Message {
-    let mut message = message(rng, kind, most);
+fn given(rules: Rules, rng: &mut Rng, kind: Kind, most: u64) -> Message {
+    let mut message = message(rules, rng, kind, most);
     if kind == Kind::Image {
         let length = message.attributes.len() as u64;
         let stated = match rng.below(6) {
@@ -48,23 +48,23 @@ fn given(rng: &mut Rng, kind: Kind, most: u64) -> Message {
 }
 
 /// Inputs that the writer accepts.
-pub fn writer_input(rng: &mut Rng) -> WriterInput {
+pub fn writer_input(rules: Rules, rng: &mut Rng) -> WriterInput {
     let kind = rng.pick(&Kind::ALL);
-    let message = given(rng, kind, 2_000);
+    let message = given(rules, rng, kind, 2_000);
     with_room(rng, message)
 }
 
 /// Inputs that the writer refuses with this number, one of `WRITER_REFUSALS`. A text over the
 /// limit of check 10 is not among them, as it would take 256 MB.
-pub fn writer_input_refused(rng: &mut Rng, number: u32) -> WriterInput {
-    let mut input = writer_input(rng);
+pub fn writer_input_refused(rules: Rules, rng: &mut Rng, number: u32) -> WriterInput {
+    let mut input = writer_input(rules, rng);
     match number {
         2 => input.message.id = unknown_id(rng),
         3 => wrong_header_length(rng, &mut input.message),
         14 => wrong_room(rng, &mut input),
         18 => wrong_part(rng, &mut input.message),
         _ => {
-            let message = refused_message(rng, number);
+            let message = refused_message(rules, rng, number);
             input = with_room(rng, message);
         }
     }
@@ -79,7 +79,7 @@ fn wrong_header_length(rng: &mut Rng, message: &mut Message) {
     let right = message.header.len();
     let length = loop {
         let length = match rng.below(3) {
-            0 => rng.pick(&[0, 1, 32, 198, 206, 340]),
+            0 => rng.pick(&[0, 1, 32, 40, 198, 206, 340]),
             1 => right + 1,
             _ => right.saturating_sub(1),
         };
@@ -134,14 +134,14 @@ fn wrong_part(rng: &mut Rng, message: &mut Message) {
 }
 
 /// A message whose header or name a writer refuses with this number, one of 4 to 8 and 10.
-fn refused_message(rng: &mut Rng, number: u32) -> Message {
+fn refused_message(rules: Rules, rng: &mut Rng, number: u32) -> Message {
     let mut message = match number {
-        5 => messages::name(rng),
-        6 | 7 => messages::acquisition(rng, 400),
-        8 => given(rng, Kind::Image, 400),
+        5 => messages::name(rules, rng),
+        6 | 7 => messages::acquisition(rules, rng, 400),
+        8 => given(rules, rng, Kind::Image, 400),
         _ => {
             let kind = rng.pick(&[Kind::Acquisition, Kind::Image, Kind::Waveform]);
-            given(rng, kind, 400)
+            given(rules, rng, kind, 400)
         }
     };
     match number {
@@ -203,8 +203,8 @@ pub struct GivenFile {
 }
 
 /// Index files to give with an accepted stream.
-pub fn given_files(rng: &mut Rng, stream: &[u8]) -> Vec<GivenFile> {
-    let own = index_bytes(stream).expect("an accepted stream");
+pub fn given_files(rules: Rules, rng: &mut Rng, stream: &[u8]) -> Vec<GivenFile> {
+    let own = index_bytes(rules, stream).expect("an accepted stream");
     let mut one_off = own.clone();
     let at = rng.below(own.len() as u64) as usize;
     one_off[at] ^= 1 << rng.below(8);
@@ -214,14 +214,26 @@ pub fn given_files(rng: &mut Rng, stream: &[u8]) -> Vec<GivenFile> {
     let mut without_record = own.clone();
     without_record.drain(16..33);
     let file = |what, right, bytes| GivenFile { what, right, bytes };
-    vec![
+    let others = index_bytes(rules.with_other_layout(), stream).ok();
+    let others = others.map(|bytes| file(name_of_others(bytes == own), bytes == own, bytes));
+    let mut files = vec![
         file("right", true, own),
         file("one byte off", false, one_off),
         file("short", false, cut),
         file("trailing bytes", false, trailing),
         file("one record less", false, without_record),
         file("empty", false, vec![]),
-    ]
+    ];
+    files.extend(others);
+    files
+}
+
+/// What an index is that was made under the other layout, where that accepts the stream too.
+fn name_of_others(right: bool) -> &'static str {
+    match right {
+        true => "the other layout's, the same",
+        false => "the other layout's",
+    }
 }
 
 /// Given columns, and whether they hold the stream's own numbers.
@@ -235,8 +247,8 @@ pub struct GivenColumns {
 }
 
 /// Columns to give with an accepted stream.
-pub fn given_columns(rng: &mut Rng, stream: &[u8]) -> Vec<GivenColumns> {
-    let (starts, ids, counters) = own_columns(stream).expect("an accepted stream");
+pub fn given_columns(rules: Rules, rng: &mut Rng, stream: &[u8]) -> Vec<GivenColumns> {
+    let (starts, ids, counters) = own_columns(rules, stream).expect("an accepted stream");
     let own = GivenColumns {
         what: "right",
         right: true,
@@ -244,6 +256,27 @@ pub fn given_columns(rng: &mut Rng, stream: &[u8]) -> Vec<GivenColumns> {
         ids,
         counters,
     };
+    let [off, short] = wrong_columns(rng, &own);
+    let mut long = own.clone();
+    long.what = "longer";
+    let more = rng.size(20) as usize;
+    long.starts.extend((0..more).map(|i| i as u64));
+    long.ids.push(rng.number() as u16);
+    let empty = GivenColumns {
+        what: "empty",
+        right: false,
+        starts: vec![],
+        ids: vec![],
+        counters: vec![],
+    };
+    let others = others_columns(rules, stream, &own);
+    let mut columns = vec![own, off, short, long, empty];
+    columns.extend(others);
+    columns
+}
+
+/// Columns with one number off, and columns of which one is too short.
+fn wrong_columns(rng: &mut Rng, own: &GivenColumns) -> [GivenColumns; 2] {
     let column = rng.below(3);
     let record = rng.below(own.starts.len() as u64) as usize;
     let mut off = own.clone();
@@ -262,18 +295,23 @@ pub fn given_columns(rng: &mut Rng, stream: &[u8]) -> Vec<GivenColumns> {
         1 => short.ids.truncate(record),
         _ => short.counters.truncate(record),
     }
-    let mut long = own.clone();
-    long.what = "longer";
-    let more = rng.size(20) as usize;
-    long.starts.extend((0..more).map(|i| i as u64));
-    long.ids.push(rng.number() as u16);
-    let mut empty = own.clone();
-    empty.what = "empty";
-    empty.right = false;
-    empty.starts.clear();
-    empty.ids.clear();
-    empty.counters.clear();
-    vec![own, off, short, long, empty]
+    [off, short]
+}
+
+/// The columns that the other layout yields, if it accepts the stream.
+fn others_columns(rules: Rules, stream: &[u8], own: &GivenColumns) -> Option<GivenColumns> {
+    let (starts, ids, counters) = own_columns(rules.with_other_layout(), stream).ok()?;
+    // Later places are not looked at.
+    let right = starts.starts_with(&own.starts)
+        && ids.starts_with(&own.ids)
+        && counters.starts_with(&own.counters);
+    Some(GivenColumns {
+        what: name_of_others(right),
+        right,
+        starts,
+        ids,
+        counters,
+    })
 }
 
 /// A record number to ask for: mostly one that is there, also the count, past it and far past.
@@ -286,14 +324,16 @@ pub fn record_number(rng: &mut Rng, count: u64) -> u64 {
 }
 
 /// A header offset to ask for: an element's start, any byte of a header, its end, or far past.
-pub fn field_offset(rng: &mut Rng) -> u64 {
+pub fn field_offset(rules: Rules, rng: &mut Rng) -> u64 {
     let table = rng
         .pick(&[Kind::Acquisition, Kind::Image, Kind::Waveform])
-        .table()
+        .table(rules)
         .expect("these have headers");
-    match rng.below(6) {
+    match rng.below(7) {
         0 => rng.below(360),
-        1 => rng.pick(&[32, 198, 206, 340, 65_536, (1 << 32) + 2, u64::MAX]),
+        // Bytes of filler and of elements that lie elsewhere in the other layout.
+        1 => rng.below(42),
+        2 => rng.pick(&[32, 40, 198, 206, 340, 65_536, (1 << 32) + 2, u64::MAX]),
         _ => rng.pick(&table.elements()).0 as u64,
     }
 }
@@ -309,9 +349,9 @@ pub fn flag(rng: &mut Rng) -> u64 {
 
 /// Counters to look for: those of an acquisition of the stream, the same but for one, any
 /// seventeen, or a list of another length.
-pub fn counters(rng: &mut Rng, stream: &[u8]) -> Vec<u16> {
+pub fn counters(rules: Rules, rng: &mut Rng, stream: &[u8]) -> Vec<u16> {
     let mut found: Vec<Vec<u16>> = Vec::new();
-    for record in records(stream).unwrap_or_default() {
+    for record in records(rules, stream).unwrap_or_default() {
         if record.detail.kind() == Kind::Acquisition {
             found.push(counters_of(&stream[record.start as usize + 2..]));
         }

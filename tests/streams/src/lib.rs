@@ -1,7 +1,10 @@
 //! Streams and other inputs for the tests: well-formed and damaged streams, a writer's inputs,
-//! given indexes, offsets, flags and counters. A seed fixes all of them.
+//! given indexes, offsets, flags and counters. A seed fixes all of them. They are drawn for the layout of
+//! waveform headers that the caller says.
 
 pub mod damaged;
+pub mod either;
+pub mod filler;
 pub mod inputs;
 pub mod messages;
 pub mod program;
@@ -10,7 +13,8 @@ pub mod sample;
 pub mod stated;
 pub mod well_formed;
 
-pub use damaged::{damaged, drawn, huge_images, refused_with, too_many, DAMAGES};
+pub use damaged::{around_the_limit, damaged, drawn, huge_images, refused_with, too_many, DAMAGES};
+pub use either::accepted_by_both;
 pub use inputs::{
     counter_pair, counters, field_offset, flag, given_columns, given_files, record_number,
     writer_input, writer_input_refused, GivenColumns, GivenFile, WriterInput, WRITER_REFUSALS,

@@ -1,14 +1,17 @@
 //! Messages to make streams of, before they become bytes.
 
+use crate::filler;
 use crate::rng::Rng;
 use crate::stated;
 use second_reader::message::STATED_LENGTH;
-use second_reader::{numbers, Detail, Kind, Mask, PartName, Parts};
+use second_reader::{numbers, Detail, Kind, Mask, PartName, Parts, Rules, Table};
 
 /// One message with its parts apart. Its bytes follow from them without any check, so that
 /// faulty messages can be built too.
 #[derive(Clone, Debug)]
 pub struct Message {
+    /// What the header is made for.
+    pub rules: Rules,
     pub id: u16,
     pub header: Vec<u8>,
     pub name: Vec<u8>,
@@ -23,8 +26,9 @@ pub struct Message {
 }
 
 impl Message {
-    pub fn empty(id: u16) -> Message {
+    pub fn empty(rules: Rules, id: u16) -> Message {
         Message {
+            rules,
             id,
             header: vec![],
             name: vec![],
@@ -103,22 +107,28 @@ impl Message {
         }
     }
 
+    /// The table of this message's header, if its kind has one.
+    pub fn table(&self) -> Option<&'static Table> {
+        self.kind().and_then(|kind| kind.table(self.rules))
+    }
+
     /// Sets the `i`th element of a named header entry.
     pub fn set(&mut self, name: &str, i: usize, number: u64) {
-        let table = self
-            .kind()
-            .and_then(Kind::table)
-            .expect("a kind with a header");
+        let table = self.table().expect("a kind with a header");
         let entry = table.entry(name).expect("an entry of this header");
         assert!(i < entry.count);
         let width = entry.element.size();
         numbers::put(&mut self.header, entry.offset + i * width, width, number);
     }
 
-    /// The header as a writer puts it: an image's says the length of the attributes, whatever it said.
+    /// The header as a writer puts it: an image's says the length of the attributes, whatever it said, and filler
+    /// is zero.
     pub fn header_written(&self) -> Vec<u8> {
-        let mut written = Message::empty(self.id);
+        let mut written = Message::empty(self.rules, self.id);
         written.header = self.header.clone();
+        if let Some(table) = self.table() {
+            table.clear_filler(&mut written.header);
+        }
         if self.kind() == Some(Kind::Image) {
             written.set(STATED_LENGTH, 0, self.attributes.len() as u64);
         }
@@ -127,35 +137,32 @@ impl Message {
 
     /// The `i`th element of a named header entry.
     pub fn get(&self, name: &str, i: usize) -> u64 {
-        let table = self
-            .kind()
-            .and_then(Kind::table)
-            .expect("a kind with a header");
+        let table = self.table().expect("a kind with a header");
         table.whole(&self.header, name, i)
     }
 }
 
 /// A message of a random kind's whole content, well formed, with a body of about `most` bytes
 /// at most.
-pub fn message(rng: &mut Rng, kind: Kind, most: u64) -> Message {
+pub fn message(rules: Rules, rng: &mut Rng, kind: Kind, most: u64) -> Message {
     match kind {
-        Kind::ConfigurationName => name(rng),
-        Kind::ConfigurationText | Kind::HeaderText | Kind::Text => text(rng, kind, most),
-        Kind::Close => Message::empty(Kind::Close.id()),
-        Kind::Acquisition => acquisition(rng, most),
-        Kind::Image => image(rng, most),
-        Kind::Waveform => waveform(rng, most),
+        Kind::ConfigurationName => name(rules, rng),
+        Kind::ConfigurationText | Kind::HeaderText | Kind::Text => text(rules, rng, kind, most),
+        Kind::Close => Message::empty(rules, kind.id()),
+        Kind::Acquisition => acquisition(rules, rng, most),
+        Kind::Image => image(rules, rng, most),
+        Kind::Waveform => waveform(rules, rng, most),
     }
 }
 
 /// A name of any length from 0 to 1,023, with any filler after its zero.
-pub fn name(rng: &mut Rng) -> Message {
+pub fn name(rules: Rules, rng: &mut Rng) -> Message {
     let length = match rng.below(4) {
         0 => rng.pick(&[0, 1, 1_022, 1_023]),
         1 => rng.below(40),
         _ => rng.below(1_024),
     } as usize;
-    let mut message = Message::empty(Kind::ConfigurationName.id());
+    let mut message = Message::empty(rules, Kind::ConfigurationName.id());
     message.name = rng.bytes(length).iter().map(|&byte| byte.max(1)).collect();
     message.filler = match rng.below(3) {
         0 => vec![0; 1_023 - length],
@@ -164,23 +171,23 @@ pub fn name(rng: &mut Rng) -> Message {
     message
 }
 
-pub fn text(rng: &mut Rng, kind: Kind, most: u64) -> Message {
+pub fn text(rules: Rules, rng: &mut Rng, kind: Kind, most: u64) -> Message {
     let length = rng.size(most) as usize;
-    let mut message = Message::empty(kind.id());
+    let mut message = Message::empty(rules, kind.id());
     message.text = rng.bytes(length);
     message
 }
 
 /// A header of random bytes, NaNs and all, but with version 1.
-fn random_header(rng: &mut Rng, kind: Kind) -> Message {
-    let mut message = Message::empty(kind.id());
-    message.header = rng.bytes(kind.header_size());
+fn random_header(rules: Rules, rng: &mut Rng, kind: Kind) -> Message {
+    let mut message = Message::empty(rules, kind.id());
+    message.header = rng.bytes(kind.header_size(rules));
     message.set("version", 0, 1);
     message
 }
 
-pub fn acquisition(rng: &mut Rng, most: u64) -> Message {
-    let mut message = random_header(rng, Kind::Acquisition);
+pub fn acquisition(rules: Rules, rng: &mut Rng, most: u64) -> Message {
+    let mut message = random_header(rules, rng, Kind::Acquisition);
     // Small counters, so that a search for equal ones meets some.
     for i in 0..17 {
         let counter = rng.below(2);
@@ -267,8 +274,8 @@ pub fn set_mask(rng: &mut Rng, message: &mut Message, ones: u64) {
     }
 }
 
-pub fn image(rng: &mut Rng, most: u64) -> Message {
-    let mut message = random_header(rng, Kind::Image);
+pub fn image(rules: Rules, rng: &mut Rng, most: u64) -> Message {
+    let mut message = random_header(rules, rng, Kind::Image);
     let data_type = 1 + rng.below(8);
     message.set("data_type", 0, data_type);
     let mut sizes = [0; 4];
@@ -299,8 +306,9 @@ pub fn image(rng: &mut Rng, most: u64) -> Message {
     message
 }
 
-pub fn waveform(rng: &mut Rng, most: u64) -> Message {
-    let mut message = random_header(rng, Kind::Waveform);
+pub fn waveform(rules: Rules, rng: &mut Rng, most: u64) -> Message {
+    let mut message = random_header(rules, rng, Kind::Waveform);
+    filler::draw(rng, &mut message);
     let (samples, channels) = match rng.below(8) {
         0 => (0, rng.pick(&[0, 1, 65_535])),
         1 => (rng.size(65_535), 0),

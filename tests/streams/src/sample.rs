@@ -1,10 +1,10 @@
-//! Two sample streams that hold all eight kinds between them. One stream may hold one
-//! configuration only, so the configuration name is in one and the configuration text in the
-//! other.
+//! Two sample streams that hold all eight kinds between them, and one with aligned waveform headers. One
+//! stream may hold one configuration only, so the configuration name is in one and the configuration
+//! text in the other.
 
 use crate::messages::Message;
 use crate::well_formed::joined;
-use second_reader::Kind;
+use second_reader::{Kind, Rules};
 
 const HEADER_TEXT: &str = r#"<?xml version="1.0"?>
 <ismrmrdHeader xmlns="http://www.ismrm.org/ISMRMRD">
@@ -23,14 +23,14 @@ const SAMPLES: u64 = 32;
 const READOUTS: u64 = 3;
 
 fn with_text(kind: Kind, text: &str) -> Message {
-    let mut message = Message::empty(kind.id());
+    let mut message = Message::empty(Rules::PACKED, kind.id());
     message.text = text.as_bytes().to_vec();
     message
 }
 
 /// A name whose bytes after its zero are left over from something else, as real senders do.
 fn configuration_name() -> Message {
-    let mut message = Message::empty(Kind::ConfigurationName.id());
+    let mut message = Message::empty(Rules::PACKED, Kind::ConfigurationName.id());
     message.name = b"default.xml".to_vec();
     let left_over = b"previous_configuration.xml/";
     message.filler = (0..1_023 - message.name.len())
@@ -47,9 +47,9 @@ fn set_float(message: &mut Message, name: &str, i: usize, value: f32) {
     message.set(name, i, u64::from(value.to_bits()));
 }
 
-fn with_header(kind: Kind) -> Message {
-    let mut message = Message::empty(kind.id());
-    message.header = vec![0; kind.header_size()];
+fn with_header(rules: Rules, kind: Kind) -> Message {
+    let mut message = Message::empty(rules, kind.id());
+    message.header = vec![0; kind.header_size(rules)];
     message.set("version", 0, 1);
     message.set("measurement_uid", 0, 281);
     message
@@ -57,7 +57,7 @@ fn with_header(kind: Kind) -> Message {
 
 /// One radial readout of two channels with a trajectory of two dimensions.
 fn acquisition(readout: u64) -> Message {
-    let mut message = with_header(Kind::Acquisition);
+    let mut message = with_header(Rules::PACKED, Kind::Acquisition);
     let last = readout == READOUTS - 1;
     let flags = match readout {
         0 => 1 << 6,
@@ -102,7 +102,7 @@ fn acquisition(readout: u64) -> Message {
 }
 
 fn image() -> Message {
-    let mut message = with_header(Kind::Image);
+    let mut message = with_header(Rules::PACKED, Kind::Image);
     message.set("data_type", 0, 5);
     message.set("matrix_size", 0, 16);
     message.set("matrix_size", 1, 16);
@@ -120,10 +120,11 @@ fn image() -> Message {
     message
 }
 
-fn waveform() -> Message {
-    let mut message = with_header(Kind::Waveform);
-    message.set("scan_counter", 0, 1);
-    message.set("time_stamp", 0, 23_187_640);
+/// Twenty samples of two channels, with this scan counter.
+fn waveform(rules: Rules, counter: u64) -> Message {
+    let mut message = with_header(rules, Kind::Waveform);
+    message.set("scan_counter", 0, counter);
+    message.set("time_stamp", 0, 23_187_639 + counter);
     message.set("number_of_samples", 0, 20);
     message.set("channels", 0, 2);
     message.set("sample_time_us", 0, u64::from(2_500.0_f32.to_bits()));
@@ -132,6 +133,20 @@ fn waveform() -> Message {
         .flat_map(|i| (2_048 + i * i).to_le_bytes())
         .collect();
     message
+}
+
+/// An aligned one whose filler is left over from something else.
+fn waveform_with_left_over_filler(counter: u64) -> Message {
+    let mut message = waveform(Rules::ALIGNED, counter);
+    let table = message.table().expect("a waveform has a header");
+    for (at, byte) in table.filler().into_iter().zip(*b"leftover") {
+        message.header[at] = byte;
+    }
+    message
+}
+
+fn close() -> Message {
+    Message::empty(Rules::PACKED, Kind::Close.id())
 }
 
 /// Configuration name, header text, text, three acquisitions, image, waveform and close.
@@ -143,8 +158,8 @@ pub fn all_kinds() -> Vec<u8> {
     ];
     messages.extend((0..READOUTS).map(acquisition));
     messages.push(image());
-    messages.push(waveform());
-    messages.push(Message::empty(Kind::Close.id()));
+    messages.push(waveform(Rules::PACKED, 1));
+    messages.push(close());
     joined(&messages)
 }
 
@@ -157,6 +172,16 @@ pub fn configuration_text() -> Vec<u8> {
         ),
         with_text(Kind::HeaderText, HEADER_TEXT),
         acquisition(0),
-        Message::empty(Kind::Close.id()),
+        close(),
+    ])
+}
+
+/// Header text, two aligned waveforms, of which the first has filler that is not zero, and close.
+pub fn aligned_waveforms() -> Vec<u8> {
+    joined(&[
+        with_text(Kind::HeaderText, HEADER_TEXT),
+        waveform_with_left_over_filler(1),
+        waveform(Rules::ALIGNED, 2),
+        close(),
     ])
 }

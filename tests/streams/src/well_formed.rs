@@ -2,7 +2,7 @@
 
 use crate::messages::{message, Message};
 use crate::rng::Rng;
-use second_reader::Kind;
+use second_reader::{Kind, Rules};
 
 /// The bytes of messages one after another.
 pub fn joined(messages: &[Message]) -> Vec<u8> {
@@ -37,7 +37,7 @@ fn aim(rng: &mut Rng, limit: u64) -> Aim {
 }
 
 /// The messages of an accepted stream of at most `limit` bytes (2 or more), the close last.
-pub fn well_formed(rng: &mut Rng, limit: usize) -> Vec<Message> {
+pub fn well_formed(rules: Rules, rng: &mut Rng, limit: usize) -> Vec<Message> {
     let aim = aim(rng, limit as u64);
     let mut kinds = Vec::new();
     texts(rng, &mut kinds);
@@ -56,7 +56,7 @@ pub fn well_formed(rng: &mut Rng, limit: usize) -> Vec<Message> {
             Kind::Text
         });
     }
-    messages_of(rng, &kinds, aim.body, limit)
+    messages_of(rules, rng, &kinds, aim.body, limit)
 }
 
 fn texts(rng: &mut Rng, kinds: &mut Vec<Kind>) {
@@ -66,13 +66,19 @@ fn texts(rng: &mut Rng, kinds: &mut Vec<Kind>) {
 }
 
 /// Messages of these kinds and a close, without those that no longer fit in `limit` bytes.
-fn messages_of(rng: &mut Rng, kinds: &[Kind], body: u64, limit: usize) -> Vec<Message> {
-    let close = Message::empty(Kind::Close.id());
+fn messages_of(
+    rules: Rules,
+    rng: &mut Rng,
+    kinds: &[Kind],
+    body: u64,
+    limit: usize,
+) -> Vec<Message> {
+    let close = Message::empty(rules, Kind::Close.id());
     let mut messages = Vec::new();
     let mut room = limit - close.bytes().len();
     let mut headed = false;
     for &kind in kinds {
-        let message = message(rng, kind, body.min(room as u64));
+        let message = message(rules, rng, kind, body.min(room as u64));
         let size = message.bytes().len();
         // Data stays out where the header did not fit.
         if size <= room && (headed || !kind.is_data()) {
@@ -87,7 +93,7 @@ fn messages_of(rng: &mut Rng, kinds: &[Kind], body: u64, limit: usize) -> Vec<Me
 
 /// The beginning of an accepted stream, without a close, that holds a header text if `headed`,
 /// else neither a header nor a configuration.
-pub fn opening(rng: &mut Rng, headed: bool) -> Vec<Message> {
+pub fn opening(rules: Rules, rng: &mut Rng, headed: bool) -> Vec<Message> {
     let mut kinds = Vec::new();
     texts(rng, &mut kinds);
     if headed {
@@ -99,7 +105,7 @@ pub fn opening(rng: &mut Rng, headed: bool) -> Vec<Message> {
             kinds.push(rng.pick(&[Kind::Text, Kind::Acquisition, Kind::Image, Kind::Waveform]));
         }
     }
-    let mut messages = messages_of(rng, &kinds, 200, 20_000);
+    let mut messages = messages_of(rules, rng, &kinds, 200, 20_000);
     messages.pop();
     messages
 }

@@ -61,7 +61,7 @@ fn of_one_size(rng: &mut Rng) -> Vec<u8> {
     for rules in Rules::ALL {
         put_count(rules, rng, &mut bytes, (length - front(rules)) / 4);
     }
-    if rng.one_in(3) {
+    if rng.one_in(2) {
         // Now and then both have one scan counter, and so one index.
         let counter = table(Rules::ALIGNED).whole(&bytes[2..], "scan_counter", 0);
         put(Rules::PACKED, &mut bytes, "scan_counter", counter);

@@ -213,9 +213,8 @@ pub fn given_files(rules: Rules, rng: &mut Rng, stream: &[u8]) -> Vec<GivenFile>
     let trailing = [&own[..], &rng.bytes(more)].concat();
     let mut without_record = own.clone();
     without_record.drain(16..33);
+    let others = others_file(rules, stream, &own);
     let file = |what, right, bytes| GivenFile { what, right, bytes };
-    let others = index_bytes(rules.with_other_layout(), stream).ok();
-    let others = others.map(|bytes| file(name_of_others(bytes == own), bytes == own, bytes));
     let mut files = vec![
         file("right", true, own),
         file("one byte off", false, one_off),
@@ -228,12 +227,35 @@ pub fn given_files(rules: Rules, rng: &mut Rng, stream: &[u8]) -> Vec<GivenFile>
     files
 }
 
-/// What an index is that was made under the other layout, where that accepts the stream too.
-fn name_of_others(right: bool) -> &'static str {
-    match right {
-        true => "the other layout's, the same",
-        false => "the other layout's",
+/// What an index is that was made under the other layout, where that accepts the stream too: another, or the same
+/// although there are waveforms, or the same as there are none.
+pub const OF_OTHER_LAYOUT: [&str; 3] = [
+    "the other layout's",
+    "the other layout's, the same",
+    "the other layout's, no waveform",
+];
+
+fn name_of_others(right: bool, waveforms: bool) -> &'static str {
+    match (right, waveforms) {
+        (false, _) => OF_OTHER_LAYOUT[0],
+        (true, true) => OF_OTHER_LAYOUT[1],
+        (true, false) => OF_OTHER_LAYOUT[2],
     }
+}
+
+/// The index file that the other layout yields, if it accepts the stream.
+fn others_file(rules: Rules, stream: &[u8], own: &[u8]) -> Option<GivenFile> {
+    let bytes = index_bytes(rules.with_other_layout(), stream).ok()?;
+    let right = bytes == own;
+    // Each entry has its id after tag, length and start; what follows the last one is shorter.
+    let id = Kind::Waveform.id().to_le_bytes();
+    let mut entries = own[16..].chunks(17);
+    let waveforms = entries.any(|entry| entry.get(11..13) == Some(&id));
+    Some(GivenFile {
+        what: name_of_others(right, waveforms),
+        right,
+        bytes,
+    })
 }
 
 /// Given columns, and whether they hold the stream's own numbers.
@@ -305,8 +327,9 @@ fn others_columns(rules: Rules, stream: &[u8], own: &GivenColumns) -> Option<Giv
     let right = starts.starts_with(&own.starts)
         && ids.starts_with(&own.ids)
         && counters.starts_with(&own.counters);
+    let waveforms = own.ids.contains(&Kind::Waveform.id());
     Some(GivenColumns {
-        what: name_of_others(right),
+        what: name_of_others(right, waveforms),
         right,
         starts,
         ids,

@@ -17,7 +17,8 @@ pub use damaged::{around_the_limit, damaged, drawn, huge_images, refused_with, t
 pub use either::accepted_by_both;
 pub use inputs::{
     counter_pair, counters, field_offset, flag, given_columns, given_files, record_number,
-    writer_input, writer_input_refused, GivenColumns, GivenFile, WriterInput, WRITER_REFUSALS,
+    writer_input, writer_input_refused, GivenColumns, GivenFile, WriterInput, OF_OTHER_LAYOUT,
+    WRITER_REFUSALS,
 };
 pub use messages::Message;
 pub use rng::Rng;

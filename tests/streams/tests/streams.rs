@@ -303,7 +303,7 @@ fn refused_writer_inputs_get_the_number_they_are_made_for(rules: Rules) {
 fn given_indexes_are_right_or_wrong_as_said(rules: Rules) {
     let mut rng = Rng::new(8);
     let mut met = std::collections::BTreeMap::new();
-    for round in 0..200 {
+    for round in 0..400 {
         let stream = match round % 2 {
             0 => joined(&well_formed(rules, &mut rng, 3_000)),
             _ => accepted_by_both(&mut rng),
@@ -321,7 +321,7 @@ fn given_indexes_are_right_or_wrong_as_said(rules: Rules) {
         }
     }
     for form in ["file", "columns"] {
-        for what in ["the other layout's", "the other layout's, the same"] {
+        for what in OF_OTHER_LAYOUT {
             let times = met.get(&(form, what)).unwrap_or(&0);
             assert!(*times > 5, "{form}: {what} {times} times");
         }

@@ -1,11 +1,12 @@
-// Writes an ISMRMRD data set (HDF5) as an MRD message stream, and beside it a description of what
-// the ISMRMRD library holds of that data set. A reader of the stream is judged by the description,
-// which is taken from the library's struct members and accessors and never from the stream.
+// Writes an ISMRMRD data set (HDF5) as two MRD message streams, and beside them a description of
+// what the ISMRMRD library holds of that data set. A reader of a stream is judged by the description,
+// which is taken from the library's struct members and accessors and never from a stream.
 //
-//   convert DATASET.h5 STREAM.mrd DESCRIPTION.txt
+//   convert DATASET.h5 PACKED.mrd ALIGNED.mrd DESCRIPTION.txt
 //
-// Acquisition and image headers go into the stream as the library's own struct bytes. The library's
-// waveform header is aligned (40 bytes) where the stream's is packed (32): its members go one by one.
+// Acquisition and image headers go into both streams as the library's own struct bytes. The library's
+// waveform header is aligned (40 bytes): the one stream has the struct's bytes as they lie in memory,
+// padding included; in the other, packed (32 bytes), its members go one by one.
 
 #include <cstddef>
 #include <cstdint>
@@ -254,15 +255,27 @@ template <typename T> void put_image(std::ostream &stream, const Image<T> &image
     put_bytes(stream, image.getDataPtr(), image.getDataSize());
 }
 
-void put_waveform(std::ostream &stream, const Waveform &waveform)
+void put_waveform_data(std::ostream &stream, const Waveform &waveform)
+{
+    for (const uint32_t *sample = waveform.begin_data(); sample != waveform.end_data(); sample++)
+        put(stream, *sample);
+}
+
+void put_packed_waveform(std::ostream &stream, const Waveform &waveform)
 {
     const ISMRMRD_WaveformHeader &head = waveform.head;
     put(stream, uint16_t(1026));
 #define PUT(member) put(stream, head.member);
     WAVEFORM_MEMBERS(PUT)
 #undef PUT
-    for (const uint32_t *sample = waveform.begin_data(); sample != waveform.end_data(); sample++)
-        put(stream, *sample);
+    put_waveform_data(stream, waveform);
+}
+
+void put_aligned_waveform(std::ostream &stream, const Waveform &waveform)
+{
+    put(stream, uint16_t(1026));
+    put_bytes(stream, &waveform.head, sizeof waveform.head);
+    put_waveform_data(stream, waveform);
 }
 
 void put_text(std::ostream &stream, uint16_t id, const std::string &text)
@@ -275,8 +288,8 @@ void put_text(std::ostream &stream, uint16_t id, const std::string &text)
 // ---- What the tools leave out, made by the library's own calls ----
 //
 // The phantom leaves most header members zero, its image has no attributes, and it has no waveform.
-// A zero read from a wrong offset would go unseen, so an acquisition and an image follow with another
-// value in every element.
+// A zero read from a wrong offset would go unseen, so acquisitions, an image and waveforms follow with
+// another value in every element.
 
 class Fill {
 public:
@@ -392,30 +405,39 @@ void append_full_image(Dataset &dataset)
     dataset.appendImage(FULL_IMAGE, image);
 }
 
-void append_waveform(Dataset &dataset)
+// The library's constructor leaves a header's padding zero. What else stands there goes through its
+// calls and its file as it is, so the headers differ in it.
+void append_waveforms(Dataset &dataset)
 {
-    Waveform waveform(25, 2);
-    const ISMRMRD_WaveformHeader sized = waveform.head;
-    ISMRMRD_WaveformHeader &head = waveform.head;
+    const struct {
+        uint16_t samples, channels;
+        uint8_t padding;
+    } made[] = {{25, 2, 0}, {7, 5, 0xa5}, {1, 3, 0x5a}};
     Fill fill;
-#define FILL(member) fill(head.member);
-    WAVEFORM_MEMBERS(FILL)
-#undef FILL
-    head.version = sized.version;
-    head.number_of_samples = sized.number_of_samples;
-    head.channels = sized.channels;
     uint32_t level = 2048;
-    for (uint32_t *sample = waveform.begin_data(); sample != waveform.end_data(); sample++)
-        *sample = level += 97;
-    dataset.appendWaveform(waveform);
+    for (const auto &of : made) {
+        Waveform waveform(of.samples, of.channels);
+        const ISMRMRD_WaveformHeader sized = waveform.head;
+        ISMRMRD_WaveformHeader &head = waveform.head;
+        std::memset(&head, of.padding, sizeof head);
+#define FILL(member) fill(head.member);
+        WAVEFORM_MEMBERS(FILL)
+#undef FILL
+        head.version = sized.version;
+        head.number_of_samples = sized.number_of_samples;
+        head.channels = sized.channels;
+        for (uint32_t *sample = waveform.begin_data(); sample != waveform.end_data(); sample++)
+            *sample = level += 97;
+        dataset.appendWaveform(waveform);
+    }
 }
 
 // ---- The data set, record by record ----
 
 class Conversion {
 public:
-    Conversion(Dataset &dataset, std::ostream &stream, std::ostream &description)
-        : dataset_(dataset), stream_(stream), out_(description)
+    Conversion(Dataset &dataset, std::ostream &packed, std::ostream &aligned, std::ostream &description)
+        : dataset_(dataset), packed_(packed), aligned_(aligned), out_(description)
     {
     }
 
@@ -429,11 +451,18 @@ public:
         for (uint32_t i = 0; i < dataset_.getNumberOfWaveforms(); i++)
             waveform(i);
         begin_record(4);
-        put(stream_, uint16_t(4));
+        to_both([](std::ostream &stream) { put(stream, uint16_t(4)); });
         out_ << "records " << records_ << '\n';
     }
 
 private:
+    // All but the waveforms is the same in both streams.
+    template <typename Put> void to_both(Put put_to)
+    {
+        put_to(packed_);
+        put_to(aligned_);
+    }
+
     void begin_record(uint16_t id) { out_ << "record " << records_++ << ' ' << id << '\n'; }
 
     void header()
@@ -442,7 +471,7 @@ private:
         dataset_.readHeader(xml);
         begin_record(3);
         tell_text(out_, xml);
-        put_text(stream_, 3, xml);
+        to_both([&](std::ostream &stream) { put_text(stream, 3, xml); });
     }
 
     void acquisition(uint32_t i)
@@ -451,7 +480,7 @@ private:
         dataset_.readAcquisition(i, acq);
         begin_record(1008);
         tell_acquisition(out_, acq);
-        put_acquisition(stream_, acq);
+        to_both([&](std::ostream &stream) { put_acquisition(stream, acq); });
     }
 
     template <typename T> void images(const char *variable)
@@ -461,7 +490,7 @@ private:
             dataset_.readImage(variable, i, image);
             begin_record(1022);
             tell_image(out_, image);
-            put_image(stream_, image);
+            to_both([&](std::ostream &stream) { put_image(stream, image); });
         }
     }
 
@@ -471,41 +500,46 @@ private:
         dataset_.readWaveform(i, waveform);
         begin_record(1026);
         tell_waveform(out_, waveform);
-        put_waveform(stream_, waveform);
+        put_packed_waveform(packed_, waveform);
+        put_aligned_waveform(aligned_, waveform);
     }
 
     Dataset &dataset_;
-    std::ostream &stream_;
+    std::ostream &packed_;
+    std::ostream &aligned_;
     std::ostream &out_;
     size_t records_ = 0;
 };
 
-int convert(const char *dataset_path, const char *stream_path, const char *description_path)
+int convert(const char *dataset_path, const char *packed_path, const char *aligned_path,
+            const char *description_path)
 {
     Dataset dataset(dataset_path, "dataset", false);
     dataset.appendAcquisition(full_acquisition());
     dataset.appendAcquisition(compressed_acquisition());
     append_full_image(dataset);
-    append_waveform(dataset);
-    std::ofstream stream(stream_path, std::ios::binary);
+    append_waveforms(dataset);
+    std::ofstream packed(packed_path, std::ios::binary);
+    std::ofstream aligned(aligned_path, std::ios::binary);
     std::ofstream description(description_path);
     description << "library ISMRMRD " << ISMRMRD_VERSION_MAJOR << '.' << ISMRMRD_VERSION_MINOR << '.'
                 << ISMRMRD_VERSION_PATCH << '\n';
     tell_tables(description);
-    Conversion(dataset, stream, description).run();
-    stream.close();
+    Conversion(dataset, packed, aligned, description).run();
+    packed.close();
+    aligned.close();
     description.close();
-    return stream.good() && description.good() ? 0 : 1;
+    return packed.good() && aligned.good() && description.good() ? 0 : 1;
 }
 
 int main(int argc, char **argv)
 {
-    if (argc != 4) {
-        std::cerr << "usage: convert DATASET.h5 STREAM.mrd DESCRIPTION.txt\n";
+    if (argc != 5) {
+        std::cerr << "usage: convert DATASET.h5 PACKED.mrd ALIGNED.mrd DESCRIPTION.txt\n";
         return 2;
     }
     try {
-        return convert(argv[1], argv[2], argv[3]);
+        return convert(argv[1], argv[2], argv[3], argv[4]);
     } catch (const std::exception &fault) {
         std::cerr << "convert: " << fault.what() << '\n';
         return 1;

@@ -4,7 +4,7 @@
 use crate::description::{checksum, number, Described, Description, Fact, Member};
 use crate::readers::{Library, Part, Reader, SecondReader};
 use crate::tables;
-use second_reader::{Field, Kind, Mask, Type};
+use second_reader::{Field, Kind, Layout, Mask, Type};
 
 /// What was compared, for the line that a passed check prints.
 #[derive(Clone, Copy, Debug, Default, PartialEq, Eq)]
@@ -15,14 +15,29 @@ pub struct Compared {
     pub parts: usize,
 }
 
-/// Judges the proved library and the second reader, which must give the same places.
-pub fn check_both(stream: &[u8], described: &Description) -> Result<Compared, String> {
+impl Compared {
+    /// Adds what was compared in another stream.
+    pub fn add(&mut self, other: Compared) {
+        self.records += other.records;
+        self.elements += other.elements;
+        self.flags += other.flags;
+        self.parts += other.parts;
+    }
+}
+
+/// Judges the proved library and the second reader under one layout. They must give the same places.
+pub fn check_both(
+    layout: Layout,
+    stream: &[u8],
+    described: &Description,
+) -> Result<Compared, String> {
+    let (library, second) = (Library(layout), SecondReader(layout));
     let mut compared = vec![];
-    for reader in [&Library as &dyn Reader, &SecondReader] {
+    for reader in [&library as &dyn Reader, &second] {
         let of_reader = check(reader, stream, described);
         compared.push(of_reader.map_err(|difference| format!("{}: {difference}", reader.name()))?);
     }
-    let (library, second) = (Library.places(stream), SecondReader.places(stream));
+    let (library, second) = (library.places(stream), second.places(stream));
     if library != second {
         return Err(format!("the places differ: {library:?} and {second:?}"));
     }
@@ -49,7 +64,7 @@ pub fn check(
     let mut compared = Compared::default();
     for (n, record) in described.records.iter().enumerate() {
         let kind = Kind::of_id(record.id).ok_or("a kind that document 01 lacks")?;
-        let members = tables::stream_members(described, kind)?;
+        let members = tables::stream_members(described, kind, reader.layout())?;
         let question = Question {
             reader,
             stream,

@@ -1,23 +1,32 @@
-//! field_data STREAM DESCRIPTION: checks a stream against its description and prints one line.
+//! field_data PACKED ALIGNED DESCRIPTION: checks the streams of both layouts against their one
+//! description and prints one line.
 
 use field_data::check::{check_both, Compared};
 use field_data::description::Description;
+use second_reader::Layout;
 use std::process::ExitCode;
 
-fn run(stream: &str, description: &str) -> Result<Compared, String> {
-    let bytes = std::fs::read(stream).map_err(|fault| format!("{stream}: {fault}"))?;
+/// What was compared in both streams together.
+fn run(packed: &str, aligned: &str, description: &str) -> Result<Compared, String> {
     let text =
         std::fs::read_to_string(description).map_err(|fault| format!("{description}: {fault}"))?;
-    check_both(&bytes, &Description::parse(&text)?)
+    let described = Description::parse(&text)?;
+    let mut compared = Compared::default();
+    for (stream, layout) in [(packed, Layout::Packed), (aligned, Layout::Aligned)] {
+        let named = |fault: String| format!("{stream}: {fault}");
+        let bytes = std::fs::read(stream).map_err(|fault| named(fault.to_string()))?;
+        compared.add(check_both(layout, &bytes, &described).map_err(named)?);
+    }
+    Ok(compared)
 }
 
 fn main() -> ExitCode {
     let arguments: Vec<String> = std::env::args().skip(1).collect();
-    let [stream, description] = &arguments[..] else {
-        eprintln!("usage: field_data STREAM DESCRIPTION");
+    let [packed, aligned, description] = &arguments[..] else {
+        eprintln!("usage: field_data PACKED ALIGNED DESCRIPTION");
         return ExitCode::from(2);
     };
-    match run(stream, description) {
+    match run(packed, aligned, description) {
         Ok(compared) => {
             println!(
                 "field data: ok, {} records, {} header elements, {} flags, {} parts",

@@ -1,8 +1,9 @@
 //! The two readers that are judged by the description: the proved library by its C functions, and the
-//! second reader. Both answer in the second reader's types.
+//! second reader. Each reads under one layout of waveform headers, and both answer in the second
+//! reader's types.
 
 use cotterleaf::{Kind, Refusal, Stream};
-use second_reader::{Detail, Field, GivenIndex, Mask};
+use second_reader::{Detail, Field, GivenIndex, Layout, Mask, Rules};
 
 /// Number, first byte, size with the id, and id of a record.
 #[derive(Clone, Copy, Debug, PartialEq, Eq)]
@@ -26,6 +27,7 @@ pub enum Part {
 /// The questions that the check asks; a refusal is its number.
 pub trait Reader {
     fn name(&self) -> &'static str;
+    fn layout(&self) -> Layout;
     fn places(&self, stream: &[u8]) -> Result<Vec<Place>, u32>;
     fn field(&self, stream: &[u8], n: u64, offset: u64) -> Result<Field, u32>;
     fn view<'a>(&self, stream: &'a [u8], n: u64, part: Part) -> Result<&'a [u8], u32>;
@@ -36,7 +38,17 @@ pub trait Reader {
 }
 
 /// The proved library.
-pub struct Library;
+pub struct Library(pub Layout);
+
+impl Library {
+    fn stream<'a>(&self, bytes: &'a [u8]) -> Stream<'a> {
+        let rules = match self.0 {
+            Layout::Packed => cotterleaf::Rules::packed(),
+            Layout::Aligned => cotterleaf::Rules::aligned(),
+        };
+        Stream::new(rules, bytes)
+    }
+}
 
 fn number_of(refusal: Refusal) -> u32 {
     refusal.number
@@ -47,9 +59,13 @@ impl Reader for Library {
         "library"
     }
 
+    fn layout(&self) -> Layout {
+        self.0
+    }
+
     /// The check's answer and the walk's records, which must agree in number.
     fn places(&self, stream: &[u8]) -> Result<Vec<Place>, u32> {
-        let stream = Stream::new(stream);
+        let stream = self.stream(stream);
         let count = stream.check().map_err(number_of)?;
         let mut places = Vec::new();
         for record in stream.records() {
@@ -70,7 +86,7 @@ impl Reader for Library {
     }
 
     fn field(&self, stream: &[u8], n: u64, offset: u64) -> Result<Field, u32> {
-        match Stream::new(stream).field(n as usize, offset as usize) {
+        match self.stream(stream).field(n as usize, offset as usize) {
             Ok(cotterleaf::Field::Whole(number)) => Ok(Field::Whole(number)),
             Ok(cotterleaf::Field::Signed(number)) => Ok(Field::Signed(number)),
             Ok(cotterleaf::Field::Float { bits }) => Ok(Field::Float(bits)),
@@ -87,18 +103,18 @@ impl Reader for Library {
             Part::Pixels => cotterleaf::Part::Pixels,
             Part::Waveform => cotterleaf::Part::Waveform,
         };
-        Stream::new(stream)
+        self.stream(stream)
             .view(n as usize, part)
             .map_err(number_of)
     }
 
     fn find(&self, stream: &[u8], n: u64, counters: [u16; 17]) -> Result<u64, u32> {
-        let found = Stream::new(stream).find(n as usize, &counters);
+        let found = self.stream(stream).find(n as usize, &counters);
         found.map(|number| number as u64).map_err(number_of)
     }
 
     fn mask(&self, stream: &[u8], n: u64) -> Result<Option<Mask>, u32> {
-        let record = Stream::new(stream).place(n as usize).map_err(number_of)?;
+        let record = self.stream(stream).place(n as usize).map_err(number_of)?;
         Ok(match record.kind {
             Kind::Acquisition { mask, .. } => Some(match mask {
                 cotterleaf::Mask::NotStated => Mask::NotStated,
@@ -114,15 +130,26 @@ impl Reader for Library {
     }
 }
 
-pub struct SecondReader;
+pub struct SecondReader(pub Layout);
+
+impl SecondReader {
+    fn rules(&self) -> Rules {
+        Rules { layout: self.0 }
+    }
+}
 
 impl Reader for SecondReader {
     fn name(&self) -> &'static str {
         "second reader"
     }
 
+    fn layout(&self) -> Layout {
+        self.0
+    }
+
     fn places(&self, stream: &[u8]) -> Result<Vec<Place>, u32> {
-        let records = second_reader::records(stream).map_err(|refusal| refusal.number)?;
+        let records =
+            second_reader::records(self.rules(), stream).map_err(|refusal| refusal.number)?;
         Ok(records
             .iter()
             .map(|record| Place {
@@ -135,19 +162,19 @@ impl Reader for SecondReader {
     }
 
     fn field(&self, stream: &[u8], n: u64, offset: u64) -> Result<Field, u32> {
-        second_reader::field(stream, GivenIndex::NONE, n, offset)
+        second_reader::field(self.rules(), stream, GivenIndex::NONE, n, offset)
             .map_err(|refused| refused.number())
     }
 
     fn view<'a>(&self, stream: &'a [u8], n: u64, part: Part) -> Result<&'a [u8], u32> {
-        let given = GivenIndex::NONE;
+        let (rules, given) = (self.rules(), GivenIndex::NONE);
         let answer = match part {
-            Part::Text => second_reader::text(stream, given, n),
-            Part::Attributes => second_reader::attributes(stream, given, n),
-            Part::Trajectory => second_reader::trajectory(stream, given, n),
-            Part::Channel(channel) => second_reader::channel(stream, given, n, channel),
-            Part::Pixels => second_reader::pixels(stream, given, n),
-            Part::Waveform => second_reader::waveform(stream, given, n),
+            Part::Text => second_reader::text(rules, stream, given, n),
+            Part::Attributes => second_reader::attributes(rules, stream, given, n),
+            Part::Trajectory => second_reader::trajectory(rules, stream, given, n),
+            Part::Channel(channel) => second_reader::channel(rules, stream, given, n, channel),
+            Part::Pixels => second_reader::pixels(rules, stream, given, n),
+            Part::Waveform => second_reader::waveform(rules, stream, given, n),
         };
         answer
             .map(|part| second_reader::bytes_of(stream, part))
@@ -155,12 +182,12 @@ impl Reader for SecondReader {
     }
 
     fn find(&self, stream: &[u8], n: u64, counters: [u16; 17]) -> Result<u64, u32> {
-        second_reader::find(stream, GivenIndex::NONE, n, &counters)
+        second_reader::find(self.rules(), stream, GivenIndex::NONE, n, &counters)
             .map_err(|refused| refused.number())
     }
 
     fn mask(&self, stream: &[u8], n: u64) -> Result<Option<Mask>, u32> {
-        match second_reader::kind_and_place(stream, GivenIndex::NONE, n) {
+        match second_reader::kind_and_place(self.rules(), stream, GivenIndex::NONE, n) {
             Ok(record) => Ok(match record.detail {
                 Detail::Acquisition { mask, .. } => Some(mask),
                 _ => None,

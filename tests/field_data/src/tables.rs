@@ -1,12 +1,17 @@
-//! The library's structs against document 01's headers, which the second reader has as tables.
+//! The library's structs against the headers of documents 01 and 02, which the second reader has as
+//! tables.
 
 use crate::description::{Description, Member, Table};
-use second_reader::{headers, Entry, Kind};
+use second_reader::{headers, Entry, Kind, Layout};
 
 /// A header element by name, as the description tells its values: members with offsets into the
-/// stream's header. The acquisition's counters are members of their own, and the waveform's offsets
-/// are the packed ones.
-pub fn stream_members(description: &Description, kind: Kind) -> Result<Vec<Member>, String> {
+/// stream's header. The acquisition's counters are members of their own. An aligned waveform header
+/// is the library's struct.
+pub fn stream_members(
+    description: &Description,
+    kind: Kind,
+    layout: Layout,
+) -> Result<Vec<Member>, String> {
     match kind {
         Kind::Acquisition => {
             let mut members = description.table("acquisition")?.members.clone();
@@ -18,7 +23,13 @@ pub fn stream_members(description: &Description, kind: Kind) -> Result<Vec<Membe
             Ok(members)
         }
         Kind::Image => Ok(description.table("image")?.members.clone()),
-        Kind::Waveform => Ok(packed(description.table("waveform")?)),
+        Kind::Waveform => {
+            let table = description.table("waveform")?;
+            Ok(match layout {
+                Layout::Packed => packed(table),
+                Layout::Aligned => table.members.clone(),
+            })
+        }
         _ => Ok(vec![]),
     }
 }
@@ -35,24 +46,7 @@ fn packed(table: &Table) -> Vec<Member> {
     members
 }
 
-/// The library's waveform struct is laid out as C aligns it, which is why its bytes are no header of the
-/// stream. Were it packed one day, convert.cpp would have to change.
-fn compare_aligned(table: &Table, found: &mut Vec<String>) {
-    let mut at = 0_usize;
-    for member in &table.members {
-        at = at.next_multiple_of(member.element.size());
-        if member.offset != at {
-            found.push(format!(
-                "{} {} is not aligned at {at}",
-                table.name, member.name
-            ));
-        }
-        at += member.count * member.element.size();
-    }
-    compare_sizes(table, at.next_multiple_of(8), found);
-}
-
-/// The differences between the library's tables and document 01's.
+/// The differences between the library's tables and those of the documents.
 pub fn differences(description: &Description) -> Result<Vec<String>, String> {
     let mut found = vec![];
     let acquisition = description.table("acquisition")?;
@@ -61,17 +55,23 @@ pub fn differences(description: &Description) -> Result<Vec<String>, String> {
     let counters = description.table("counters")?;
     compare_sizes(acquisition, headers::ACQUISITION.size, &mut found);
     compare_sizes(image, headers::IMAGE.size, &mut found);
+    compare_sizes(waveform, headers::ALIGNED_WAVEFORM.size, &mut found);
     let mut members = acquisition.members.clone();
     members.push(counters_member(description, counters, &mut found));
     compare("acquisition", &members, &headers::ACQUISITION, &mut found);
     compare("image", &image.members, &headers::IMAGE, &mut found);
     compare(
-        "waveform",
+        "packed waveform",
         &packed(waveform),
         &headers::WAVEFORM,
         &mut found,
     );
-    compare_aligned(waveform, &mut found);
+    compare(
+        "aligned waveform",
+        &waveform.members,
+        &headers::ALIGNED_WAVEFORM,
+        &mut found,
+    );
     Ok(found)
 }
 
@@ -106,14 +106,14 @@ fn compare(kind: &str, members: &[Member], table: &headers::Table, found: &mut V
     if members.len() != table.entries.len() {
         let (library, paper) = (members.len(), table.entries.len());
         found.push(format!(
-            "{kind} header: {library} members, document 01 has {paper}"
+            "{kind} header: {library} members, the documents have {paper}"
         ));
     }
     for member in members {
         match table.entry(&member.name) {
             Some(entry) if same(member, entry) => {}
             other => found.push(format!(
-                "{kind} header: {member:?}, document 01 has {other:?}"
+                "{kind} header: {member:?}, the documents have {other:?}"
             )),
         }
     }

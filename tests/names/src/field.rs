@@ -29,6 +29,14 @@ fn members<'a>(description: &'a str, table: &str) -> Vec<Member<'a>> {
     .collect()
 }
 
+/// What the library says is the size of a struct.
+fn size(description: &str, table: &str) -> usize {
+    let start = format!("table {table} ");
+    let mut lines = description.lines();
+    let size = lines.find_map(|line| line.strip_prefix(&start));
+    size.and_then(|size| size.parse().ok()).expect("a size")
+}
+
 /// The names of the seventeen counters, in their order; those of an array with their number from 0.
 pub fn counters(description: &str) -> Vec<String> {
     let mut names = Vec::new();
@@ -47,10 +55,12 @@ pub fn counters(description: &str) -> Vec<String> {
     names
 }
 
-/// Where a header of ours and the library's struct differ in a name, type or count; in an offset too, but for
-/// the packed waveform, as the library has that struct aligned. Our `counters` are a struct of the library.
+/// Where a header of ours and the library's struct differ in a name, type or count; in an offset and the size too, but
+/// for the packed waveform, as the library has that struct aligned. Our `counters` are a struct of the library.
 pub fn differences(description: &str, header: &Header) -> Vec<String> {
-    let theirs = members(description, &header.kind.to_lowercase());
+    let table = header.kind.to_lowercase();
+    let theirs = members(description, &table);
+    let placed = header.name != "Waveform";
     let ours = header
         .fields
         .iter()
@@ -63,10 +73,13 @@ pub fn differences(description: &str, header: &Header) -> Vec<String> {
         header.kind
     );
     let mut found = Vec::new();
+    if placed && header.size != size(description, &table) {
+        found.push(format!("{}: {} bytes", header.name, header.size));
+    }
     for (ours, theirs) in ours.into_iter().zip(theirs) {
         let alike = (ours.name.as_str(), ours.element.in_rust(), ours.count)
             == (theirs.name, theirs.element, theirs.count);
-        if !alike || (header.name != "Waveform" && ours.offset != theirs.offset) {
+        if !alike || (placed && ours.offset != theirs.offset) {
             found.push(format!(
                 "{}: {} {} x {} at {}, there {} {} x {} at {}",
                 header.name,

@@ -4,23 +4,27 @@
 use crate::baseline::reader::{self, Met};
 use crate::baseline::{index, normal, questions, writer::Message};
 use crate::library;
+use second_reader::Rules;
 use streams::{Rng, SHORT_REFUSALS, WRITER_REFUSALS};
+
+/// The baseline knows packed waveform headers alone.
+const RULES: Rules = Rules::PACKED;
 
 /// Compares both on so many streams of each sort. Panics at the first difference.
 pub fn on_drawn_streams(count: usize, seed: u64) {
     let mut rng = Rng::new(seed);
     for round in 0..count {
         for number in SHORT_REFUSALS {
-            let stream = streams::refused_with(&mut rng, number);
+            let stream = streams::refused_with(RULES, &mut rng, number);
             let refusal = on_stream(&mut rng, &stream).expect_err("a refused stream");
             assert_eq!(refusal.number, number);
         }
-        let messages = streams::well_formed(&mut rng, 6_000);
+        let messages = streams::well_formed(RULES, &mut rng, 6_000);
         let stream = streams::joined(&messages);
         on_stream(&mut rng, &stream).expect("a well-formed stream");
         on_every_offset(&stream, round % messages.len());
         let damage = round % streams::DAMAGES.len();
-        let damaged = streams::damaged(&mut rng, damage, 6_000);
+        let damaged = streams::damaged(RULES, &mut rng, damage, 6_000);
         let _ = on_stream(&mut rng, &damaged);
         on_writer_inputs(&mut rng);
     }
@@ -44,12 +48,12 @@ fn on_stream(rng: &mut Rng, stream: &[u8]) -> Result<usize, crate::baseline::Ref
     assert_eq!(theirs, places);
     for _ in 0..4 {
         let n = streams::record_number(rng, places.len() as u64) as usize;
-        let offset = streams::field_offset(rng) as usize;
+        let offset = streams::field_offset(RULES, rng) as usize;
         assert_eq!(
             library::field(stream, n, offset),
             questions::field(stream, n, offset)
         );
-        let asked: [u16; 17] = match streams::counters(rng, stream).try_into() {
+        let asked: [u16; 17] = match streams::counters(RULES, rng, stream).try_into() {
             Ok(asked) => asked,
             Err(_) => continue,
         };
@@ -91,7 +95,7 @@ fn on_index(rng: &mut Rng, stream: &[u8]) {
     }
     let mut files = vec![vec![], vec![0; room]];
     if reader::check(stream).is_ok() {
-        let given = streams::given_files(rng, stream).into_iter();
+        let given = streams::given_files(RULES, rng, stream).into_iter();
         files.extend(given.map(|file| file.bytes));
     }
     for file in files {
@@ -101,9 +105,9 @@ fn on_index(rng: &mut Rng, stream: &[u8]) {
 }
 
 fn on_writer_inputs(rng: &mut Rng) {
-    let mut inputs = vec![streams::writer_input(rng)];
+    let mut inputs = vec![streams::writer_input(RULES, rng)];
     for number in WRITER_REFUSALS {
-        inputs.push(streams::writer_input_refused(rng, number));
+        inputs.push(streams::writer_input_refused(RULES, rng, number));
     }
     for input in inputs {
         let given = &input.message;

@@ -1,4 +1,5 @@
-//! The proved library by its C functions, answering in the baseline's types so that the two can be compared.
+//! The proved library by its C functions, answering in the baseline's types so that the two can be compared. Waveform
+//! headers are packed, as the baseline has them.
 
 use crate::baseline::questions::Field;
 use crate::baseline::reader::Met;
@@ -7,6 +8,10 @@ use crate::baseline::Refusal;
 use cotterleaf::raw;
 
 pub use cotterleaf::raw::mrd_cursor as Cursor;
+
+const PACKED: raw::mrd_rules = raw::mrd_rules {
+    aligned_waveforms: false,
+};
 
 fn answer<T>(number: u32, record: usize, byte: usize, value: T) -> Result<T, Refusal> {
     if number == 0 {
@@ -20,19 +25,35 @@ fn answer<T>(number: u32, record: usize, byte: usize, value: T) -> Result<T, Ref
     }
 }
 
-pub fn check(stream: &[u8]) -> Result<usize, Refusal> {
-    let a = raw::check(stream);
+/// The count of a stream's answer.
+pub fn counted(a: raw::mrd_checked) -> Result<usize, Refusal> {
     answer(a.refusal, a.record, a.byte, a.count)
 }
 
+pub fn check(stream: &[u8]) -> Result<usize, Refusal> {
+    counted(raw::check(PACKED, stream))
+}
+
+pub fn next(stream: &[u8], cursor: Cursor) -> raw::mrd_step {
+    raw::next(PACKED, stream, cursor)
+}
+
 /// Hands each record's place and what its mask says to `each`, and gives the stream's answer.
-pub fn walk(stream: &[u8], mut each: impl FnMut(Met)) -> Result<usize, Refusal> {
+pub fn walk(stream: &[u8], each: impl FnMut(Met)) -> Result<usize, Refusal> {
+    walk_by(next, stream, each)
+}
+
+/// The same by a given function for each step.
+pub fn walk_by(
+    next: impl Fn(&[u8], Cursor) -> raw::mrd_step,
+    stream: &[u8],
+    mut each: impl FnMut(Met),
+) -> Result<usize, Refusal> {
     let mut cursor = raw::beginning();
     loop {
-        let step = raw::next(stream, cursor);
+        let step = next(stream, cursor);
         if step.ended {
-            let a = step.answer;
-            return answer(a.refusal, a.record, a.byte, a.count);
+            return counted(step.answer);
         }
         each(Met {
             start: step.here.start,
@@ -45,11 +66,11 @@ pub fn walk(stream: &[u8], mut each: impl FnMut(Met)) -> Result<usize, Refusal> 
 }
 
 pub fn field(stream: &[u8], n: usize, offset: usize) -> Result<Field, Refusal> {
-    field_of(raw::field(stream, n, offset))
+    field_of(raw::field(PACKED, stream, n, offset))
 }
 
 pub fn field_at(stream: &[u8], cursor: Cursor, offset: usize) -> Result<Field, Refusal> {
-    field_of(raw::field_at(stream, cursor, offset))
+    field_of(raw::field_at(PACKED, stream, cursor, offset))
 }
 
 /// A cursor at each record of an accepted stream.
@@ -57,7 +78,7 @@ pub fn cursors(stream: &[u8]) -> Vec<Cursor> {
     let mut cursor = raw::beginning();
     let mut cursors = vec![];
     loop {
-        let step = raw::next(stream, cursor);
+        let step = next(stream, cursor);
         if step.ended {
             return cursors;
         }
@@ -76,22 +97,22 @@ fn field_of(a: raw::mrd_field_answer) -> Result<Field, Refusal> {
 }
 
 pub fn find(stream: &[u8], n: usize, counters: &[u16; 17]) -> Result<usize, Refusal> {
-    let a = raw::find(stream, n, counters);
+    let a = raw::find(PACKED, stream, n, counters);
     answer(a.refusal, a.record, a.byte, a.number)
 }
 
 pub fn normal_form(stream: &[u8], out: &mut [u8]) -> Result<usize, Refusal> {
-    let a = raw::normal_form(stream, out);
+    let a = raw::normal_form(PACKED, stream, out);
     answer(a.refusal, a.record, a.byte, a.length)
 }
 
 pub fn write_index(stream: &[u8], out: &mut [u8]) -> Result<usize, Refusal> {
-    let a = raw::write_index(stream, out);
+    let a = raw::write_index(PACKED, stream, out);
     answer(a.refusal, a.record, a.byte, a.length)
 }
 
 pub fn index_matches(stream: &[u8], file: &[u8]) -> Result<(), Refusal> {
-    let a = raw::index_matches(stream, file);
+    let a = raw::index_matches(PACKED, stream, file);
     answer(a.refusal, a.record, a.byte, ())
 }
 
@@ -105,7 +126,7 @@ pub fn write(message: &Message, out: &mut [u8], position: usize) -> Result<usize
         message.pixels,
         message.waveform,
     ];
-    let put = raw::write(message.id, message.header, parts, out, position);
+    let put = raw::write(PACKED, message.id, message.header, parts, out, position);
     match put.refusal {
         0 => Ok(put.position),
         number => Err(number),

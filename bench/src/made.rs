@@ -1,10 +1,17 @@
-//! The streams that are measured: a configuration name, a header text, readouts (and texts or images between them),
-//! and the close.
+//! The streams that are measured: a configuration name, a header text, readouts (and texts, images or waveforms between
+//! them), and the close.
 
 use crate::baseline::headers::Kind;
 use crate::baseline::reader::{Record, Records};
 use crate::baseline::writer::Message;
-use crate::baseline::{IMAGE_HEADER, STATED_LENGTH};
+use crate::baseline::{IMAGE_HEADER, STATED_LENGTH, WAVEFORM_HEADER};
+
+/// What every other readout may make way for, in its size.
+#[derive(Clone, Copy, PartialEq, Eq)]
+pub enum Other {
+    Image,
+    Waveform,
+}
 
 /// What a stream's messages are like.
 #[derive(Clone, Copy)]
@@ -14,8 +21,7 @@ pub struct Shape {
     pub samples: u16,
     /// The length of a text after each readout, if one follows.
     pub text: Option<usize>,
-    /// Whether every other readout makes way for an image of its size.
-    pub images: bool,
+    pub other: Option<Other>,
 }
 
 /// Many small messages: readouts of one channel and a short text after each.
@@ -24,7 +30,7 @@ pub const SMALL: Shape = Shape {
     channels: 1,
     samples: 8,
     text: Some(26),
-    images: false,
+    other: None,
 };
 
 /// As many messages as a stream may have, in some 1,000 MB.
@@ -33,14 +39,21 @@ pub const MEDIUM: Shape = Shape {
     channels: 1,
     samples: 82,
     text: None,
-    images: false,
+    other: None,
 };
 
 /// Every other message an image, and every other of these with a header that says 0 of its attributes, so that the
 /// normal form and the writer have lengths to put there.
 pub const IMAGES: Shape = Shape {
     name: "readouts and images",
-    images: true,
+    other: Some(Other::Image),
+    ..MEDIUM
+};
+
+/// Every other message a waveform, with a packed header.
+pub const WAVEFORMS: Shape = Shape {
+    name: "readouts and waveforms",
+    other: Some(Other::Waveform),
     ..MEDIUM
 };
 
@@ -50,7 +63,7 @@ pub const LARGE: Shape = Shape {
     channels: 32,
     samples: 1_024,
     text: None,
-    images: false,
+    other: None,
 };
 
 impl Shape {
@@ -79,10 +92,10 @@ impl Shape {
         put_name(&mut stream);
         put_text(&mut stream, 3, 600);
         for i in 0..readouts {
-            if self.images && i % 2 == 1 {
-                self.put_image(&mut stream, i);
-            } else {
-                self.put_readout(&mut stream, i, false);
+            match self.other.filter(|_| i % 2 == 1) {
+                None => self.put_readout(&mut stream, i, false),
+                Some(Other::Image) => self.put_image(&mut stream, i),
+                Some(Other::Waveform) => self.put_waveform(&mut stream, i),
             }
             if let (true, Some(length)) = (i < texts, self.text) {
                 put_text(&mut stream, 5, length);
@@ -129,6 +142,20 @@ impl Shape {
         stream.extend((attributes as u64).to_le_bytes());
         stream.resize(stream.len() + attributes, b'a');
         put_filling(stream, self.readout() - 342);
+    }
+
+    /// A waveform of a readout's size, of one channel.
+    fn put_waveform(&self, stream: &mut Vec<u8>, i: usize) {
+        let data = self.readout() - 2 - WAVEFORM_HEADER;
+        let mut header = [0; WAVEFORM_HEADER];
+        let mut put = |at: usize, bytes: &[u8]| header[at..at + bytes.len()].copy_from_slice(bytes);
+        put(0, &1_u16.to_le_bytes());
+        put(14, &(i as u32).to_le_bytes());
+        put(22, &(data as u16 / 4).to_le_bytes());
+        put(24, &1_u16.to_le_bytes());
+        stream.extend(1026_u16.to_le_bytes());
+        stream.extend(header);
+        put_filling(stream, data);
     }
 }
 
@@ -205,6 +232,12 @@ pub fn messages(stream: &[u8]) -> Vec<Message<'_>> {
                 header,
                 trajectory: empty,
                 samples: body,
+                ..Message::default()
+            },
+            Kind::Waveform { .. } => Message {
+                id,
+                header,
+                waveform: body,
                 ..Message::default()
             },
             Kind::Image { .. } => {

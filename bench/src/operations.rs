@@ -3,10 +3,12 @@
 
 use crate::baseline::reader::{self, Met};
 use crate::baseline::{index, normal, questions, writer::Message};
-use crate::library;
+use crate::library::{self, Cursor};
 use crate::made;
 use crate::table::{Row, Unit};
 use crate::timing::{alternately, Compared, Effort, Times};
+use cotterleaf::raw::mrd_step;
+use second_reader::Rules;
 use std::cell::RefCell;
 use std::hint::black_box;
 
@@ -19,7 +21,7 @@ pub struct Measured<'a> {
 }
 
 impl Measured<'_> {
-    fn row(&self, operation: &'static str, unit: Unit, times: Compared) -> Row {
+    pub fn row(&self, operation: &'static str, unit: Unit, times: Compared) -> Row {
         Row {
             operation,
             stream: self.name,
@@ -211,7 +213,7 @@ pub fn taken<T>(answer: T) {
 
 /// The second reader's check, which is written for clarity and keeps a list of the records.
 pub fn second_reader_check(stream: &[u8], effort: Effort) -> Times {
-    let check = &mut || taken(second_reader::check(black_box(stream)));
+    let check = &mut || taken(second_reader::check(Rules::PACKED, black_box(stream)));
     alternately(effort, check, &mut || {}).library
 }
 
@@ -222,10 +224,14 @@ fn counter(stream: &[u8], n: usize, i: usize) -> u16 {
     }
 }
 
+pub fn library_walk(stream: &[u8]) -> (usize, usize) {
+    walked_by(library::next, stream)
+}
+
 /// The count of records, and a sum over what the walk hands out, so that none of it can be left out.
-fn library_walk(stream: &[u8]) -> (usize, usize) {
+pub fn walked_by(next: impl Fn(&[u8], Cursor) -> mrd_step, stream: &[u8]) -> (usize, usize) {
     let mut sum = 0_usize;
-    let count = library::walk(stream, |met| sum = sum.wrapping_add(met.mixed()));
+    let count = library::walk_by(next, stream, |met| sum = sum.wrapping_add(met.mixed()));
     (count.expect("an accepted stream"), sum)
 }
 

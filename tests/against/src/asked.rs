@@ -1,11 +1,12 @@
 //! The questions about a record, each asked of both readers with the same given index or none.
 
 use crate::answers::{self, Answer};
+use crate::case::Case;
 use crate::tally::{Family, Outcome, Tally};
 use cotterleaf::{Index, Part, Stream};
 use second_reader as second;
 use std::fmt::Debug;
-use streams::{GivenColumns, GivenFile};
+use streams::{GivenColumns, GivenFile, OF_OTHER_LAYOUT};
 
 /// What index is given with the questions.
 pub enum GivenIndex {
@@ -21,6 +22,26 @@ impl GivenIndex {
             GivenIndex::File(file) => format!(", given a file: {}", file.what),
             GivenIndex::Columns(columns) => format!(", given columns: {}", columns.what),
         }
+    }
+
+    /// What is noted of an index that was made under the other layout, by whether it was believed.
+    fn of_other_layout(&self, believed: bool) -> Option<&'static str> {
+        let (form, what) = match self {
+            GivenIndex::None => return None,
+            GivenIndex::File(file) => (0, file.what),
+            GivenIndex::Columns(columns) => (1, columns.what),
+        };
+        let noted = [
+            ["file refused with 15", "columns refused with 15"],
+            ["file believed", "columns believed"],
+            [
+                "file believed without waveforms",
+                "columns believed without waveforms",
+            ],
+        ];
+        let i = OF_OTHER_LAYOUT.iter().position(|&other| other == what)?;
+        // The first of the three is another index.
+        (believed == (i > 0)).then_some(noted[i][form])
     }
 
     pub fn library(&self) -> Option<Index<'_>> {
@@ -48,13 +69,13 @@ impl GivenIndex {
 
 /// A stream and the index given with it.
 pub struct Asked<'a> {
-    pub bytes: &'a [u8],
+    pub case: Case<'a>,
     pub given: &'a GivenIndex,
 }
 
 impl<'a> Asked<'a> {
     fn library(&self) -> Stream<'a> {
-        let stream = Stream::new(self.bytes);
+        let stream = self.case.library();
         match self.given.library() {
             None => stream,
             Some(index) => stream.with(index),
@@ -87,23 +108,27 @@ impl<'a> Asked<'a> {
         if let Some(group) = group {
             tally.note(group, family.name());
         }
+        if let Some(what) = believed.and_then(|believed| self.given.of_other_layout(believed)) {
+            tally.note("index made under the other layout", what);
+        }
         Ok(())
     }
 
     pub fn place(&self, tally: &mut Tally, n: u64) -> Outcome {
         let library = self.library().place(n as usize);
         let library = library.map(answers::record).map_err(answers::refused);
-        let second = second::kind_and_place(self.bytes, self.given.second(), n);
+        let second =
+            second::kind_and_place(self.case.rules, self.case.bytes, self.given.second(), n);
         let question = || format!("place of record {n}");
         self.same(tally, Family::Place, question, library, second)
     }
 
     /// The view's place as it is given, and as the view's own address shows it.
     pub fn view(&self, tally: &mut Tally, n: u64, part: Part) -> Outcome {
-        let second = second_view(self.bytes, self.given.second(), n, part);
+        let second = second_view(self.case, self.given.second(), n, part);
         let shown = second.is_ok();
         let view = self.library().view(n as usize, part);
-        let by_address = view.map(|view| answers::part_by_address(self.bytes, view));
+        let by_address = view.map(|view| answers::part_by_address(self.case.bytes, view));
         let by_address = by_address.map_err(answers::refused);
         let place = self.library().view_place(n as usize, part);
         let place = place.map(answers::part).map_err(answers::refused);
@@ -119,7 +144,13 @@ impl<'a> Asked<'a> {
     pub fn field(&self, tally: &mut Tally, n: u64, offset: u64) -> Outcome {
         let library = self.library().field(n as usize, offset as usize);
         let library = library.map(answers::field).map_err(answers::refused);
-        let second = second::field(self.bytes, self.given.second(), n, offset);
+        let second = second::field(
+            self.case.rules,
+            self.case.bytes,
+            self.given.second(),
+            n,
+            offset,
+        );
         let question = || format!("field at {offset} of record {n}");
         self.same(tally, Family::Field, question, library, second)?;
         match second {
@@ -136,7 +167,13 @@ impl<'a> Asked<'a> {
 
     pub fn find(&self, tally: &mut Tally, n: u64, counters: &[u16; 17]) -> Outcome {
         let library = answers::number(self.library().find(n as usize, counters));
-        let second = second::find(self.bytes, self.given.second(), n, counters);
+        let second = second::find(
+            self.case.rules,
+            self.case.bytes,
+            self.given.second(),
+            n,
+            counters,
+        );
         let question = || format!("find {counters:?} from record {n} on");
         self.same(tally, Family::Find, question, library, second)
     }
@@ -148,9 +185,9 @@ impl<'a> Asked<'a> {
             Some(index @ Index::File(_)) => (Family::FileMatches, index),
             Some(index @ Index::Columns { .. }) => (Family::ColumnsMatch, index),
         };
-        let library = Stream::new(self.bytes).matches(index);
+        let library = self.case.library().matches(index);
         let library = library.map_err(answers::refused);
-        let second = match second::agrees(self.bytes, self.given.second()) {
+        let second = match second::agrees(self.case.rules, self.case.bytes, self.given.second()) {
             Ok(true) => Ok(()),
             Ok(false) => Err(second::Refused::Other(15)),
             Err(refusal) => Err(refusal.into()),
@@ -162,19 +199,19 @@ impl<'a> Asked<'a> {
 
 /// The second reader's view of a part.
 pub fn second_view(
-    bytes: &[u8],
+    Case { rules, bytes }: Case,
     given: second::GivenIndex,
     n: u64,
     part: Part,
 ) -> Answer<second::Part> {
     match part {
-        Part::Name => second::name(bytes, given, n),
-        Part::Text => second::text(bytes, given, n),
-        Part::Attributes => second::attributes(bytes, given, n),
-        Part::Trajectory => second::trajectory(bytes, given, n),
-        Part::Channel(channel) => second::channel(bytes, given, n, channel as u64),
-        Part::Pixels => second::pixels(bytes, given, n),
-        Part::Waveform => second::waveform(bytes, given, n),
+        Part::Name => second::name(rules, bytes, given, n),
+        Part::Text => second::text(rules, bytes, given, n),
+        Part::Attributes => second::attributes(rules, bytes, given, n),
+        Part::Trajectory => second::trajectory(rules, bytes, given, n),
+        Part::Channel(channel) => second::channel(rules, bytes, given, n, channel as u64),
+        Part::Pixels => second::pixels(rules, bytes, given, n),
+        Part::Waveform => second::waveform(rules, bytes, given, n),
     }
 }
 

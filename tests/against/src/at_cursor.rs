@@ -3,6 +3,7 @@
 
 use crate::answers;
 use crate::asked::{name_of, second_view, GivenIndex};
+use crate::case::{library_rules, Case};
 use crate::tally::{Family, Outcome, Tally};
 use crate::walk::Read;
 use cotterleaf::{Cursor, Part, Refusal, Step, Stream};
@@ -24,50 +25,50 @@ fn cursor_before(stream: &Stream, n: u64) -> Cursor {
 /// stream the answer at the fault alone is compared: the second reader gives no views of the records before it.
 pub fn asked_at(
     tally: &mut Tally,
-    bytes: &[u8],
+    case: Case,
     read: &Read,
     (n, part): (u64, Part),
     (m, offset): (u64, u64),
 ) -> Outcome {
-    let stream = Stream::new(bytes);
+    let stream = case.library();
     if let Err(refusal) = read.answer {
         let cursor = cursor_before(&stream, read.count());
-        view_at(tally, bytes, Ok(cursor), part, Err(refusal.into()))?;
-        return field_at(tally, bytes, Ok(cursor), offset, Err(refusal.into()));
+        view_at(tally, case, Ok(cursor), part, Err(refusal.into()))?;
+        return field_at(tally, case, Ok(cursor), offset, Err(refusal.into()));
     }
-    let (starts, ids) = columns(bytes, read);
+    let (starts, ids) = columns(case, read);
     let walked = |n| Ok(cursor_before(&stream, n));
-    let indexed = |n| Cursor::for_record(&starts, &ids, n as usize);
+    let indexed = |n| Cursor::for_record(library_rules(case.rules), &starts, &ids, n as usize);
     let none = GivenIndex::None;
-    let by_number = second_view(bytes, none.second(), n, part);
-    view_at(tally, bytes, walked(n), part, by_number)?;
-    view_at(tally, bytes, indexed(n), part, by_number)?;
-    let by_number = second::field(bytes, none.second(), m, offset);
-    field_at(tally, bytes, walked(m), offset, by_number)?;
-    field_at(tally, bytes, indexed(m), offset, by_number)
+    let by_number = second_view(case, none.second(), n, part);
+    view_at(tally, case, walked(n), part, by_number)?;
+    view_at(tally, case, indexed(n), part, by_number)?;
+    let by_number = second::field(case.rules, case.bytes, none.second(), m, offset);
+    field_at(tally, case, walked(m), offset, by_number)?;
+    field_at(tally, case, indexed(m), offset, by_number)
 }
 
 /// Starts and ids of an accepted stream, as the second reader has them.
-fn columns(bytes: &[u8], read: &Read) -> (Vec<u64>, Vec<u16>) {
+fn columns(Case { rules, bytes }: Case, read: &Read) -> (Vec<u64>, Vec<u16>) {
     let count = read.records.len();
     let (mut starts, mut ids) = (vec![0; count], vec![0; count]);
-    let filled = second::fill_columns(bytes, &mut starts, &mut ids, &mut vec![0; count]);
+    let filled = second::fill_columns(rules, bytes, &mut starts, &mut ids, &mut vec![0; count]);
     assert_eq!(filled, Ok(count as u64));
     (starts, ids)
 }
 
 fn view_at(
     tally: &mut Tally,
-    bytes: &[u8],
+    case: Case,
     cursor: Result<Cursor, Refusal>,
     part: Part,
     expected: answers::Answer<second::Part>,
 ) -> Outcome {
-    let stream = Stream::new(bytes);
+    let stream = case.library();
     let place = cursor.and_then(|cursor| stream.view_place_at(cursor, part));
     let place = place.map(answers::part);
     let view = cursor.and_then(|cursor| stream.view_at(cursor, part));
-    let by_address = view.map(|view| answers::part_by_address(bytes, view));
+    let by_address = view.map(|view| answers::part_by_address(case.bytes, view));
     let question = || format!("{part:?} at {cursor:?}");
     if expected.is_ok() {
         tally.note("view where a walk stands", name_of(part));
@@ -80,12 +81,12 @@ fn view_at(
 
 fn field_at(
     tally: &mut Tally,
-    bytes: &[u8],
+    case: Case,
     cursor: Result<Cursor, Refusal>,
     offset: u64,
     expected: answers::Answer<second::Field>,
 ) -> Outcome {
-    let stream = Stream::new(bytes);
+    let stream = case.library();
     let field = cursor.and_then(|cursor| stream.field_at(cursor, offset as usize));
     let field = field.map(answers::field);
     let question = || format!("field {offset} at {cursor:?}");

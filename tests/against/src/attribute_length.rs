@@ -1,8 +1,9 @@
 //! What an image header says of its attributes: their length or 0, and both mean the same (document 02, E1).
 
 use crate::answers;
+use crate::case::Case;
 use crate::tally::{Outcome, Tally};
-use cotterleaf::{Cursor, Field, Stream};
+use cotterleaf::{Cursor, Field};
 use second_reader::message::header_detail;
 use second_reader::{Detail, Kind, Record, Refusal, Refused};
 use streams::{stated, Rng};
@@ -29,8 +30,8 @@ pub fn note(tally: &mut Tally, bytes: &[u8], record: &Record) {
 }
 
 /// Notes a stream that is refused at an image whose attribute length no header can say.
-pub fn note_refused(tally: &mut Tally, bytes: &[u8], refusal: Refusal) {
-    let faulty = &bytes[refusal.byte as usize..];
+pub fn note_refused(tally: &mut Tally, case: Case, refusal: Refusal) {
+    let faulty = &case.bytes[refusal.byte as usize..];
     if !matches!(refusal.number, 9 | 10) || faulty[..2] != Kind::Image.id().to_le_bytes() {
         return;
     }
@@ -39,7 +40,10 @@ pub fn note_refused(tally: &mut Tally, bytes: &[u8], refusal: Refusal) {
     if length == low_word {
         return;
     }
-    let past_64_bits = || header_detail(Kind::Image, &faulty[2..], length).size() >> 64 != 0;
+    let past_64_bits = || {
+        let detail = header_detail(case.rules, Kind::Image, &faulty[2..], length);
+        detail.size(case.rules) >> 64 != 0
+    };
     let what = match refusal.number {
         10 if past_64_bits() => "10 with a size past 64 bits",
         10 if low_word == 0 => "10 with 0 as low word",
@@ -52,38 +56,34 @@ pub fn note_refused(tally: &mut Tally, bytes: &[u8], refusal: Refusal) {
 
 /// The stream beside one in which every image header says 0 in place of the length, and the length in place of 0: the
 /// places and the normal form are the same, a field question shows what is stored, and any other number is 9.
-pub fn either_number(
-    tally: &mut Tally,
-    rng: &mut Rng,
-    bytes: &[u8],
-    records: &[Record],
-) -> Outcome {
+pub fn either_number(tally: &mut Tally, rng: &mut Rng, case: Case, records: &[Record]) -> Outcome {
     let images = stated::images(records);
     if images.is_empty() {
         return Ok(());
     }
-    let mut other = bytes.to_vec();
+    let mut other = case.bytes.to_vec();
     for (image, length) in &images {
-        let number = match stated::of(bytes, image) {
+        let number = match stated::of(case.bytes, image) {
             0 => *length,
             _ => 0,
         };
         stated::set(&mut other, image, number);
     }
-    one_normal_form(tally, bytes, &other, &images)?;
+    one_normal_form(tally, case, &other, &images)?;
     let drawn = rng.pick(&images);
-    shown_as_stored(tally, bytes, &drawn.0)?;
-    shown_as_stored(tally, &other, &drawn.0)?;
-    another_number(tally, rng, other, drawn)
+    shown_as_stored(tally, case, &drawn.0)?;
+    shown_as_stored(tally, case.with(&other), &drawn.0)?;
+    another_number(tally, rng, case.with(&other), drawn)
 }
 
 /// Both streams have one normal form, in which each header says the true length.
-fn one_normal_form(tally: &mut Tally, bytes: &[u8], other: &[u8], images: &[Image]) -> Outcome {
+fn one_normal_form(tally: &mut Tally, case: Case, other: &[u8], images: &[Image]) -> Outcome {
+    let bytes = case.bytes;
     let question = || "normal form with other numbers in image headers".to_string();
     let mut normal = vec![0xEE; bytes.len()];
     let mut others = vec![0xDD; bytes.len()];
     for (stream, out) in [(bytes, &mut normal), (other, &mut others)] {
-        let answer = Stream::new(stream).normal_form(out);
+        let answer = case.with(stream).library().normal_form(out);
         tally.same_value(question, answer, Ok(bytes.len()))?;
     }
     tally.same_buffer(question, &normal, &others)?;
@@ -102,10 +102,10 @@ fn one_normal_form(tally: &mut Tally, bytes: &[u8], other: &[u8], images: &[Imag
 
 /// The field is the stored number, by the image's number and at its cursor; its place and kind are those of the true
 /// length.
-fn shown_as_stored(tally: &Tally, bytes: &[u8], image: &Record) -> Outcome {
-    let stream = Stream::new(bytes);
+fn shown_as_stored(tally: &Tally, case: Case, image: &Record) -> Outcome {
+    let stream = case.library();
     let n = image.number as usize;
-    let stored = Ok(Field::Whole(stated::of(bytes, image)));
+    let stored = Ok(Field::Whole(stated::of(case.bytes, image)));
     let question = |what: &str| format!("{what} of an image header that says {stored:?}");
     tally.same_value(|| question("field"), stream.field(n, OFFSET), stored)?;
     let cursor = Cursor {
@@ -121,12 +121,8 @@ fn shown_as_stored(tally: &Tally, bytes: &[u8], image: &Record) -> Outcome {
 }
 
 /// A number that is neither the length nor 0 is refused, at that image.
-fn another_number(
-    tally: &Tally,
-    rng: &mut Rng,
-    mut bytes: Vec<u8>,
-    (image, length): Image,
-) -> Outcome {
+fn another_number(tally: &Tally, rng: &mut Rng, case: Case, (image, length): Image) -> Outcome {
+    let mut bytes = case.bytes.to_vec();
     let number = stated::wrong(rng, length);
     stated::set(&mut bytes, &image, number);
     let refused = Err(Refused::Stream(Refusal {
@@ -134,7 +130,7 @@ fn another_number(
         record: image.number,
         byte: image.start,
     }));
-    let checked = answers::number(Stream::new(&bytes).check());
+    let checked = answers::number(case.with(&bytes).library().check());
     let question = || format!("check with {number} in the header of {image:?}");
     tally.same_value(question, checked, refused)
 }

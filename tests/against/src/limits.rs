@@ -1,13 +1,14 @@
-//! The lines of document 01 that are not marked P, both sides of check 9 as document 02 has it, and the limits of
-//! 1,000,000 messages: on both readers, with the paper's answer.
+//! The lines of document 01 that are not marked P, both sides of check 9 and of a waveform's checks as document 02 has
+//! them, and the limits of 1,000,000 messages: on both readers, under both layouts, with the paper's answer.
 
 use crate::answers;
+use crate::case::{library_rules, Case};
 use crate::stream;
 use crate::tally::{Difference, Outcome, Tally};
-use cotterleaf::{Message, Stream};
+use cotterleaf::Message;
 use second_reader::message::STATED_LENGTH;
-use second_reader::{self as second, Refusal, Refused};
-use streams::{huge_images, messages, too_many, Rng};
+use second_reader::{self as second, Kind, Refusal, Refused, Rules};
+use streams::{around_the_limit, huge_images, messages, too_many, Rng};
 
 /// The longest text that passes check 10.
 const LONGEST_TEXT: usize = 268_435_450;
@@ -20,11 +21,20 @@ fn refused(number: u32, record: u64, byte: u64) -> Result<u64, Refusal> {
     })
 }
 
-/// Both readers' check gives the paper's answer.
-fn paper(tally: &Tally, line: &str, bytes: &[u8], answer: Result<u64, Refusal>) -> Outcome {
+/// Both readers' check gives the paper's answer, under both layouts.
+fn paper(tally: &mut Tally, line: &str, bytes: &[u8], answer: Result<u64, Refusal>) -> Outcome {
+    for rules in Rules::ALL {
+        paper_under(tally, line, Case { rules, bytes }, answer)?;
+    }
+    Ok(())
+}
+
+/// The same under one layout.
+fn paper_under(tally: &mut Tally, line: &str, case: Case, answer: Result<u64, Refusal>) -> Outcome {
+    tally.rules = case.rules;
     let answer = answer.map_err(Refused::from);
-    let second = second::check(bytes).map_err(Refused::from);
-    let library = answers::number(Stream::new(bytes).check());
+    let second = second::check(case.rules, case.bytes).map_err(Refused::from);
+    let library = answers::number(case.library().check());
     let question = || format!("{line}, where the paper says {answer:?}");
     let agreed = tally.same_value(question, library, second);
     agreed.and_then(|()| tally.same_value(question, library, answer))
@@ -38,22 +48,40 @@ fn set_text(bytes: &mut [u8], length: usize) -> &[u8] {
     &bytes[..8 + length]
 }
 
-/// Both writers refuse the message with this number, into an output without room: 14 says that check 10 is passed.
-fn write_refused(tally: &Tally, line: &str, message: &Message, number: u32) -> Outcome {
-    let library = message.write(&mut [], 0).map_err(|refusal| refusal.number);
+/// Both writers refuse the message with this number, into an output without room, under both layouts: 14 says that
+/// check 10 is passed.
+fn write_refused(tally: &mut Tally, line: &str, message: &Message, number: u32) -> Outcome {
+    for rules in Rules::ALL {
+        write_refused_under(tally, rules, line, message, number)?;
+    }
+    Ok(())
+}
+
+/// The same under one layout.
+fn write_refused_under(
+    tally: &mut Tally,
+    rules: Rules,
+    line: &str,
+    message: &Message,
+    number: u32,
+) -> Outcome {
+    tally.rules = rules;
+    let library = message.write(library_rules(rules), &mut [], 0);
+    let library = library.map_err(|refusal| refusal.number);
     let library = library.map(|end| end as u64);
     let parts = second::Parts {
         text: message.text,
         attributes: message.attributes,
+        waveform: message.waveform,
         ..second::Parts::default()
     };
-    let second = second::write(message.id, message.header, &parts, &mut [], 0);
+    let second = second::write(rules, message.id, message.header, &parts, &mut [], 0);
     let question = || format!("{line} written, where the paper says {number}");
     tally.same_value(question, library, second)?;
     tally.same_value(question, library, Err(number))
 }
 
-fn longest_text(tally: &Tally) -> Outcome {
+fn longest_text(tally: &mut Tally) -> Outcome {
     let mut bytes = vec![0; LONGEST_TEXT + 1 + 8];
     let passes = set_text(&mut bytes, LONGEST_TEXT);
     paper(tally, "text of 268,435,450 bytes", passes, Ok(2))?;
@@ -70,8 +98,8 @@ fn longest_text(tally: &Tally) -> Outcome {
     paper(tally, "one more byte of text", one_more, refused(10, 0, 0))
 }
 
-fn largest_image(tally: &Tally, rng: &mut Rng) -> Outcome {
-    let mut image = messages::image(rng, 40);
+fn largest_image(tally: &mut Tally, rng: &mut Rng) -> Outcome {
+    let mut image = messages::image(Rules::PACKED, rng, 40);
     image.set("data_type", 0, 8);
     for i in 0..3 {
         image.set("matrix_size", i, 65_535);
@@ -84,7 +112,7 @@ fn largest_image(tally: &Tally, rng: &mut Rng) -> Outcome {
 
 /// An image header of no pixels that says this number of its attributes.
 fn header_saying(stated: u64) -> Vec<u8> {
-    let mut image = streams::Message::empty(1022);
+    let mut image = streams::Message::empty(Rules::PACKED, 1022);
     image.header = vec![0; 198];
     image.set("version", 0, 1);
     image.set("data_type", 0, 1);
@@ -117,7 +145,7 @@ const LENGTHS: [(u64, u64, u32); 18] = [
 ];
 
 /// Both sides of check 9.
-fn attribute_lengths(tally: &Tally) -> Outcome {
+fn attribute_lengths(tally: &mut Tally) -> Outcome {
     for (stated, length, number) in LENGTHS {
         let front = [&[3, 0, 0, 0, 0, 0, 0xFE, 3], &header_saying(stated)[..]].concat();
         // Of the longer attributes none are there.
@@ -134,7 +162,7 @@ fn attribute_lengths(tally: &Tally) -> Outcome {
 }
 
 /// The writer goes by the given attributes alone: never 9, and 10 also where their length has a small low word.
-fn longest_attributes(tally: &Tally) -> Outcome {
+fn longest_attributes(tally: &mut Tally) -> Outcome {
     // No reader looks into them, so that their pages are never touched.
     let attributes = vec![0; (1 << 32) + 5];
     let lengths: [(usize, u32); 4] = [
@@ -158,13 +186,81 @@ fn longest_attributes(tally: &Tally) -> Outcome {
     Ok(())
 }
 
+/// A waveform header of version 1 with this many samples and channels and filler that is not zero.
+fn waveform_header(rules: Rules, (samples, channels): (u64, u64)) -> Vec<u8> {
+    let mut waveform = streams::Message::empty(rules, Kind::Waveform.id());
+    waveform.header = vec![0xEE; Kind::Waveform.header_size(rules)];
+    waveform.set("version", 0, 1);
+    waveform.set("number_of_samples", 0, samples);
+    waveform.set("channels", 0, channels);
+    waveform.header
+}
+
+/// What is written in a stream before a waveform's header: a header text of no bytes, and the id.
+const WAVEFORM_FRONT: [u8; 8] = [3, 0, 0, 0, 0, 0, 2, 4];
+
+/// Both sides of check 3 of a waveform, which goes by 32 bytes or by 40, and a whole one without data.
+fn shortest_waveforms(tally: &mut Tally) -> Outcome {
+    for rules in Rules::ALL {
+        let header = waveform_header(rules, (0, 9));
+        let stream = [&WAVEFORM_FRONT, &header[..], &[4, 0]].concat();
+        let size = 8 + header.len();
+        for length in 8..size {
+            let line = format!("{} bytes of a waveform header", length - 8);
+            let bytes = &stream[..length];
+            paper_under(tally, &line, Case { rules, bytes }, refused(3, 1, 6))?;
+        }
+        let (whole, bytes) = ("a whole waveform header", &stream[..size]);
+        let unclosed = refused(13, 2, size as u64);
+        paper_under(tally, whole, Case { rules, bytes }, unclosed)?;
+        let (closed, bytes) = ("a whole waveform header and a close", &stream[..]);
+        paper_under(tally, closed, Case { rules, bytes }, Ok(3))?;
+    }
+    Ok(())
+}
+
+/// Both sides of check 10 of a waveform: an aligned header leaves room for two numbers less.
+fn largest_waveforms(tally: &mut Tally) -> Outcome {
+    // Its pages are touched at the front and at the end alone.
+    let mut bytes = vec![0; 268_435_456 + 64];
+    for rules in Rules::ALL {
+        let (within, over) = around_the_limit(rules);
+        let sides = within.map(|sizes| (sizes, true)).into_iter();
+        for (sizes, fits) in sides.chain(over.map(|sizes| (sizes, false))) {
+            let header = waveform_header(rules, sizes);
+            let data = 8 + header.len();
+            let length = 4 * sizes.0 as usize * sizes.1 as usize;
+            bytes[..8].copy_from_slice(&WAVEFORM_FRONT);
+            bytes[8..data].copy_from_slice(&header);
+            bytes[data + length..][..2].copy_from_slice(&[4, 0]);
+            let line = format!("waveform of {sizes:?} samples and channels");
+            let case = Case {
+                rules,
+                bytes: &bytes[..data + length + 2],
+            };
+            let answer = if fits { Ok(3) } else { refused(10, 1, 6) };
+            paper_under(tally, &line, case, answer)?;
+            let message = Message {
+                id: Kind::Waveform.id(),
+                header: &header,
+                waveform: &bytes[data..][..length],
+                ..Message::default()
+            };
+            let number = if fits { 14 } else { 10 };
+            write_refused_under(tally, rules, &line, &message, number)?;
+            bytes[data + length..][..2].fill(0);
+        }
+    }
+    Ok(())
+}
+
 /// The checks of 1,000,000 messages, and every family of calls on both sides of the limit.
 fn most_messages(tally: &mut Tally, rng: &mut Rng) -> Outcome {
     let text = [5, 0, 0, 0, 0, 0];
     let mut most = text.repeat(999_999);
     most.extend([4, 0]);
     paper(tally, "1,000,000 messages", &most, Ok(1_000_000))?;
-    stream::ask(tally, rng, &most)?;
+    ask_under(tally, rng, Rules::PACKED, &most)?;
     most.push(0);
     let after_close = refused(12, 1_000_000, 5_999_996);
     paper(tally, "a byte after 1,000,000 messages", &most, after_close)?;
@@ -173,12 +269,18 @@ fn most_messages(tally: &mut Tally, rng: &mut Rng) -> Outcome {
     paper(tally, "one text more", &too_many(false), over)?;
     let mut bytes = too_many(true);
     paper(tally, "one close more", &bytes, over)?;
-    stream::ask(tally, rng, &bytes)?;
+    for rules in Rules::ALL {
+        ask_under(tally, rng, rules, &bytes)?;
+    }
     bytes.truncate(6_000_001);
     paper(tally, "one byte more", &bytes, over)?;
     bytes.truncate(6_000_000);
     let unclosed = refused(13, 1_000_000, 6_000_000);
     paper(tally, "1,000,000 texts", &bytes, unclosed)
+}
+
+fn ask_under(tally: &mut Tally, rng: &mut Rng, rules: Rules, bytes: &[u8]) -> Outcome {
+    stream::ask(tally, rng, Case { rules, bytes })
 }
 
 /// All of them; a difference is shown with its line of the paper.
@@ -188,9 +290,14 @@ pub fn limits(tally: &mut Tally, rng: &mut Rng) -> Result<(), (Vec<u8>, Differen
     largest_image(tally, rng).map_err(without_bytes)?;
     attribute_lengths(tally).map_err(without_bytes)?;
     longest_attributes(tally).map_err(without_bytes)?;
+    shortest_waveforms(tally).map_err(without_bytes)?;
+    largest_waveforms(tally).map_err(without_bytes)?;
     most_messages(tally, rng).map_err(without_bytes)?;
-    for bytes in huge_images(rng, 40_000) {
-        stream::ask(tally, rng, &bytes).map_err(|difference| (bytes, difference))?;
+    for rules in Rules::ALL {
+        for bytes in huge_images(rules, rng, 40_000) {
+            let asked = ask_under(tally, rng, rules, &bytes);
+            asked.map_err(|difference| (bytes, difference))?;
+        }
     }
     Ok(())
 }

@@ -1,15 +1,18 @@
 //! Asks the library, through its Rust wrapper, and the second reader the same questions about many drawn streams
-//! and compares every answer and every output byte.
+//! and compares every answer and every output byte. Each stream is asked about under the layout of waveform headers
+//! that it was made for, and many also under the other one.
 //!
 //!     against [count of streams] [seed] [first stream]
 //!
 //! A first stream other than 0 runs these streams alone, to look at a difference again: neither the limits are
 //! tried then, nor must everything be met.
 
+mod aligned;
 mod answers;
 mod asked;
 mod at_cursor;
 mod attribute_length;
+mod case;
 mod limits;
 mod plain;
 mod scalars;
@@ -19,10 +22,12 @@ mod walk;
 mod writer;
 mod written;
 
+use case::Case;
+use second_reader::Rules;
 use std::process::ExitCode;
 use std::time::Instant;
 use streams::program::{number_argument, shown};
-use streams::Rng;
+use streams::{Rng, FOR_BOTH_LAYOUTS};
 use tally::{Difference, Outcome, Tally};
 
 /// The numbers of one stream follow from the seed and its own number alone, so that it can be drawn again.
@@ -31,20 +36,35 @@ fn rng_of(seed: u64, number: u64) -> Rng {
     Rng::new(mixed ^ Rng::new(number).number())
 }
 
+/// A drawn stream, what it is, and the rules that it was made for.
+struct Drawn {
+    rules: Rules,
+    what: String,
+    bytes: Vec<u8>,
+}
+
 /// Most streams are short, so that many are tried; a long one comes now and then.
-fn drawn(rng: &mut Rng, number: u64) -> (String, Vec<u8>) {
+fn drawn(rng: &mut Rng, number: u64) -> Drawn {
     let limit = match rng.below(200) {
         0 | 1 => 65_536,
         2..=29 => 8_000,
         30..=69 => 200,
         _ => 2_000,
     };
-    streams::drawn(rng, number, limit)
+    let rules = rng.pick(&Rules::ALL);
+    let (what, bytes) = streams::drawn(rules, rng, number, limit);
+    Drawn { rules, what, bytes }
 }
 
-fn ask_all(tally: &mut Tally, rng: &mut Rng, number: u64, bytes: &[u8]) -> Outcome {
-    stream::ask(tally, rng, bytes)?;
-    writer::message_written(tally, rng, number)?;
+fn ask_all(tally: &mut Tally, rng: &mut Rng, number: u64, drawn: &Drawn) -> Outcome {
+    let Drawn { rules, what, bytes } = drawn;
+    let case = |rules| Case { rules, bytes };
+    stream::ask(tally, rng, case(*rules))?;
+    if what == FOR_BOTH_LAYOUTS || rng.one_in(4) {
+        stream::ask(tally, rng, case(rules.with_other_layout()))?;
+        aligned::note_both(tally, *rules, bytes);
+    }
+    writer::message_written(tally, rng, *rules, number)?;
     scalars::flags_and_counters(tally, rng)?;
     tally.streams += 1;
     Ok(())
@@ -53,8 +73,7 @@ fn ask_all(tally: &mut Tally, rng: &mut Rng, number: u64, bytes: &[u8]) -> Outco
 /// A stream about which the two readers differ.
 struct Found {
     number: u64,
-    what: String,
-    bytes: Vec<u8>,
+    drawn: Drawn,
     difference: Difference,
 }
 
@@ -63,12 +82,11 @@ fn ask_about(seed: u64, numbers: impl Iterator<Item = u64>) -> Result<Tally, Fou
     let mut tally = Tally::default();
     for number in numbers {
         let mut rng = rng_of(seed, number);
-        let (what, bytes) = drawn(&mut rng, number);
-        if let Err(difference) = ask_all(&mut tally, &mut rng, number, &bytes) {
+        let drawn = drawn(&mut rng, number);
+        if let Err(difference) = ask_all(&mut tally, &mut rng, number, &drawn) {
             return Err(Found {
                 number,
-                what,
-                bytes,
+                drawn,
                 difference,
             });
         }
@@ -126,8 +144,10 @@ fn main() -> ExitCode {
     match ask_about_all(seed, first, count) {
         Ok(met) => tally.add(met),
         Err(found) => {
-            let where_ = format!("seed {seed}, stream {} ({})", found.number, found.what);
-            report(&where_, &found.bytes, &found.difference);
+            let Drawn { rules, what, bytes } = &found.drawn;
+            let made_for = format!("{:?}, {what}", rules.layout);
+            let where_ = format!("seed {seed}, stream {} ({made_for})", found.number);
+            report(&where_, bytes, &found.difference);
             return ExitCode::FAILURE;
         }
     }

@@ -1,6 +1,7 @@
 //! The plain structs of the C functions, member by member: what an answer lacks is 0, and numbers that the wrapper
 //! cannot ask with, such as parts that no record has.
 
+use crate::case::{raw_rules, Case};
 use crate::tally::{Outcome, Tally};
 use cotterleaf::raw;
 use second_reader::{self as second, Detail, Field, GivenIndex, Kind, Mask, Refused};
@@ -105,27 +106,23 @@ fn field_answer(answer: Result<Field, Refused>) -> raw::mrd_field_answer {
 }
 
 /// The questions without an index, all members compared.
-pub fn questions(tally: &Tally, rng: &mut Rng, bytes: &[u8], n: u64, offset: u64) -> Outcome {
-    let place = second::kind_and_place(bytes, GivenIndex::NONE, n);
+pub fn questions(tally: &Tally, rng: &mut Rng, case: Case, n: u64, offset: u64) -> Outcome {
+    let Case { rules, bytes } = case;
+    let given = raw_rules(rules);
+    let place = second::kind_and_place(rules, bytes, GivenIndex::NONE, n);
     let question = || format!("mrd_place of record {n}");
-    tally.same_value(question, raw::place(bytes, n as usize), placed(place))?;
+    tally.same_value(
+        question,
+        raw::place(given, bytes, n as usize),
+        placed(place),
+    )?;
 
-    let field = second::field(bytes, GivenIndex::NONE, n, offset);
+    let field = second::field(rules, bytes, GivenIndex::NONE, n, offset);
     let question = || format!("mrd_field at {offset} of record {n}");
-    let library = raw::field(bytes, n as usize, offset as usize);
+    let library = raw::field(given, bytes, n as usize, offset as usize);
     tally.same_value(question, library, field_answer(field))?;
 
-    let (refusal, record, byte) = refusal_of(&second::check(bytes).map_err(Refused::from));
-    let checked = raw::mrd_checked {
-        refusal,
-        record,
-        byte,
-        count: second::check(bytes).unwrap_or(0) as usize,
-    };
-    let question = || "mrd_check".to_string();
-    tally.same_value(question, raw::check(bytes), checked)?;
-
-    let found = second::find(bytes, GivenIndex::NONE, n, &[0; 17]);
+    let found = second::find(rules, bytes, GivenIndex::NONE, n, &[0; 17]);
     let (refusal, record, byte) = refusal_of(&found);
     let found = raw::mrd_found {
         refusal,
@@ -134,15 +131,35 @@ pub fn questions(tally: &Tally, rng: &mut Rng, bytes: &[u8], n: u64, offset: u64
         number: found.unwrap_or(0) as usize,
     };
     let question = || format!("mrd_find of zeros from {n} on");
-    tally.same_value(question, raw::find(bytes, n as usize, &[0; 17]), found)?;
-    unknown_part(tally, rng, bytes, n)
+    tally.same_value(
+        question,
+        raw::find(given, bytes, n as usize, &[0; 17]),
+        found,
+    )?;
+    checked(tally, case)?;
+    unknown_part(tally, rng, case, n)
+}
+
+/// The check's answer.
+fn checked(tally: &Tally, Case { rules, bytes }: Case) -> Outcome {
+    let (refusal, record, byte) = refusal_of(&second::check(rules, bytes).map_err(Refused::from));
+    let checked = raw::mrd_checked {
+        refusal,
+        record,
+        byte,
+        count: second::check(rules, bytes).unwrap_or(0) as usize,
+    };
+    let question = || "mrd_check".to_string();
+    tally.same_value(question, raw::check(raw_rules(rules), bytes), checked)
 }
 
 /// A part that no record has: the stream's refusal, then 16, then 17, at the stream's front.
-fn unknown_part(tally: &Tally, rng: &mut Rng, bytes: &[u8], n: u64) -> Outcome {
+fn unknown_part(tally: &Tally, rng: &mut Rng, case: Case, n: u64) -> Outcome {
+    let Case { rules, bytes } = case;
+    let given = raw_rules(rules);
     let part = rng.pick(&[0, 8, 9, 256 + 5, u32::MAX]);
     let channel = rng.below(3) as usize;
-    let refused = match second::kind_and_place(bytes, GivenIndex::NONE, n) {
+    let refused = match second::kind_and_place(rules, bytes, GivenIndex::NONE, n) {
         Ok(_) => Refused::Other(17),
         Err(refused) => refused,
     };
@@ -155,10 +172,10 @@ fn unknown_part(tally: &Tally, rng: &mut Rng, bytes: &[u8], n: u64) -> Outcome {
         length: 0,
     };
     let question = || format!("mrd_view of part {part} of record {n}");
-    let library = raw::view(bytes, n as usize, part, channel);
+    let library = raw::view(given, bytes, n as usize, part, channel);
     tally.same_value(question, library, expected)?;
     // A channel number with a part that is no channel is not looked at.
-    let text = second::text(bytes, GivenIndex::NONE, n);
+    let text = second::text(rules, bytes, GivenIndex::NONE, n);
     let (refusal, record, byte) = refusal_of(&text);
     let (_, start, length) = second::place_of_view(&text);
     let expected = raw::mrd_view_place {
@@ -169,11 +186,16 @@ fn unknown_part(tally: &Tally, rng: &mut Rng, bytes: &[u8], n: u64) -> Outcome {
         length: length as usize,
     };
     let question = || format!("mrd_view of the text of record {n}, channel {channel}");
-    tally.same_value(question, raw::view(bytes, n as usize, 2, channel), expected)
+    tally.same_value(
+        question,
+        raw::view(given, bytes, n as usize, 2, channel),
+        expected,
+    )
 }
 
 /// Every member of the steps from the beginning on: what a step that ends or goes on lacks is 0.
-pub fn steps(tally: &Tally, bytes: &[u8], read: &crate::walk::Read) -> Outcome {
+pub fn steps(tally: &Tally, case: Case, read: &crate::walk::Read) -> Outcome {
+    let (given, bytes) = (raw_rules(case.rules), case.bytes);
     let mut cursor = raw::beginning();
     for (i, record) in read.records.iter().enumerate() {
         let phase = match record.detail.kind() {
@@ -193,7 +215,7 @@ pub fn steps(tally: &Tally, bytes: &[u8], read: &crate::walk::Read) -> Outcome {
             ..raw::mrd_step::default()
         };
         let question = || format!("mrd_next at {cursor:?}");
-        tally.same_value(question, raw::next(bytes, cursor), expected)?;
+        tally.same_value(question, raw::next(given, bytes, cursor), expected)?;
         cursor = next;
     }
     let (refusal, record, byte) = refusal_of(&read.answer.map_err(Refused::from));
@@ -208,13 +230,15 @@ pub fn steps(tally: &Tally, bytes: &[u8], read: &crate::walk::Read) -> Outcome {
         ..raw::mrd_step::default()
     };
     let question = || format!("mrd_next at {cursor:?}");
-    tally.same_value(question, raw::next(bytes, cursor), expected)
+    tally.same_value(question, raw::next(given, bytes, cursor), expected)
 }
 
 /// Outputs without any room: every writing call refuses, and its length or position is 0. Columns without a place
 /// give no cursor.
-pub fn refused_outputs(tally: &Tally, bytes: &[u8]) -> Outcome {
-    let refused = match second::check(bytes) {
+pub fn refused_outputs(tally: &Tally, case: Case) -> Outcome {
+    let Case { rules, bytes } = case;
+    let given = raw_rules(rules);
+    let refused = match second::check(rules, bytes) {
         Ok(_) => Refused::Other(14),
         Err(refusal) => refusal.into(),
     };
@@ -226,19 +250,19 @@ pub fn refused_outputs(tally: &Tally, bytes: &[u8]) -> Outcome {
         length: 0,
     };
     let question = |what: &str| format!("{what} into no room");
-    let normal = raw::normal_form(bytes, &mut []);
+    let normal = raw::normal_form(given, bytes, &mut []);
     tally.same_value(|| question("mrd_normal_form"), normal, expected)?;
-    let index = raw::write_index(bytes, &mut []);
+    let index = raw::write_index(given, bytes, &mut []);
     tally.same_value(|| question("mrd_write_index"), index, expected)?;
-    let columns = raw::fill_columns(bytes, &mut [], &mut [], &mut []);
+    let columns = raw::fill_columns(given, bytes, &mut [], &mut [], &mut []);
     tally.same_value(|| question("mrd_fill_columns"), columns, expected)?;
-    let cursor = raw::cursor_for(&[], &[], 0);
+    let cursor = raw::cursor_for(given, &[], &[], 0);
     let expected = raw::mrd_cursor_answer {
         refusal: 16,
         cursor: raw::mrd_cursor::default(),
     };
     tally.same_value(|| "mrd_cursor_for no columns".into(), cursor, expected)?;
-    let close = raw::write(4, &[], [&[]; 7], &mut [], 0);
+    let close = raw::write(given, 4, &[], [&[]; 7], &mut [], 0);
     let expected = raw::mrd_put {
         refusal: 14,
         position: 0,

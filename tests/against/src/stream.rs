@@ -2,65 +2,82 @@
 //! is asked everything.
 
 use crate::asked::{Asked, GivenIndex};
+use crate::case::Case;
 use crate::tally::{Family, Outcome, Tally};
 use crate::walk::{self, Read};
-use crate::{at_cursor, attribute_length, plain, written};
+use crate::{aligned, at_cursor, attribute_length, plain, written};
 use cotterleaf::Part;
-use second_reader::{Detail, Table, Type};
+use second_reader::{Detail, Kind, Layout, Table, Type};
 use streams::{counters, field_offset, given_columns, given_files, record_number};
 use streams::{GivenColumns, GivenFile, Rng};
 
-/// Asks both readers about one stream.
-pub fn ask(tally: &mut Tally, rng: &mut Rng, bytes: &[u8]) -> Outcome {
-    let kept = bytes.to_vec();
-    let read = Read::of(bytes);
-    walk::walk(tally, rng, bytes, &read)?;
-    each_family(tally, rng, bytes, &read)?;
+/// Asks both readers about one stream under one layout.
+pub fn ask(tally: &mut Tally, rng: &mut Rng, case: Case) -> Outcome {
+    tally.rules = case.rules;
+    let kept = case.bytes.to_vec();
+    let read = Read::of(case);
+    walk::walk(tally, rng, case, &read)?;
+    each_family(tally, rng, case, &read)?;
     match read.answer {
-        Ok(_) => attribute_length::either_number(tally, rng, bytes, &read.records)?,
-        Err(refusal) => attribute_length::note_refused(tally, bytes, refusal),
+        Ok(_) => {
+            attribute_length::either_number(tally, rng, case, &read.records)?;
+            aligned::any_filler(tally, rng, case, &read.records)?;
+            aligned::note_accepted(tally, case, &read.records);
+        }
+        Err(refusal) => {
+            attribute_length::note_refused(tally, case, refusal);
+            aligned::note_refused(tally, case, refusal);
+        }
     }
-    walk::made_up_cursor(tally, rng, bytes, &read)?;
-    let (view, field) = (drawn_view(rng, &read), drawn_field(rng, &read));
-    at_cursor::asked_at(tally, bytes, &read, view, field)?;
+    walk::made_up_cursor(tally, rng, case, &read)?;
+    let view = drawn_view(rng, &read);
+    let field = drawn_field(rng, case, &read);
+    at_cursor::asked_at(tally, case, &read, view, field)?;
     if rng.one_in(4) {
-        let (n, offset) = drawn_field(rng, &read);
-        plain::questions(tally, rng, bytes, n, offset)?;
-        plain::steps(tally, bytes, &read)?;
-        plain::refused_outputs(tally, bytes)?;
+        let (n, offset) = drawn_field(rng, case, &read);
+        plain::questions(tally, rng, case, n, offset)?;
+        plain::steps(tally, case, &read)?;
+        plain::refused_outputs(tally, case)?;
     }
     if read.answer.is_ok() && read.count() <= 12 {
-        each_family(tally, rng, bytes, &read)?;
-        if rng.one_in(2) {
-            all_views(tally, bytes, &read)?;
-            written::same_meaning(tally, bytes)?;
-        }
-        if rng.one_in(8) {
-            all_fields(tally, rng, bytes, &read)?;
-        }
+        each_family(tally, rng, case, &read)?;
+        everything(tally, rng, case, &read)?;
     }
     let question = || "the given stream after all calls".to_string();
-    tally.same_buffer(question, bytes, &kept)
+    tally.same_buffer(question, case.bytes, &kept)
+}
+
+/// All views and meanings of every other short stream, and all fields of a record of every eighth.
+fn everything(tally: &mut Tally, rng: &mut Rng, case: Case, read: &Read) -> Outcome {
+    if rng.one_in(2) {
+        all_views(tally, case, read)?;
+        written::same_meaning(tally, case)?;
+    }
+    if rng.one_in(8) {
+        all_fields(tally, rng, case, read)?;
+    }
+    Ok(())
 }
 
 /// Every family once at drawn numbers: the questions with no index, with a file and with columns.
-pub fn each_family(tally: &mut Tally, rng: &mut Rng, bytes: &[u8], read: &Read) -> Outcome {
+pub fn each_family(tally: &mut Tally, rng: &mut Rng, case: Case, read: &Read) -> Outcome {
     let count = read.count();
     let accepted = read.answer.is_ok();
     let indexes = [
         GivenIndex::None,
-        GivenIndex::File(drawn_file(tally, rng, bytes, accepted)),
-        GivenIndex::Columns(drawn_columns(tally, rng, bytes, accepted)),
+        GivenIndex::File(drawn_file(tally, rng, case, accepted)),
+        GivenIndex::Columns(drawn_columns(tally, rng, case, accepted)),
     ];
     for given in &indexes {
-        let asked = Asked { bytes, given };
+        let asked = Asked { case, given };
         asked.place(tally, record_number(rng, count))?;
         let (n, part) = drawn_view(rng, read);
         asked.view(tally, n, part)?;
-        let (n, offset) = drawn_field(rng, read);
+        let (n, offset) = drawn_field(rng, case, read);
         asked.field(tally, n, offset)?;
         // A list of another length cannot be given: zeros stand for it.
-        let counters = counters(rng, bytes).try_into().unwrap_or([0; 17]);
+        let counters = counters(case.rules, rng, case.bytes);
+        let counters = counters.try_into().unwrap_or([0; 17]);
         let from = match rng.below(2) {
             0 => 0,
             _ => record_number(rng, count),
@@ -68,30 +85,29 @@ pub fn each_family(tally: &mut Tally, rng: &mut Rng, bytes: &[u8], read: &Read) 
         asked.find(tally, from, &counters)?;
         asked.matches(tally)?;
     }
-    written::bytes_written(tally, rng, Family::NormalForm, bytes, bytes.len())?;
-    let index_length = 23 + 17 * read.records.len();
-    written::bytes_written(tally, rng, Family::WriteIndex, bytes, index_length)?;
-    written::columns_filled(tally, rng, bytes, read.records.len())
+    written::bytes_written(tally, rng, Family::NormalForm, case, read)?;
+    written::bytes_written(tally, rng, Family::WriteIndex, case, read)?;
+    written::columns_filled(tally, rng, case, read)
 }
 
 /// The index file of another stream: a refused one has none of its own.
-fn drawn_file(tally: &mut Tally, rng: &mut Rng, bytes: &[u8], accepted: bool) -> GivenFile {
+fn drawn_file(tally: &mut Tally, rng: &mut Rng, case: Case, accepted: bool) -> GivenFile {
     if !accepted {
-        let mut files = given_files(rng, &[4, 0]);
+        let mut files = given_files(case.rules, rng, &[4, 0]);
         return files.swap_remove(0);
     }
-    let mut files = given_files(rng, bytes);
+    let mut files = given_files(case.rules, rng, case.bytes);
     let file = files.swap_remove(often_first(rng, files.len()));
     tally.note("file given", file.what);
     file
 }
 
-fn drawn_columns(tally: &mut Tally, rng: &mut Rng, bytes: &[u8], accepted: bool) -> GivenColumns {
+fn drawn_columns(tally: &mut Tally, rng: &mut Rng, case: Case, accepted: bool) -> GivenColumns {
     if !accepted {
-        let mut columns = given_columns(rng, &[4, 0]);
+        let mut columns = given_columns(case.rules, rng, &[4, 0]);
         return columns.swap_remove(0);
     }
-    let mut columns = given_columns(rng, bytes);
+    let mut columns = given_columns(case.rules, rng, case.bytes);
     let columns = columns.swap_remove(often_first(rng, columns.len()));
     tally.note("columns given", columns.what);
     columns
@@ -150,27 +166,27 @@ fn drawn_view(rng: &mut Rng, read: &Read) -> (u64, Part) {
 }
 
 /// A record and an offset: mostly an element of that record's header, else any.
-fn drawn_field(rng: &mut Rng, read: &Read) -> (u64, u64) {
-    let n = match header_record(rng, read) {
+fn drawn_field(rng: &mut Rng, case: Case, read: &Read) -> (u64, u64) {
+    let n = match header_record(rng, case, read) {
         Some(n) if !rng.one_in(3) => n,
         _ => record_number(rng, read.count()),
     };
     let record = read.records.get(n as usize);
-    let table = record.and_then(|record| record.detail.kind().table());
+    let table = record.and_then(|record| record.detail.kind().table(case.rules));
     match table {
         Some(table) if !rng.one_in(3) => (n, rng.pick(&table.elements()).0 as u64),
-        _ => (n, field_offset(rng)),
+        _ => (n, field_offset(case.rules, rng)),
     }
 }
 
 /// The number of a record that has a header, if the stream has such.
-fn header_record(rng: &mut Rng, read: &Read) -> Option<u64> {
+fn header_record(rng: &mut Rng, case: Case, read: &Read) -> Option<u64> {
     // Drawn among all records, a few times: a list of them would cost more than it gives.
     let count = read.count();
     let drawn = (0..4).map(|_| rng.below(count.max(1)));
     drawn.into_iter().find(|&n| {
         let record = read.records.get(n as usize);
-        record.is_some_and(|record| record.detail.kind().table().is_some())
+        record.is_some_and(|record| record.detail.kind().table(case.rules).is_some())
     })
 }
 
@@ -180,9 +196,9 @@ fn far_channel(rng: &mut Rng) -> usize {
 }
 
 /// All views of all records, with the channels at both ends and past them.
-fn all_views(tally: &mut Tally, bytes: &[u8], read: &Read) -> Outcome {
+fn all_views(tally: &mut Tally, case: Case, read: &Read) -> Outcome {
     let asked = Asked {
-        bytes,
+        case,
         given: &GivenIndex::None,
     };
     for record in &read.records {
@@ -217,12 +233,13 @@ const FLOATS: [u32; 8] = [
 ];
 
 /// Every offset of one record, past its header too, with such floats in it.
-fn all_fields(tally: &mut Tally, rng: &mut Rng, bytes: &[u8], read: &Read) -> Outcome {
-    let n = header_record(rng, read).unwrap_or(0);
+fn all_fields(tally: &mut Tally, rng: &mut Rng, case: Case, read: &Read) -> Outcome {
+    let n = header_record(rng, case, read).unwrap_or(0);
     let record = &read.records[n as usize];
+    let kind = record.detail.kind();
     let header = record.start as usize + 2;
-    let mut bytes = bytes.to_vec();
-    let table = record.detail.kind().table();
+    let mut bytes = case.bytes.to_vec();
+    let table = kind.table(case.rules);
     for (offset, element) in table.map_or(vec![], Table::elements) {
         if element == Type::F32 {
             let float = rng.pick(&FLOATS).to_le_bytes();
@@ -230,11 +247,24 @@ fn all_fields(tally: &mut Tally, rng: &mut Rng, bytes: &[u8], read: &Read) -> Ou
         }
     }
     let asked = Asked {
-        bytes: &bytes,
+        case: case.with(&bytes),
         given: &GivenIndex::None,
     };
     for offset in 0..table.map_or(0, |table| table.size as u64) + 9 {
         asked.field(tally, n, offset)?;
+        if kind == Kind::Waveform && case.rules.layout == Layout::Aligned {
+            tally.note("offset of an aligned waveform", offset_name(offset));
+        }
     }
     Ok(())
+}
+
+/// What an aligned waveform header has at an offset.
+fn offset_name(offset: u64) -> &'static str {
+    match offset {
+        0 | 8 | 16 | 20 | 24 | 28 | 30 | 32 | 36 => "element",
+        2..=7 | 38 | 39 => "filler",
+        0..=39 => "inside an element",
+        _ => "past the header",
+    }
 }

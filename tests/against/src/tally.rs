@@ -1,10 +1,10 @@
 //! What a run has met, the comparison that counts it, and the table that is printed at the end.
 
 use crate::answers::Answer;
-use second_reader::{Detail, Kind, Mask};
+use second_reader::{Detail, Kind, Layout, Mask, Rules};
 use std::collections::BTreeMap;
 use std::fmt::Debug;
-use streams::WRITER_REFUSALS;
+use streams::{OF_OTHER_LAYOUT, WRITER_REFUSALS};
 
 /// The calls by what they answer.
 #[derive(Clone, Copy, Debug, PartialEq, Eq, PartialOrd, Ord)]
@@ -96,8 +96,19 @@ const VIEWS: &[&str] = &[
     "waveform",
 ];
 
+/// What a stream that was made for one layout can be under both.
+const UNDER_BOTH: &[&str] = &[
+    "one record list",
+    "as many other records",
+    "another number of records",
+    "accepted under its own alone",
+    "accepted under the other alone",
+    "refused alike",
+    "refused otherwise",
+];
+
 /// Everything but answers that a run must meet, by group.
-const GROUPS: [(&str, &[&str]); 17] = [
+const GROUPS: [(&str, &[&str]); 30] = [
     ("view shown", VIEWS),
     ("view where a walk stands", VIEWS),
     (
@@ -140,6 +151,33 @@ const GROUPS: [(&str, &[&str]); 17] = [
             "9 with another number",
         ],
     ),
+    (
+        "waveform accepted",
+        &["packed", "aligned with zeros", "aligned with other filler"],
+    ),
+    ("packed waveform refused", &["3", "4", "10", "11"]),
+    ("aligned waveform refused", &["3", "4", "10", "11"]),
+    ("packed stream under both layouts", UNDER_BOTH),
+    ("aligned stream under both layouts", UNDER_BOTH),
+    ("filler in a normal form", &["made zero", "kept zero"]),
+    ("filler given to the writer", &["zero", "not zero"]),
+    (
+        "aligned waveform refused by the writer",
+        &["3", "4", "10", "14", "18"],
+    ),
+    (
+        "waveform header of the other length given to the writer",
+        &["40 bytes packed", "32 bytes aligned"],
+    ),
+    ("field question at filler", &["20"]),
+    (
+        "offset of an aligned waveform",
+        &["element", "filler", "inside an element", "past the header"],
+    ),
+    (
+        "scan counter of an aligned waveform",
+        &["in an index file", "in columns"],
+    ),
     ("element", &["whole", "signed", "float", "NaN"]),
     (
         "file given",
@@ -150,6 +188,9 @@ const GROUPS: [(&str, &[&str]); 17] = [
             "trailing bytes",
             "one record less",
             "empty",
+            OF_OTHER_LAYOUT[0],
+            OF_OTHER_LAYOUT[1],
+            OF_OTHER_LAYOUT[2],
         ],
     ),
     (
@@ -160,6 +201,20 @@ const GROUPS: [(&str, &[&str]); 17] = [
             "one column short",
             "longer",
             "empty",
+            OF_OTHER_LAYOUT[0],
+            OF_OTHER_LAYOUT[1],
+            OF_OTHER_LAYOUT[2],
+        ],
+    ),
+    (
+        "index made under the other layout",
+        &[
+            "file refused with 15",
+            "columns refused with 15",
+            "file believed",
+            "columns believed",
+            "file believed without waveforms",
+            "columns believed without waveforms",
         ],
     ),
     ("file believed", &["place", "view", "field", "find", "file"]),
@@ -182,8 +237,10 @@ const GROUPS: [(&str, &[&str]); 17] = [
 #[derive(Default)]
 pub struct Tally {
     pub streams: u64,
-    answers: BTreeMap<(Family, u32), u64>,
-    kinds: BTreeMap<Kind, u64>,
+    /// What is asked under now.
+    pub rules: Rules,
+    answers: BTreeMap<(Rules, Family, u32), u64>,
+    kinds: BTreeMap<(Rules, Kind), u64>,
     met: BTreeMap<(&'static str, &'static str), u64>,
 }
 
@@ -204,7 +261,8 @@ impl Tally {
 
     /// Counts a number, 0 for an answer, that both readers give.
     pub fn count(&mut self, family: Family, number: u32) {
-        *self.answers.entry((family, number)).or_default() += 1;
+        let answer = (self.rules, family, number);
+        *self.answers.entry(answer).or_default() += 1;
     }
 
     /// Compares two values that are no answers, or parts of some.
@@ -218,7 +276,7 @@ impl Tally {
             return Ok(());
         }
         Err(Difference {
-            question: question(),
+            question: format!("{}, {}", question(), layout_name(self.rules)),
             library: format!("{library:?}"),
             second: format!("{second:?}"),
         })
@@ -235,7 +293,11 @@ impl Tally {
         match (0..library.len().max(second.len())).find(differs) {
             None => Ok(()),
             Some(i) => Err(Difference {
-                question: format!("{}, place {i} of the output", question()),
+                question: format!(
+                    "{}, {}, place {i} of the output",
+                    question(),
+                    layout_name(self.rules)
+                ),
                 library: format!("{:?}", library.get(i)),
                 second: format!("{:?}", second.get(i)),
             }),
@@ -247,7 +309,8 @@ impl Tally {
     }
 
     pub fn note_kind(&mut self, detail: Detail) {
-        *self.kinds.entry(detail.kind()).or_default() += 1;
+        let kind = (self.rules, detail.kind());
+        *self.kinds.entry(kind).or_default() += 1;
         if let Detail::Acquisition {
             active_channels,
             mask,
@@ -289,8 +352,12 @@ impl Tally {
         }
     }
 
-    fn answers(&self, family: Family, number: u32) -> u64 {
-        *self.answers.get(&(family, number)).unwrap_or(&0)
+    fn answers(&self, rules: Rules, family: Family, number: u32) -> u64 {
+        *self.answers.get(&(rules, family, number)).unwrap_or(&0)
+    }
+
+    fn kinds(&self, rules: Rules, kind: Kind) -> u64 {
+        *self.kinds.get(&(rules, kind)).unwrap_or(&0)
     }
 
     fn times(&self, group: &'static str, what: &'static str) -> u64 {
@@ -298,25 +365,8 @@ impl Tally {
     }
 
     pub fn print(&self) {
-        print!("{:>8}", "number");
-        for family in Family::ALL {
-            print!("{:>9}", family.name());
-        }
-        println!();
-        for number in 0..=20 {
-            print!("{number:>8}");
-            for family in Family::ALL {
-                if family.may_give(number) {
-                    print!("{:>9}", self.answers(family, number));
-                } else {
-                    print!("{:>9}", "-");
-                }
-            }
-            println!();
-        }
-        for kind in Kind::ALL {
-            let times = self.kinds.get(&kind).unwrap_or(&0);
-            println!("kind {} ({kind:?}): {times} records", kind.id());
+        for rules in Rules::ALL {
+            self.print_answers(rules);
         }
         for (group, names) in GROUPS {
             let counts: Vec<String> = names
@@ -327,27 +377,43 @@ impl Tally {
         }
     }
 
+    /// The table of one layout: a column for each family, a row for each number, and a line for each kind.
+    fn print_answers(&self, rules: Rules) {
+        println!("waveform headers {}:", layout_name(rules));
+        print!("{:>8}", "number");
+        for family in Family::ALL {
+            print!("{:>9}", family.name());
+        }
+        println!();
+        for number in 0..=20 {
+            print!("{number:>8}");
+            for family in Family::ALL {
+                if family.may_give(number) {
+                    print!("{:>9}", self.answers(rules, family, number));
+                } else {
+                    print!("{:>9}", "-");
+                }
+            }
+            println!();
+        }
+        for kind in Kind::ALL {
+            let times = self.kinds(rules, kind);
+            println!("kind {} ({kind:?}): {times} records", kind.id());
+        }
+    }
+
     /// What a run over many streams must meet and did not, and numbers that no such call may give.
     pub fn missing(&self) -> Vec<String> {
         let mut missing = Vec::new();
-        for family in Family::ALL {
-            for number in 0..=20 {
-                if family.may_give(number) && self.answers(family, number) == 0 {
-                    missing.push(format!("{number} from {}", family.name()));
-                }
-            }
+        for rules in Rules::ALL {
+            missing.extend(self.missing_answers(rules));
         }
-        for (&(family, number), times) in &self.answers {
+        for (&(rules, family, number), times) in &self.answers {
             if !family.may_give(number) {
+                let (family, layout) = (family.name(), layout_name(rules));
                 missing.push(format!(
-                    "a rule for {number} from {}, given {times} times",
-                    family.name()
+                    "a rule for {number} from {family}, {layout}, given {times} times"
                 ));
-            }
-        }
-        for kind in Kind::ALL {
-            if !self.kinds.contains_key(&kind) {
-                missing.push(format!("kind {}", kind.id()));
             }
         }
         for (group, names) in GROUPS {
@@ -358,5 +424,31 @@ impl Tally {
             }
         }
         missing
+    }
+
+    /// The numbers and kinds that no call under these rules met.
+    fn missing_answers(&self, rules: Rules) -> Vec<String> {
+        let layout = layout_name(rules);
+        let mut missing = Vec::new();
+        for family in Family::ALL {
+            for number in 0..=20 {
+                if family.may_give(number) && self.answers(rules, family, number) == 0 {
+                    missing.push(format!("{number} from {}, {layout}", family.name()));
+                }
+            }
+        }
+        for kind in Kind::ALL {
+            if self.kinds(rules, kind) == 0 {
+                missing.push(format!("kind {}, {layout}", kind.id()));
+            }
+        }
+        missing
+    }
+}
+
+fn layout_name(rules: Rules) -> &'static str {
+    match rules.layout {
+        Layout::Packed => "packed",
+        Layout::Aligned => "aligned",
     }
 }

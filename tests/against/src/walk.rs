@@ -1,10 +1,12 @@
 //! The check and the walk: every step over a stream, the answer from each cursor on, and made-up cursors.
 
+use crate::aligned;
 use crate::answers::{self, Answer};
 use crate::attribute_length;
+use crate::case::Case;
 use crate::tally::{Difference, Family, Outcome, Tally};
 use cotterleaf::{Cursor, Step, Stream};
-use second_reader::{self as second, Kind, Record, Refusal, Refused, MOST_MESSAGES};
+use second_reader::{self as second, Kind, Record, Refusal, Refused, Rules, MOST_MESSAGES};
 use streams::Rng;
 
 /// What the second reader says of a stream: the records before any fault, and the answer.
@@ -14,14 +16,14 @@ pub struct Read {
 }
 
 impl Read {
-    pub fn of(bytes: &[u8]) -> Read {
-        match second::records(bytes) {
+    pub fn of(case: Case) -> Read {
+        match second::records(case.rules, case.bytes) {
             Ok(records) => Read {
                 answer: Ok(records.len() as u64),
                 records,
             },
             Err(refusal) => Read {
-                records: before(bytes, refusal),
+                records: before(case, refusal),
                 answer: Err(refusal),
             },
         }
@@ -38,26 +40,28 @@ impl Read {
 }
 
 /// The records before the fault: those of the stream that is cut there and closed if it was not.
-fn before(bytes: &[u8], refusal: Refusal) -> Vec<Record> {
+fn before(Case { rules, bytes }: Case, refusal: Refusal) -> Vec<Record> {
     let front = &bytes[..refusal.byte as usize];
-    if let Ok(records) = second::records(front) {
+    if let Ok(records) = second::records(rules, front) {
         return records;
     }
     if refusal.number == 19 {
         // With a close it would still be one message too many: the last one makes way for it.
-        return before_last(front);
+        return before_last(rules, front);
     }
     let closed = [front, &[4, 0]].concat();
-    let mut records = second::records(&closed).expect("what stands before the fault is sound");
+    let mut records =
+        second::records(rules, &closed).expect("what stands before the fault is sound");
     records.pop();
     records
 }
 
 /// The records of a front of 1,000,000 messages whose last is a text without content.
-fn before_last(front: &[u8]) -> Vec<Record> {
+fn before_last(rules: Rules, front: &[u8]) -> Vec<Record> {
     let mut closed = front[..front.len() - 6].to_vec();
     closed.extend([4, 0]);
-    let mut records = second::records(&closed).expect("what stands before the fault is sound");
+    let mut records =
+        second::records(rules, &closed).expect("what stands before the fault is sound");
     let last = records.last_mut().expect("1,000,000 records");
     last.detail = second::Detail::Text { length: 0 };
     last.size = 6;
@@ -100,8 +104,8 @@ fn same_rest(tally: &mut Tally, stream: &Stream, cursor: Cursor, answer: Answer<
 
 /// The stream's answer, and each step of the walk over it. From some of the cursors the rest is checked too,
 /// whose answer is the stream's.
-pub fn walk(tally: &mut Tally, rng: &mut Rng, bytes: &[u8], read: &Read) -> Outcome {
-    let stream = Stream::new(bytes);
+pub fn walk(tally: &mut Tally, rng: &mut Rng, case: Case, read: &Read) -> Outcome {
+    let stream = case.library();
     let answer = read.answer.map_err(Refused::from);
     let checked = answers::number(stream.check());
     tally.same(Family::Check, || "check".to_string(), checked, answer)?;
@@ -110,15 +114,19 @@ pub fn walk(tally: &mut Tally, rng: &mut Rng, bytes: &[u8], read: &Read) -> Outc
         let next = same_step(tally, &stream, cursor, Met::Record(*record))?;
         cursor = next.expect("a record comes with the cursor after it");
         tally.note_kind(record.detail);
-        attribute_length::note(tally, bytes, record);
+        attribute_length::note(tally, case.bytes, record);
         if rng.one_in(4 + read.count() / 4) {
             same_rest(tally, &stream, cursor, answer)?;
         }
     }
     same_step(tally, &stream, cursor, Met::End(answer))?;
-    let yielded = stream.records().filter(|step| step.is_ok()).count();
+    let mut yielded = 0;
+    for record in stream.records().flatten() {
+        aligned::header_by_name(tally, case, &record)?;
+        yielded += 1;
+    }
     let question = || "records that the iterator yields".to_string();
-    tally.same_value(question, yielded, read.records.len())
+    tally.same_value(question, yielded, read.count())
 }
 
 /// A cursor that no walk needs to have met.
@@ -146,15 +154,15 @@ fn drawn_cursor(rng: &mut Rng, bytes: &[u8], read: &Read) -> Cursor {
 
 /// What the second reader says from a cursor on. It knows no cursors, so it reads what is left behind a message
 /// that brings the order to the same phase; the numbers are moved, and 1,000,000 messages counted, by hand.
-fn read_from(bytes: &[u8], cursor: Cursor) -> Read {
+fn read_from(case: Case, cursor: Cursor) -> Read {
     let front: &[u8] = match cursor.phase {
         0 => &[],
         1 => &[2, 0, 0, 0, 0, 0],
         2 => &[3, 0, 0, 0, 0, 0],
         _ => &[4, 0],
     };
-    let rest = bytes.get(cursor.start..).unwrap_or(&[]);
-    let mut read = Read::of(&[front, rest].concat());
+    let rest = case.bytes.get(cursor.start..).unwrap_or(&[]);
+    let mut read = Read::of(case.with(&[front, rest].concat()));
     let closed = read.is_closed();
     let fronts = usize::from(!front.is_empty());
     read.records.drain(..fronts);
@@ -197,10 +205,10 @@ fn count_to_the_limit(read: &mut Read, cursor: Cursor, closed: bool) {
 }
 
 /// The step at a made-up cursor, and the answer from it and from the next on.
-pub fn made_up_cursor(tally: &mut Tally, rng: &mut Rng, bytes: &[u8], read: &Read) -> Outcome {
-    let stream = Stream::new(bytes);
-    let cursor = drawn_cursor(rng, bytes, read);
-    let expected = read_from(bytes, cursor);
+pub fn made_up_cursor(tally: &mut Tally, rng: &mut Rng, case: Case, read: &Read) -> Outcome {
+    let stream = case.library();
+    let cursor = drawn_cursor(rng, case.bytes, read);
+    let expected = read_from(case, cursor);
     let answer = expected.answer.map_err(Refused::from);
     same_rest(tally, &stream, cursor, answer)?;
     let met = match expected.records.first() {

@@ -1,10 +1,11 @@
 //! The writer of one message: its answer, the whole output, and that the message reads back.
 
 use crate::answers;
+use crate::case::{library_rules, Case};
 use crate::tally::{Family, Outcome, Tally};
 use cotterleaf::{Part, Stream};
 use second_reader::message::STATED_LENGTH;
-use second_reader::{self as second, Kind, Refused};
+use second_reader::{self as second, Kind, Layout, Refused, Rules};
 use streams::{writer_input, writer_input_refused, Message, Rng, WriterInput, WRITER_REFUSALS};
 
 fn given(message: &Message) -> cotterleaf::Message<'_> {
@@ -22,11 +23,12 @@ fn given(message: &Message) -> cotterleaf::Message<'_> {
 }
 
 /// One drawn message: accepted, or made for one of the writer's refusals in turn.
-pub fn message_written(tally: &mut Tally, rng: &mut Rng, number: u64) -> Outcome {
+pub fn message_written(tally: &mut Tally, rng: &mut Rng, rules: Rules, number: u64) -> Outcome {
+    tally.rules = rules;
     let turn = number as usize % (2 * WRITER_REFUSALS.len());
     let input = match WRITER_REFUSALS.get(turn) {
-        Some(&refusal) => writer_input_refused(rng, refusal),
-        None => writer_input(rng),
+        Some(&refusal) => writer_input_refused(rules, rng, refusal),
+        None => writer_input(rules, rng),
     };
     let WriterInput {
         message,
@@ -34,8 +36,9 @@ pub fn message_written(tally: &mut Tally, rng: &mut Rng, number: u64) -> Outcome
         position,
     } = input;
     let (mut library, mut second) = (output.clone(), output);
-    let answer = given(&message).write(&mut library, position as usize);
+    let answer = given(&message).write(library_rules(rules), &mut library, position as usize);
     let expected = second::write(
+        rules,
         message.id,
         &message.header,
         &message.parts(),
@@ -46,12 +49,44 @@ pub fn message_written(tally: &mut Tally, rng: &mut Rng, number: u64) -> Outcome
     let expected = expected.map_err(Refused::Other);
     tally.same(Family::Write, question, answers::number(answer), expected)?;
     tally.same_buffer(question, &library, &second)?;
+    note_waveform(tally, &message, expected);
     match expected {
         Ok(end) => {
             note_stated_length(tally, &message);
             read_back(tally, &message, &library[position as usize..end as usize])
         }
         Err(_) => Ok(()),
+    }
+}
+
+/// Notes what a given waveform header holds as filler, how long it is, and why it is refused.
+fn note_waveform(tally: &mut Tally, message: &Message, answer: Result<u64, Refused>) {
+    if message.kind() != Some(Kind::Waveform) {
+        return;
+    }
+    let layout = message.rules.layout;
+    let number = answer.err().map(Refused::number);
+    let other_length = "waveform header of the other length given to the writer";
+    match (layout, message.header.len(), number) {
+        (Layout::Packed, 40, Some(3)) => tally.note(other_length, "40 bytes packed"),
+        (Layout::Aligned, 32, Some(3)) => tally.note(other_length, "32 bytes aligned"),
+        _ => {}
+    }
+    if layout == Layout::Packed {
+        return;
+    }
+    let refused = "aligned waveform refused by the writer";
+    match number {
+        Some(3) => tally.note(refused, "3"),
+        Some(4) => tally.note(refused, "4"),
+        Some(10) => tally.note(refused, "10"),
+        Some(14) => tally.note(refused, "14"),
+        Some(18) => tally.note(refused, "18"),
+        Some(_) => {}
+        None if message.header == message.header_written() => {
+            tally.note("filler given to the writer", "zero");
+        }
+        None => tally.note("filler given to the writer", "not zero"),
     }
 }
 
@@ -69,7 +104,7 @@ fn note_stated_length(tally: &mut Tally, message: &Message) {
 }
 
 /// The written message between what the order asks for is accepted, and its views and header are what was given, but
-/// for an image header's attribute length, which is the true one.
+/// for an image header's attribute length, which is the true one, and filler, which is zero.
 fn read_back(tally: &Tally, message: &Message, written: &[u8]) -> Outcome {
     let kind = message.kind().expect("a written message has a kind");
     let front: &[u8] = if kind.is_data() {
@@ -79,7 +114,11 @@ fn read_back(tally: &Tally, message: &Message, written: &[u8]) -> Outcome {
     };
     let close: &[u8] = if kind == Kind::Close { &[] } else { &[4, 0] };
     let bytes = [front, written, close].concat();
-    let stream = Stream::new(&bytes);
+    let case = Case {
+        rules: message.rules,
+        bytes: &bytes,
+    };
+    let stream = case.library();
     let n = usize::from(kind.is_data());
     let count = n + 1 + usize::from(kind != Kind::Close);
     let question = |what: &str| format!("{what} read back of {message:?}");
@@ -99,12 +138,18 @@ fn read_back(tally: &Tally, message: &Message, written: &[u8]) -> Outcome {
         let view = stream.view(n, part).unwrap_or_default();
         tally.same_buffer(|| question(&format!("{part:?}")), view, given)?;
     }
+    let samples = samples_of(stream, n, message);
+    tally.same_buffer(|| question("channels"), &samples, &message.samples)
+}
+
+/// The samples of all channels of record n, if the message is an acquisition with any.
+fn samples_of(stream: Stream, n: usize, message: &Message) -> Vec<u8> {
     let mut samples = Vec::new();
-    if kind == Kind::Acquisition && !message.samples.is_empty() {
+    if message.kind() == Some(Kind::Acquisition) && !message.samples.is_empty() {
         for channel in 0..message.get("active_channels", 0) as usize {
             let view = stream.view(n, Part::Channel(channel));
             samples.extend_from_slice(view.unwrap_or_default());
         }
     }
-    tally.same_buffer(|| question("channels"), &samples, &message.samples)
+    samples
 }

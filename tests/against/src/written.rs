@@ -1,9 +1,11 @@
 //! What is written from a stream: the normal form, the index file and the columns. Both readers write into
 //! buffers of the same drawn content, given from their middle, and the whole buffers are compared.
 
+use crate::aligned;
 use crate::answers;
+use crate::case::Case;
 use crate::tally::{Family, Outcome, Tally};
-use cotterleaf::Stream;
+use crate::walk::Read;
 use second_reader::{self as second, Refused};
 use streams::Rng;
 
@@ -31,78 +33,85 @@ fn room(tally: &mut Tally, rng: &mut Rng, needed: usize) -> usize {
     }
 }
 
-/// The normal form and the index file, whichever `family` says, into a room around the `needed` bytes.
+/// The normal form and the index file, whichever `family` says, into a room around the bytes that it needs.
 pub fn bytes_written(
     tally: &mut Tally,
     rng: &mut Rng,
     family: Family,
-    bytes: &[u8],
-    needed: usize,
+    case: Case,
+    read: &Read,
 ) -> Outcome {
+    let Case { rules, bytes } = case;
+    let needed = match family {
+        Family::NormalForm => bytes.len(),
+        _ => 23 + 17 * read.records.len(),
+    };
     let room = room(tally, rng, needed);
     let mut library = rng.bytes(room + 2 * MARGIN);
     let mut second = library.clone();
     let out = &mut library[MARGIN..MARGIN + room];
-    let stream = Stream::new(bytes);
     let answer = match family {
-        Family::NormalForm => stream.normal_form(out),
-        _ => stream.write_index(out),
+        Family::NormalForm => case.library().normal_form(out),
+        _ => case.library().write_index(out),
     };
     let out = &mut second[MARGIN..MARGIN + room];
     let expected: Result<u64, Refused> = match family {
-        Family::NormalForm => second::normal_form(bytes, out),
-        _ => second::write_index(bytes, out),
+        Family::NormalForm => second::normal_form(rules, bytes, out),
+        _ => second::write_index(rules, bytes, out),
     };
     let question = || format!("{} into {room} bytes", family.name());
     tally.same(family, question, answers::number(answer), expected)?;
-    tally.same_buffer(question, &library, &second)
+    tally.same_buffer(question, &library, &second)?;
+    if family == Family::WriteIndex && expected.is_ok() {
+        aligned::note_counters(tally, case, &read.records, "in an index file");
+    }
+    Ok(())
 }
 
-/// Three columns with rooms around `count` places.
-pub fn columns_filled(tally: &mut Tally, rng: &mut Rng, bytes: &[u8], count: usize) -> Outcome {
-    let rooms = [
-        room(tally, rng, count),
-        room(tally, rng, count),
-        room(tally, rng, count),
-    ];
+/// Three columns with rooms around the places that the records need.
+pub fn columns_filled(tally: &mut Tally, rng: &mut Rng, case: Case, read: &Read) -> Outcome {
+    let rooms = [(); 3].map(|()| room(tally, rng, read.records.len()));
     let [a, b, c] = rooms;
     let mut starts: Vec<u64> = (0..a + 2 * MARGIN).map(|_| rng.number()).collect();
     let mut ids: Vec<u16> = (0..b + 2 * MARGIN).map(|_| rng.number() as u16).collect();
     let mut counters: Vec<u32> = (0..c + 2 * MARGIN).map(|_| rng.number() as u32).collect();
     let (mut starts_2, mut ids_2, mut counters_2) = (starts.clone(), ids.clone(), counters.clone());
-    let answer = Stream::new(bytes).fill_columns(
+    let answer = case.library().fill_columns(
         &mut starts[MARGIN..MARGIN + a],
         &mut ids[MARGIN..MARGIN + b],
         &mut counters[MARGIN..MARGIN + c],
     );
     let expected = second::fill_columns(
-        bytes,
+        case.rules,
+        case.bytes,
         &mut starts_2[MARGIN..MARGIN + a],
         &mut ids_2[MARGIN..MARGIN + b],
         &mut counters_2[MARGIN..MARGIN + c],
     );
     let question = || format!("columns of {rooms:?} places");
-    tally.same(
-        Family::FillColumns,
-        question,
-        answers::number(answer),
-        expected,
-    )?;
+    let answer = answers::number(answer);
+    tally.same(Family::FillColumns, question, answer, expected)?;
     tally.same_buffer(question, &starts, &starts_2)?;
     tally.same_buffer(question, &ids, &ids_2)?;
-    tally.same_buffer(question, &counters, &counters_2)
+    tally.same_buffer(question, &counters, &counters_2)?;
+    if expected.is_ok() {
+        aligned::note_counters(tally, case, &read.records, "in columns");
+    }
+    Ok(())
 }
 
 /// A stream and its normal form hold the same records, and the normal form is its own.
-pub fn same_meaning(tally: &Tally, bytes: &[u8]) -> Outcome {
+pub fn same_meaning(tally: &Tally, case: Case) -> Outcome {
+    let Case { rules, bytes } = case;
     let mut normal = vec![0; bytes.len()];
-    if Stream::new(bytes).normal_form(&mut normal).is_err() {
+    if case.library().normal_form(&mut normal).is_err() {
         return Ok(());
     }
+    let [own, normals] = [bytes, &normal[..]].map(|bytes| second::contents(rules, bytes));
     let question = || "records of the normal form".to_string();
-    tally.same_value(question, second::contents(&normal), second::contents(bytes))?;
+    tally.same_value(question, normals, own)?;
     let mut again = vec![0; bytes.len()];
-    let answer = Stream::new(&normal).normal_form(&mut again);
+    let answer = case.with(&normal).library().normal_form(&mut again);
     let question = || "normal form of the normal form".to_string();
     tally.same_value(question, answer, Ok(bytes.len()))?;
     tally.same_buffer(question, &again, &normal)

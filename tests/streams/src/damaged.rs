@@ -522,12 +522,15 @@ fn damaged_pieces(rng: &mut Rng, damage: usize, messages: &[Message]) -> Vec<u8>
     pieces.concat()
 }
 
+/// What `drawn` says of a stream that both layouts accept.
+pub const FOR_BOTH_LAYOUTS: &str = "for both layouts";
+
 /// The stream of that number in a run, and what it is: well formed, accepted under both layouts, made for one
 /// refusal number, or damaged. The refusals and damages come in turn.
 pub fn drawn(rules: Rules, rng: &mut Rng, number: u64, limit: usize) -> (String, Vec<u8>) {
     let turn = (number / 10) as usize;
     match number % 10 {
-        0 if turn % 2 == 0 => ("for both layouts".to_string(), accepted_by_both(rng)),
+        0 if turn % 2 == 0 => (FOR_BOTH_LAYOUTS.to_string(), accepted_by_both(rng)),
         0..=3 => {
             let messages = well_formed(rules, rng, limit);
             ("well formed".to_string(), joined(&messages))

@@ -79,6 +79,8 @@ fn wrong_header_length(rng: &mut Rng, message: &mut Message) {
     let right = message.header.len();
     let length = loop {
         let length = match rng.below(3) {
+            // That of the other layout.
+            0 if message.kind() == Some(Kind::Waveform) => 32 + 40 - right,
             0 => rng.pick(&[0, 1, 32, 40, 198, 206, 340]),
             1 => right + 1,
             _ => right.saturating_sub(1),
@@ -231,8 +233,8 @@ pub fn given_files(rules: Rules, rng: &mut Rng, stream: &[u8]) -> Vec<GivenFile>
 /// although there are waveforms, or the same as there are none.
 pub const OF_OTHER_LAYOUT: [&str; 3] = [
     "the other layout's",
-    "the other layout's, the same",
-    "the other layout's, no waveform",
+    "the other layout's and the same",
+    "the other layout's without waveforms",
 ];
 
 fn name_of_others(right: bool, waveforms: bool) -> &'static str {

@@ -13,7 +13,8 @@ pub mod sample;
 pub mod stated;
 pub mod well_formed;
 
-pub use damaged::{around_the_limit, damaged, drawn, huge_images, refused_with, too_many, DAMAGES};
+pub use damaged::{around_the_limit, damaged, drawn, huge_images, refused_with, too_many};
+pub use damaged::{DAMAGES, FOR_BOTH_LAYOUTS};
 pub use either::accepted_by_both;
 pub use inputs::{
     counter_pair, counters, field_offset, flag, given_columns, given_files, record_number,

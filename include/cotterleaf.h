@@ -44,11 +44,12 @@ extern "C" {
 /* ---- What the caller says of a stream ---- */
 
 /* The rules by which a stream is read or written, the same for the whole of it. Nothing in a stream tells them: the
- * caller knows them from where the stream comes. A stream may be accepted under both layouts, with other records,
- * and what belongs to one stream (a cursor, an index, a normal form) is asked for and compared under one choice.
- * `{false}` is for waveform headers as MRD packs them, 32 bytes; `{true}` is for those of 40 bytes whose fields lie
- * aligned (MRD_ALIGNED_WAVEFORM_..). The bytes between these fields are filler: reading does not look at them, no
- * field starts there, and the normal form and the writer make them zero. */
+ * caller knows them from where the stream comes. A stream may be accepted under both layouts, with other records; a
+ * cursor, an index and a normal form belong to a stream under one of them.
+ *
+ * `{false}`, or `{0}`, is for packed waveform headers, 32 bytes, whose fields adjoin (MRD_WAVEFORM_..). `{true}` is for
+ * aligned ones, 40 bytes (MRD_ALIGNED_WAVEFORM_..). The bytes between their fields are filler: reading does not look at
+ * them, no field starts there, they are no part of the record, and the normal form and the writer make them zero. */
 typedef struct {
     bool aligned_waveforms;
 } mrd_rules;

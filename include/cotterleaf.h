@@ -48,8 +48,8 @@ extern "C" {
  * cursor, an index and a normal form belong to a stream under one of them.
  *
  * `{false}`, or `{0}`, is for packed waveform headers, 32 bytes, whose fields adjoin (MRD_WAVEFORM_..). `{true}` is for
- * aligned ones, 40 bytes (MRD_ALIGNED_WAVEFORM_..). The bytes between their fields are filler: reading does not look at
- * them, no field starts there, they are no part of the record, and the normal form and the writer make them zero. */
+ * aligned ones, 40 bytes (MRD_ALIGNED_WAVEFORM_..), of which bytes 2 to 7, 38 and 39 are filler: reading does not look
+ * at them, no field starts there, they are no part of the record, and the normal form and the writer make them zero. */
 typedef struct {
     bool aligned_waveforms;
 } mrd_rules;

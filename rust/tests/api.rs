@@ -625,6 +625,23 @@ fn one_stream_under_both_layouts() {
     assert_eq!(data, streams[1].view(2, Part::Waveform));
 }
 
+/// A stream of the aligned layout alone: packed, its last waveform has one sample more than there are bytes for.
+#[test]
+fn a_stream_of_one_layout_alone() {
+    let mut bytes = waveforms();
+    bytes[64 + 2 + offset::waveform::NUMBER_OF_SAMPLES] = 7;
+    let cursor = aligned(&bytes).records().nth(2).unwrap().unwrap().cursor();
+    let answers = |stream: Stream| [stream.check(), stream.check_from(cursor)];
+    assert_eq!(answers(aligned(&bytes)), [Ok(4), Ok(4)]);
+    let cut = refused::MESSAGE_CUT;
+    assert_eq!(answers(packed(&bytes)).map(number_of), [cut, cut]);
+    assert_eq!(
+        number_of(aligned(&bytes).find(0, &[0; 17])),
+        refused::NO_RECORD
+    );
+    assert_eq!(number_of(packed(&bytes).find(0, &[0; 17])), cut);
+}
+
 /// 40 bytes of header before there is anything to judge in it.
 #[test]
 fn an_aligned_header_is_whole_or_cut() {

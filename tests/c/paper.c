@@ -616,6 +616,22 @@ static void one_stream_two_layouts(void)
     CHECK(memcmp(&out, &stream, sizeof out) == 0);
 }
 
+/* A stream of the aligned layout alone: packed, its waveform has one sample more than there are bytes for. */
+static void one_layout_alone(void)
+{
+    static const uint16_t asked[17] = {0};
+    waveform_stream stream = waveform_filled(0xA5);
+    const size_t length = sizeof stream.bytes;
+    put(stream.bytes, WAVEFORM_HEADER + MRD_WAVEFORM_NUMBER_OF_SAMPLES, 2, 7);
+    mrd_cursor second = mrd_next(ALIGNED, stream.bytes, length, mrd_beginning()).next;
+    CHECK(mrd_check(ALIGNED, stream.bytes, length).count == 3);
+    CHECK(mrd_check(PACKED, stream.bytes, length).refusal == MRD_REFUSED_MESSAGE_CUT);
+    CHECK(mrd_check_from(ALIGNED, stream.bytes, length, second).count == 3);
+    CHECK(mrd_check_from(PACKED, stream.bytes, length, second).refusal == MRD_REFUSED_MESSAGE_CUT);
+    CHECK(mrd_find(ALIGNED, stream.bytes, length, 0, asked).refusal == MRD_REFUSED_NO_RECORD);
+    CHECK(mrd_find(PACKED, stream.bytes, length, 0, asked).refusal == MRD_REFUSED_MESSAGE_CUT);
+}
+
 /* An aligned header has 40 bytes before there is anything to judge in it. */
 static void aligned_refusals(void)
 {
@@ -712,6 +728,7 @@ int main(void)
     stated_lengths_written();
     aligned_waveforms();
     one_stream_two_layouts();
+    one_layout_alone();
     aligned_refusals();
     aligned_written();
     walk();

@@ -2,7 +2,7 @@
 
 use crate::program::Delivery;
 use second_reader::listing::MOST_INPUT;
-use second_reader::Kind;
+use second_reader::{Kind, Rules};
 use streams::*;
 
 pub struct Case {
@@ -19,8 +19,20 @@ fn piped(what: impl Into<String>, input: Vec<u8>) -> Case {
     }
 }
 
+/// The inputs of every run.
+pub fn fixed(rng: &mut Rng) -> Vec<Case> {
+    let mut cases = examples();
+    cases.extend(shortest());
+    cases.extend(around_the_limit());
+    for rules in Rules::ALL {
+        cases.extend(each_cut_and_flip(rng, rules));
+    }
+    cases.extend(wrapping_images(rng));
+    cases
+}
+
 /// The examples of document 01 that have at most 65,536 bytes.
-pub fn examples() -> Vec<Case> {
+fn examples() -> Vec<Case> {
     let examples: [&[u8]; 11] = [
         &[4, 0],
         &[],
@@ -41,7 +53,7 @@ pub fn examples() -> Vec<Case> {
 }
 
 /// Every input of one byte, and inputs of two bytes around the known ids.
-pub fn shortest() -> Vec<Case> {
+fn shortest() -> Vec<Case> {
     let mut cases: Vec<Case> = (0..=u8::MAX)
         .map(|byte| piped("one byte", vec![byte]))
         .collect();
@@ -58,15 +70,19 @@ pub fn shortest() -> Vec<Case> {
     cases
 }
 
+fn close() -> Message {
+    Message::empty(Rules::PACKED, Kind::Close.id())
+}
+
 /// An accepted stream of exactly `length` bytes: one text and the close.
 fn text_of_length(length: usize) -> Vec<u8> {
-    let mut message = Message::empty(Kind::Text.id());
+    let mut message = Message::empty(Rules::PACKED, Kind::Text.id());
     message.text = vec![b'x'; length - 6 - 2];
-    joined(&[message, Message::empty(Kind::Close.id())])
+    joined(&[message, close()])
 }
 
 /// Inputs at the limit and over it, accepted and refused ones, however delivered.
-pub fn around_the_limit() -> Vec<Case> {
+fn around_the_limit() -> Vec<Case> {
     let mut cases = Vec::new();
     let deliveries = [Delivery::Pipe, Delivery::File, Delivery::Pieces(10_000)];
     for delivery in deliveries {
@@ -103,15 +119,15 @@ pub fn around_the_limit() -> Vec<Case> {
     cases
 }
 
-/// A short stream of five kinds, cut after each byte and with each of its bits flipped.
-pub fn each_cut_and_flip(rng: &mut Rng) -> Vec<Case> {
+/// A short stream of five kinds with a waveform of this layout, cut after each byte and with each of its bits flipped.
+fn each_cut_and_flip(rng: &mut Rng, rules: Rules) -> Vec<Case> {
     let mut cases = Vec::new();
-    let mut waveform = messages::waveform(rng, 0);
+    let mut waveform = messages::waveform(rules, rng, 0);
     waveform.set("number_of_samples", 0, 1);
     waveform.set("channels", 0, 2);
     messages::fill_parts(rng, &mut waveform);
     let text = |kind: Kind, bytes: &[u8]| {
-        let mut message = Message::empty(kind.id());
+        let mut message = Message::empty(rules, kind.id());
         message.text = bytes.to_vec();
         message
     };
@@ -120,26 +136,30 @@ pub fn each_cut_and_flip(rng: &mut Rng) -> Vec<Case> {
         text(Kind::HeaderText, b"hd"),
         waveform,
         text(Kind::Text, b""),
-        Message::empty(Kind::Close.id()),
+        close(),
     ]);
     for length in 0..=stream.len() {
         cases.push(piped(
-            format!("cut after byte {length}"),
+            format!("{:?}, cut after byte {length}", rules.layout),
             stream[..length].to_vec(),
         ));
     }
     for bit in 0..8 * stream.len() {
         let mut input = stream.clone();
         input[bit / 8] ^= 1 << (bit % 8);
-        cases.push(piped(format!("bit {bit} flipped"), input));
+        let what = format!("{:?}, bit {bit} flipped", rules.layout);
+        cases.push(piped(what, input));
     }
     cases
 }
 
-/// One drawn input: well formed, damaged, or made for one refusal number.
+/// One drawn input: well formed, damaged, or made for one refusal number; every third with aligned waveforms, which
+/// the program reads as packed ones.
 pub fn drawn(rng: &mut Rng, number: u64) -> Case {
     let limit = rng.pick(&[200, 2_000, 2_000, 8_000, 65_536]);
-    let (what, input) = streams::drawn(rng, number, limit);
+    let rules = rng.pick(&[Rules::PACKED, Rules::PACKED, Rules::ALIGNED]);
+    let (what, input) = streams::drawn(rules, rng, number, limit);
+    let what = format!("{:?}, {what}", rules.layout);
     let delivery = match rng.below(40) {
         0 => Delivery::Pieces(1 + input.len() / (1 + rng.below(10) as usize)),
         1 => Delivery::File,
@@ -153,8 +173,8 @@ pub fn drawn(rng: &mut Rng, number: u64) -> Case {
 }
 
 /// Images whose size would be small if it wrapped at 64 bits.
-pub fn wrapping_images(rng: &mut Rng) -> Vec<Case> {
-    huge_images(rng, 40_000)
+fn wrapping_images(rng: &mut Rng) -> Vec<Case> {
+    huge_images(Rules::PACKED, rng, 40_000)
         .into_iter()
         .map(|input| piped("image past 64 bits", input))
         .collect()

@@ -10,7 +10,7 @@ mod program;
 
 use cases::Case;
 use program::Program;
-use second_reader::{Detail, Kind, Mask};
+use second_reader::{Detail, Kind, Mask, Rules};
 use std::collections::BTreeMap;
 use std::path::PathBuf;
 use std::process::ExitCode;
@@ -37,8 +37,12 @@ struct Tally {
     refusals: BTreeMap<u32, u64>,
     kinds: BTreeMap<Kind, u64>,
     masks: BTreeMap<&'static str, u64>,
+    layouts: BTreeMap<&'static str, u64>,
     ends: BTreeMap<i32, u64>,
 }
+
+/// What the program, which reads every stream as packed, does with one of aligned waveform headers.
+const LAYOUTS: [&str; 2] = ["listed as packed", "refused as packed"];
 
 impl Tally {
     fn note(&mut self, input: &[u8]) {
@@ -47,7 +51,8 @@ impl Tally {
             self.over_the_limit += 1;
             return;
         }
-        match second_reader::records(input) {
+        self.note_aligned(input);
+        match second_reader::records(Rules::PACKED, input) {
             Ok(records) => {
                 self.accepted += 1;
                 for record in records {
@@ -58,6 +63,18 @@ impl Tally {
                 }
             }
             Err(refusal) => *self.refusals.entry(refusal.number).or_default() += 1,
+        }
+    }
+
+    /// Notes a stream that is accepted with aligned waveform headers, unless it has no waveform.
+    fn note_aligned(&mut self, input: &[u8]) {
+        if let Ok(aligned) = second_reader::contents(Rules::ALIGNED, input) {
+            let what = match second_reader::contents(Rules::PACKED, input) {
+                Ok(packed) if packed == aligned => return,
+                Ok(_) => LAYOUTS[0],
+                Err(_) => LAYOUTS[1],
+            };
+            *self.layouts.entry(what).or_default() += 1;
         }
     }
 
@@ -81,6 +98,10 @@ impl Tally {
             let times = self.masks.get(mask).unwrap_or(&0);
             println!("mask {mask}: {times} acquisitions listed");
         }
+        for layout in LAYOUTS {
+            let times = self.layouts.get(layout).unwrap_or(&0);
+            println!("stream with aligned waveforms {layout}: {times}");
+        }
         for (code, times) in &self.ends {
             println!("exit code {code}: {times}");
         }
@@ -102,6 +123,11 @@ impl Tally {
         for mask in MASKS {
             if !self.masks.contains_key(mask) {
                 missing.push(format!("a mask that is {mask}"));
+            }
+        }
+        for layout in LAYOUTS {
+            if !self.layouts.contains_key(layout) {
+                missing.push(format!("a stream with aligned waveforms {layout}"));
             }
         }
         if self.over_the_limit == 0 {
@@ -217,11 +243,7 @@ fn main() -> ExitCode {
     };
 
     let mut rng = Rng::new(seed);
-    let mut fixed = cases::examples();
-    fixed.extend(cases::shortest());
-    fixed.extend(cases::around_the_limit());
-    fixed.extend(cases::each_cut_and_flip(&mut rng));
-    fixed.extend(cases::wrapping_images(&mut rng));
+    let fixed = cases::fixed(&mut rng);
     let drawn = (0..count).map(|number| cases::drawn(&mut rng, number));
 
     let mut tally = Tally::default();
@@ -239,11 +261,10 @@ fn main() -> ExitCode {
         }
     }
     // One byte too many and no end yet; and bytes without end.
-    for on in [false, true] {
-        if let Err(found) = endless_difference(&program, on) {
-            println!("listing: FAILED on an endless input: {found}");
-            return ExitCode::FAILURE;
-        }
+    let endless = endless_difference(&program, false).and(endless_difference(&program, true));
+    if let Err(found) = endless {
+        println!("listing: FAILED on an endless input: {found}");
+        return ExitCode::FAILURE;
     }
     tally.print();
     let missing = tally.missing();

@@ -235,6 +235,23 @@ fn program_path() -> PathBuf {
     }
 }
 
+/// Runs the program on these inputs, up to the first that shows a difference, which is reported.
+fn agree(program: &Program, cases: impl Iterator<Item = Case>, tally: &mut Tally) -> bool {
+    for case in cases {
+        match difference(program, &case) {
+            Ok(code) => {
+                tally.note(&case.input);
+                *tally.ends.entry(code).or_default() += 1;
+            }
+            Err(found) => {
+                report(program, &case, &found);
+                return false;
+            }
+        }
+    }
+    true
+}
+
 fn main() -> ExitCode {
     let count = number_argument(1, 4_000);
     let seed = number_argument(2, 1);
@@ -247,18 +264,9 @@ fn main() -> ExitCode {
     let drawn = (0..count).map(|number| cases::drawn(&mut rng, number));
 
     let mut tally = Tally::default();
-    for case in fixed.into_iter().chain(drawn) {
-        match difference(&program, &case) {
-            Ok(code) => {
-                tally.note(&case.input);
-                *tally.ends.entry(code).or_default() += 1;
-            }
-            Err(found) => {
-                report(&program, &case, &found);
-                println!("listing: FAILED after {} runs (seed {seed})", tally.runs);
-                return ExitCode::FAILURE;
-            }
-        }
+    if !agree(&program, fixed.into_iter().chain(drawn), &mut tally) {
+        println!("listing: FAILED after {} runs (seed {seed})", tally.runs);
+        return ExitCode::FAILURE;
     }
     // One byte too many and no end yet; and bytes without end.
     let endless = endless_difference(&program, false).and(endless_difference(&program, true));

@@ -8,7 +8,7 @@ use crate::tally::{Difference, Outcome, Tally};
 use cotterleaf::Message;
 use second_reader::message::STATED_LENGTH;
 use second_reader::{self as second, Kind, Refusal, Refused, Rules};
-use streams::{around_the_limit, huge_images, messages, too_many, Rng};
+use streams::{around_the_limit, huge_images, messages, too_many, AroundTheLimit, Rng};
 
 /// The longest text that passes check 10.
 const LONGEST_TEXT: usize = 268_435_450;
@@ -224,7 +224,7 @@ fn largest_waveforms(tally: &mut Tally) -> Outcome {
     // Its pages are touched at the front and at the end alone.
     let mut bytes = vec![0; 268_435_456 + 64];
     for rules in Rules::ALL {
-        let (within, over) = around_the_limit(rules);
+        let AroundTheLimit { within, over } = around_the_limit(rules);
         let sides = within.map(|sizes| (sizes, true)).into_iter();
         for (sizes, fits) in sides.chain(over.map(|sizes| (sizes, false))) {
             let header = waveform_header(rules, sizes);

@@ -73,7 +73,8 @@ fn ask_all(tally: &mut Tally, rng: &mut Rng, number: u64, drawn: &Drawn) -> Outc
 /// A stream about which the two readers differ.
 struct Found {
     number: u64,
-    drawn: Drawn,
+    made_for: String,
+    bytes: Vec<u8>,
     difference: Difference,
 }
 
@@ -86,7 +87,8 @@ fn ask_about(seed: u64, numbers: impl Iterator<Item = u64>) -> Result<Tally, Fou
         if let Err(difference) = ask_all(&mut tally, &mut rng, number, &drawn) {
             return Err(Found {
                 number,
-                drawn,
+                made_for: format!("{:?}, {}", drawn.rules.layout, drawn.what),
+                bytes: drawn.bytes,
                 difference,
             });
         }
@@ -144,10 +146,8 @@ fn main() -> ExitCode {
     match ask_about_all(seed, first, count) {
         Ok(met) => tally.add(met),
         Err(found) => {
-            let Drawn { rules, what, bytes } = &found.drawn;
-            let made_for = format!("{:?}, {what}", rules.layout);
-            let where_ = format!("seed {seed}, stream {} ({made_for})", found.number);
-            report(&where_, bytes, &found.difference);
+            let where_ = format!("seed {seed}, stream {} ({})", found.number, found.made_for);
+            report(&where_, &found.bytes, &found.difference);
             return ExitCode::FAILURE;
         }
     }

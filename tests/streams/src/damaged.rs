@@ -254,23 +254,30 @@ fn too_large(rules: Rules, rng: &mut Rng, headed: bool) -> Vec<u8> {
     }
 }
 
-/// The samples and channels of the largest waveforms that check 10 lets pass, and of the smallest that it refuses.
+/// Samples and channels of waveforms.
+pub struct AroundTheLimit {
+    /// The largest that check 10 lets pass.
+    pub within: [(u64, u64); 2],
+    /// The smallest that it refuses.
+    pub over: [(u64, u64); 2],
+}
+
 /// An aligned header leaves room for two numbers less.
-pub fn around_the_limit(rules: Rules) -> ([(u64, u64); 2], [(u64, u64); 2]) {
+pub fn around_the_limit(rules: Rules) -> AroundTheLimit {
     match rules.layout {
-        Layout::Packed => (
-            [(17_449, 3_846), (64_219, 1_045)],
-            [(44_949, 1_493), (62_660, 1_071)],
-        ),
-        Layout::Aligned => (
-            [(17_159, 3_911), (62_836, 1_068)],
-            [(17_449, 3_846), (64_219, 1_045)],
-        ),
+        Layout::Packed => AroundTheLimit {
+            within: [(17_449, 3_846), (64_219, 1_045)],
+            over: [(44_949, 1_493), (62_660, 1_071)],
+        },
+        Layout::Aligned => AroundTheLimit {
+            within: [(17_159, 3_911), (62_836, 1_068)],
+            over: [(17_449, 3_846), (64_219, 1_045)],
+        },
     }
 }
 
 fn too_large_waveform(rules: Rules, rng: &mut Rng) -> Vec<u8> {
-    let just = rng.pick(&around_the_limit(rules).1);
+    let just = rng.pick(&around_the_limit(rules).over);
     let sizes = rng.pick(&[
         just,
         (65_535, 65_535),
@@ -316,7 +323,7 @@ fn short_body(rules: Rules, rng: &mut Rng, headed: bool) -> Vec<u8> {
         return match headed {
             true if rng.one_in(3) => claiming_image_within(rules, rng),
             true if rng.one_in(2) => {
-                let sizes = rng.pick(&around_the_limit(rules).0);
+                let sizes = rng.pick(&around_the_limit(rules).within);
                 waveform_claiming(rules, rng, sizes)
             }
             true => claiming_text(rules, rng, Kind::Text, length),
@@ -529,13 +536,13 @@ pub const FOR_BOTH_LAYOUTS: &str = "for both layouts";
 /// refusal number, or damaged. The refusals and damages come in turn.
 pub fn drawn(rules: Rules, rng: &mut Rng, number: u64, limit: usize) -> (String, Vec<u8>) {
     let turn = (number / 10) as usize;
-    match number % 10 {
-        0 if turn % 2 == 0 => (FOR_BOTH_LAYOUTS.to_string(), accepted_by_both(rng)),
-        0..=3 => {
+    match number % 20 {
+        0 => (FOR_BOTH_LAYOUTS.to_string(), accepted_by_both(rng)),
+        1..=3 | 10..=13 => {
             let messages = well_formed(rules, rng, limit);
             ("well formed".to_string(), joined(&messages))
         }
-        4..=6 => {
+        4..=6 | 14..=16 => {
             let wanted = SHORT_REFUSALS[turn % SHORT_REFUSALS.len()];
             let what = format!("made for refusal {wanted}");
             (what, refused_with(rules, rng, wanted))

@@ -26,7 +26,7 @@ fn put_count(rules: Rules, rng: &mut Rng, waveform: &mut [u8], count: u64) {
         0 => rng.pick(&[0, 1, 65_535]),
         _ => loop {
             let channels = 1 + rng.below(count.min(30));
-            if count % channels == 0 {
+            if count / channels * channels == count {
                 break channels;
             }
         },

@@ -14,7 +14,7 @@ pub mod stated;
 pub mod well_formed;
 
 pub use damaged::{around_the_limit, damaged, drawn, huge_images, refused_with, too_many};
-pub use damaged::{DAMAGES, FOR_BOTH_LAYOUTS};
+pub use damaged::{AroundTheLimit, DAMAGES, FOR_BOTH_LAYOUTS};
 pub use either::accepted_by_both;
 pub use inputs::{
     counter_pair, counters, field_offset, flag, given_columns, given_files, record_number,

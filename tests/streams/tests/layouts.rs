@@ -166,7 +166,7 @@ fn the_sizes_around_the_limit_are_on_their_sides_of_it() {
             };
             detail.size(rules)
         };
-        let (within, over) = around_the_limit(rules);
+        let AroundTheLimit { within, over } = around_the_limit(rules);
         let room = within.map(|sizes| LARGEST_MESSAGE - size(sizes));
         assert!(room.iter().all(|&bytes| bytes < 24), "{room:?}");
         let past = over.map(|sizes| size(sizes) - LARGEST_MESSAGE);
@@ -176,7 +176,8 @@ fn the_sizes_around_the_limit_are_on_their_sides_of_it() {
         );
     }
     // What just fits packed is too large aligned.
-    assert_eq!(around_the_limit(PACKED).0, around_the_limit(ALIGNED).1);
+    let (packed, aligned) = (around_the_limit(PACKED), around_the_limit(ALIGNED));
+    assert_eq!(packed.within, aligned.over);
 }
 
 #[test]

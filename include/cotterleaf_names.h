@@ -6,9 +6,9 @@
 #include <stdint.h>
 
 #define COTTERLEAF_VERSION_MAJOR 0
-#define COTTERLEAF_VERSION_MINOR 2
+#define COTTERLEAF_VERSION_MINOR 3
 #define COTTERLEAF_VERSION_PATCH 0
-#define COTTERLEAF_VERSION "0.2.0"
+#define COTTERLEAF_VERSION "0.3.0"
 
 /* The numbers of refusal, and 0 where nothing is refused. mrd_refusal_text says what to do about each. */
 typedef enum mrd_refusal {
@@ -42,7 +42,7 @@ static inline const char *mrd_refusal_text(uint32_t refusal)
         "nothing is refused",
         "one byte remains where an id is due; have the rest of the recording sent again, or cut this byte off",
         "the id names no kind of message; check that this is an MRD stream and that nothing was lost before this message",
-        "the stream ends inside the fixed part of the message, or a header to be written has another length than its kind's; have the message sent again whole, or give 340, 198, 32 or no header bytes as the kind asks",
+        "the stream ends inside the fixed part of the message, or a header to be written has another length than its kind's; have the message sent again whole, or give 340, 198, 32 (of an aligned waveform 40) or no header bytes as the kind asks",
         "the version in the header is not 1; have the sender write version 1 of the header",
         "a configuration name has no zero in its 1,024 bytes, or one to be written is too long or holds a zero; give a name of at most 1,023 bytes without a zero",
         "more channels are active than available; correct the two channel numbers of the acquisition header",

@@ -57,7 +57,7 @@ pub(crate) const SENTENCES: [(&str, &str); 20] = [
     ),
     (
         "the stream ends inside the fixed part of the message, or a header to be written has another length than its kind's",
-        "have the message sent again whole, or give 340, 198, 32 or no header bytes as the kind asks",
+        "have the message sent again whole, or give 340, 198, 32 (of an aligned waveform 40) or no header bytes as the kind asks",
     ),
     (
         "the version in the header is not 1",

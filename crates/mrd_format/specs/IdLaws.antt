@@ -41,7 +41,7 @@ GoesBy l Acquisition = Unit {0}
 GoesBy l Image = Unit {0}
 GoesBy l (Waveform k) = k ≡ l
 
-known-row : (rules : Rules) (id : ℕ) {k : Kind} → identified rules id ≡ Known k → GoesBy (rules .layout) k × (id ≡ idOf k)
+pub known-row : (rules : Rules) (id : ℕ) {k : Kind} → identified rules id ≡ Known k → GoesBy (rules .layout) k × (id ≡ idOf k)
 unfolding identified
 known-row rules id e = lookup-row (GoesBy (rules .layout)) (kinds rules) (tt, (tt, (tt, (tt, (tt, (tt, (tt, (refl, tt)))))))) id e
 

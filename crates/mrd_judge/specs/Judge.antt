@@ -12,6 +12,8 @@ use Rattle.mrd_logic.specs.Checks.{first, unless}
 use Rattle.mrd_cursor.specs.declared.cursor.Cursor.{Cursor}
 use Rattle.mrd_judge.specs.declared.stages.Judgement.{Judgement}
 use Rattle.mrd_judge.specs.declared.stages.Judgement
+use Rattle.mrd_judge.specs.declared.sort.Sort.{Sort}
+use Rattle.mrd_judge.specs.Sorts.{sortOf}
 use Rattle.mrd_judge.specs.Stages.{fixedChecks, sizeChecks, checksAs}
 
 -- a refusal's number, or the kind and size of a message that passed every check
@@ -19,10 +21,19 @@ pub data Judged : Type 0 where
   faulty : ℕ → Judged
   whole : Kind → ℕ → Judged
 
+-- the same without the layout of a waveform's header, which the rules say
+pub data Sorted : Type 0 where
+  refusedBy : ℕ → Sorted
+  passes : Sort → ℕ → Sorted
+
+abbrev pub sorted : Judged → Sorted
+sorted (faulty n) = refusedBy n
+sorted (whole k z) = passes (sortOf k) z
+
 -- what each case of the enum says
-abbrev pub judgementMeaning : Judgement → Judged
-judgementMeaning (Judgement.Whole z k) = whole k z
-judgementMeaning (Judgement.Faulty n) = faulty n
+abbrev pub judgementMeaning : Judgement → Sorted
+judgementMeaning (Judgement.Whole o z) = passes o z
+judgementMeaning (Judgement.Faulty n) = refusedBy n
 
 unfoldable pub judgeAs : Identified → Cursor → List ℕ → Judged
 judgeAs Unknown c t = faulty (first (checksAs Unknown c t))

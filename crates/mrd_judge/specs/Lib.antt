@@ -1,3 +1,4 @@
+pub mod Sorts
 pub mod Stages
 pub mod Judge
 pub mod WholeLaws

@@ -22,11 +22,14 @@ use Rattle.mrd_cursor.specs.declared.cursor.Cursor.{Cursor}
 use Rattle.mrd_cursor.specs.Order.{allowed}
 use Rattle.mrd_cursor.specs.Cursors.{maxMessages}
 use Rattle.mrd_judge.specs.Stages.{frontChecks, idChecks, fixedChecks, sizeChecks, checksAs}
-use Rattle.mrd_judge.specs.Judge.{faulty, whole, judgeAs, judge}
+use Rattle.mrd_judge.specs.Judge.{Judged, faulty, whole, passes, refusedBy, sorted, judgeAs, judge}
 use Rattle.mrd_logic.specs.Every.{Every, every-split, every-append}
 use Rattle.mrd_cursor.specs.OrderLaws.{allowed-open}
 use Rattle.mrd_logic.specs.CheckLaws.{numbered, first-passed, passed-first, first-fault, fault-first, numbered-append, fault-not-zero, unless-refused, unless-passed, unless-fault}
 use Rattle.mrd_format.specs.OwnCheckLaws.{own-numbered}
+use Rattle.mrd_format.specs.IdLaws.{known-row}
+use Rattle.mrd_judge.specs.declared.sort.Sort.{Sort}
+use Rattle.mrd_judge.specs.Sorts.{sortOf, kindIn, kind-of-sort}
 
 -- the message at the front of t, of kind k and size z, passes every check where the walk is at c
 pub record WholeAt (rules : Rules) (c : Cursor) (t : List ℕ) (k : Kind) (z : ℕ) : Type 0 where
@@ -96,6 +99,25 @@ judge-whole rules c t {k} {z} e = by-id (identified rules (idAt t)) refl e
         let kind : j ≡ k = cc (u .1) in
         let size : sizeOf j (fixedPart j t) ≡ z = cc (u .1) in
         rw (← kind, ← size) (passed-facts rules c t j n (first-passed (checksAs (Known j) c t) (all-numbered (Known j) c t) (u .0)))
+
+-- what is found whole is of the kind that the rules make of its sort
+pub found-whole : (rules : Rules) (c : Cursor) (t : List ℕ) {o : Sort} {z : ℕ} → passes o z ≡ sorted (judge rules c t) → judge rules c t ≡ whole (kindIn rules o) z
+found-whole rules c t {o} {z} e = by (judge rules c t) refl e
+  where
+    by : (j : Judged) → judge rules c t ≡ j → passes o z ≡ sorted j → j ≡ whole (kindIn rules o) z
+    by (faulty f) q e = let n : _≡_ {A = ℕ} 0 1 = cc in absurd (omega arith)
+    by (whole k y) q e =
+        let sort : o ≡ sortOf k = cc in
+        let size : y ≡ z = cc in
+        let row = known-row rules (idAt t) (judge-whole rules c t q .known) .0 in
+        ap (whole k) size ∙ ap (λ (j : Kind). whole j z) (sym (ap (kindIn rules) sort ∙ kind-of-sort rules k row))
+
+pub found-faulty : (rules : Rules) (c : Cursor) (t : List ℕ) {f : ℕ} → refusedBy f ≡ sorted (judge rules c t) → judge rules c t ≡ faulty f
+found-faulty rules c t {f} e = by (judge rules c t) e
+  where
+    by : (j : Judged) → refusedBy f ≡ sorted j → j ≡ faulty f
+    by (faulty n) e = cc
+    by (whole k y) e = let n : _≡_ {A = ℕ} 0 1 = cc in absurd (omega arith)
 
 -- what passes every check is judged whole
 pub whole-judge : {rules : Rules} (c : Cursor) (t : List ℕ) {k : Kind} {z : ℕ} → WholeAt rules c t k z → judge rules c t ≡ whole k z

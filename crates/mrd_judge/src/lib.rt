@@ -2,8 +2,10 @@
 //
 // A message is judged by its fixed part and by how many bytes there are: no payload byte is read. Assumes
 // nothing.
+mod sort;
 mod stages;
 
+pub use sort::Sort;
 pub use stages::Judgement;
 pub use stages::MAX_MESSAGES;
 pub use stages::fixed_part;

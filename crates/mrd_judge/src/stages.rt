@@ -7,7 +7,8 @@ ghost use Rattle.mrd_format.specs.Kinds.{fixedSize};
 ghost use Rattle.mrd_format.specs.Message.{fixedPart};
 ghost use Rattle.mrd_logic.specs.Checks.{first};
 ghost use Rattle.mrd_judge.specs.Stages.{frontChecks, idChecks, fixedChecks, sizeChecks};
-ghost use Rattle.mrd_judge.specs.Judge.{judgementMeaning, judge, judgeBody};
+ghost use Rattle.mrd_judge.specs.Judge.{judgementMeaning, sorted, judge, judgeBody};
+use crate::sort::Sort;
 use mrd_cursor::Cursor;
 use mrd_format::Identified;
 use mrd_format::Kind;
@@ -21,9 +22,8 @@ pub const MAX_MESSAGES: usize = 1000000;
 
 // What judging a message finds. It is small, so that a check keeps it, and its cursor, in registers.
 pub enum Judgement {
-    // Every check passed: its size and its kind. The kind comes last, where no case has its number: as it is
-    // stored whole it is read back whole, which is faster.
-    Whole(usize, Kind),
+    // Every check passed: the sort of its kind, and its size.
+    Whole(Sort, usize),
     // The number of the first check that refuses.
     Faulty(u8),
 }
@@ -31,7 +31,7 @@ pub enum Judgement {
 // The message at the front of t, which is not empty.
 pub fn judge(rules: Rules, c: Cursor, t: &[u8]) -> Judgement
     requires { ⌜ 0 < length (now t) ⌝ }
-    ensures { λ r. ⌜ judgementMeaning r ≡ judge rules c (now (t .entry)) ⌝ }
+    ensures { λ r. ⌜ judgementMeaning r ≡ sorted (judge rules c (now (t .entry))) ⌝ }
 {
     let front = judge_front(c, t);
     if front != 0 {
@@ -88,7 +88,7 @@ pub fn judge_id(c: Cursor, identified: Identified) -> u8
 // with 0.
 fn judge_body(kind: Kind, t: &[u8]) -> Judgement
     requires { ⌜ 2 ≤ length (now t) ⌝ }
-    ensures { λ r. ⌜ judgementMeaning r ≡ judgeBody kind (now (t .entry)) ⌝ }
+    ensures { λ r. ⌜ judgementMeaning r ≡ sorted (judgeBody kind (now (t .entry))) ⌝ }
 {
     let fixed = judge_fixed(kind, t);
     if fixed != 0 {
@@ -101,7 +101,7 @@ fn judge_body(kind: Kind, t: &[u8]) -> Judgement
     if t.len() < end {
         return Judgement::Faulty(judge_size(end, t));
     }
-    Judgement::Whole(end, kind)
+    Judgement::Whole(Sort::of(kind), end)
 }
 
 // The fixed part: 3 where it does not fit, else 4 to 9.

@@ -38,7 +38,8 @@ pub(crate) fn put_messages(rules: Rules, s: &[u8], out: &mut [u8])
         }
         let judgement = judge(rules, c, &s[start..]);
         match judgement {
-            Judgement::Whole(size, kind) => {
+            Judgement::Whole(sort, size) => {
+                let kind = sort.kind(rules);
                 let end = start + size;
                 put_message(kind, &s[start..end], &mut out[start..end]);
                 c = c.after(kind, size);

@@ -36,7 +36,10 @@ pub fn next(rules: Rules, c: Cursor, s: &[u8]) -> Step
     }
     let judgement = judge(rules, c, &s[start..]);
     match judgement {
-        Judgement::Whole(size, kind) => yields(c, kind, fixed_part(kind, &s[start..]), size),
+        Judgement::Whole(sort, size) => {
+            let kind = sort.kind(rules);
+            yields(c, kind, fixed_part(kind, &s[start..]), size)
+        }
         Judgement::Faulty(number) => Step::End(refused(c, number)),
     }
 }
@@ -101,8 +104,8 @@ pub fn check_from(rules: Rules, c: Cursor, s: &[u8]) -> Checked
         }
         let judgement = judge(rules, c, &s[start..]);
         match judgement {
-            Judgement::Whole(size, kind) => {
-                c = c.after(kind, size);
+            Judgement::Whole(sort, size) => {
+                c = c.after(sort.kind(rules), size);
             }
             Judgement::Faulty(number) => {
                 return refused(c, number);

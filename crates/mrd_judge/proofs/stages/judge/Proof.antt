@@ -4,7 +4,7 @@ use mathlib.Core.Path.{sym, ap, _∙_}
 use borrow.Author.Needs.{needs}
 use denote.Ref.{now}
 use Rattle.mrd_format.specs.Kinds.{identified}
-use Rattle.mrd_judge.specs.Judge.{judge}
+use Rattle.mrd_judge.specs.Judge.{judge, sorted}
 use Rattle.mrd_judge.specs.JudgeLaws as laws
 use Rattle.mrd_judge.proofs.stages.judge.Statement.{statement}
 use Rattle.mrd_judge.proofs.stages.judge.Tie as tie
@@ -13,7 +13,7 @@ returns : tie.Need-returns
 unfolding judge
 returns c =
     let a = c .before .before .before .args in
-    sym (laws.front-stops _ (a .c) (now (a .t)) (sym (c .before .judge-front .ensures)) (c .if1 .taken))
+    ap sorted (sym (laws.front-stops _ (a .c) (now (a .t)) (sym (c .before .judge-front .ensures)) (c .if1 .taken)))
 
 read-u16-requires : tie.Need-read-u16-requires
 read-u16-requires c κs =
@@ -28,8 +28,8 @@ returns-2 c =
     let test = id .before .before .before in
     let a = test .before .before .before .args in
     rw (ap (identified (a .rules)) (sym (id .before .before .read-u16 .ensures)) ∙ sym (id .before .of-id .ensures) ∙ known .identified .given .1)
-    (sym (laws.id-stops _ (a .c) (now (a .t)) (sym (test .before .judge-front .ensures) ∙ test .if1 .left)
-    (sym (rw (known .identified .given .1) at (id .judge-id .ensures))) (c .if2 .taken)))
+    (ap sorted (sym (laws.id-stops _ (a .c) (now (a .t)) (sym (test .before .judge-front .ensures) ∙ test .if1 .left)
+    (sym (rw (known .identified .given .1) at (id .judge-id .ensures))) (c .if2 .taken))))
 
 judge-body-requires : tie.Need-judge-body-requires
 judge-body-requires c κs =
@@ -45,8 +45,8 @@ returns-3 c =
     let test = id .before .before .before in
     let a = test .before .before .before .args in
     rw (ap (identified (a .rules)) (sym (id .before .before .read-u16 .ensures)) ∙ sym (id .before .of-id .ensures) ∙ known .identified .given .1)
-    (c .judge-body .ensures ∙ sym (laws.id-passed _ (a .c) (now (a .t)) (sym (test .before .judge-front .ensures) ∙ test .if1 .left)
-    (sym (rw (known .identified .given .1) at (id .judge-id .ensures)) ∙ c .before .if2 .left)))
+    (c .judge-body .ensures ∙ ap sorted (sym (laws.id-passed _ (a .c) (now (a .t)) (sym (test .before .judge-front .ensures) ∙ test .if1 .left)
+    (sym (rw (known .identified .given .1) at (id .judge-id .ensures)) ∙ c .before .if2 .left))))
 
 returns-4 : tie.Need-returns-4
 unfolding judge
@@ -55,8 +55,8 @@ returns-4 c =
     let test = id .before .before .before in
     let a = test .before .before .before .args in
     rw (ap (identified (a .rules)) (sym (id .before .before .read-u16 .ensures)) ∙ sym (id .before .of-id .ensures) ∙ c .enum-told .given .1)
-    (sym (laws.unknown-stops (a .c) (now (a .t)) (sym (test .before .judge-front .ensures) ∙ test .if1 .left)
-    (sym (rw (c .enum-told .given .1) at (id .judge-id .ensures)))))
+    (ap sorted (sym (laws.unknown-stops (a .c) (now (a .t)) (sym (test .before .judge-front .ensures) ∙ test .if1 .left)
+    (sym (rw (c .enum-told .given .1) at (id .judge-id .ensures))))))
 
 pub judge-spec : {M : Type 1} → statement M
 judge-spec =

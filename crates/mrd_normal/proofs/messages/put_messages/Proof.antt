@@ -3,13 +3,12 @@
 -- Assumes nothing.
 use Prim.Native.Nat.{_+_, _-_, _≤_}
 use native.Mathlib.Omega.{arith}
-use mathlib.Core.Path.{_≡_, sym, ap, _∙_}
 use borrow.Author.Needs.{needs}
 use denote.Ref.{now}
 use lib.ListN.{length, take, drop}
 use Rattle.mrd_numbers.specs.Stored.{part-from}
 use Rattle.mrd_cursor.specs.Cursors.{after}
-use Rattle.mrd_judge.specs.Judge.{judgementMeaning, judge, faulty}
+use Rattle.mrd_judge.specs.WholeLaws as judged
 use Rattle.mrd_stream.specs.NextLaws as laws
 use Rattle.mrd_stream.specs.StepLaws.{Passes, step-yields, on-less}
 use Rattle.mrd_stream.specs.Places.{located}
@@ -34,30 +33,30 @@ returns c =
     let loop = c .before .loop in
     finish (loop .inv) (c .if1 .taken) (laws.step-ended _ (loop .c) (now (c .before .before .before .before .before .args .s)) (c .if1 .taken))
 
--- the message that is due is whole: what is known of it once it was judged
-passes : (c : tie.After-known-told Inv-loop μ-loop) →
-    let loop = c .before .before .before .before .before .before .loop in
-    let rules = c .before .before .before .before .before .before .before .before .before .before .args .rules in
-    let s = now (c .before .before .before .before .before .before .before .before .before .before .args .s) in
-    let given = c .before .judgement .given .0 in
-    Passes rules (loop .c) s (located (loop .c) (given .1 .0) (take (given .0) (drop (loop .c .start) s))) (after (loop .c) (given .1 .0) (given .0))
+-- the message that is due is whole, of the kind that the rules make of its sort: what is known of it then
+passes : (c : tie.After-kind Inv-loop μ-loop) →
+    let loop = c .before .before .before .before .before .before .before .loop in
+    let a = c .before .before .before .before .before .before .before .before .before .before .before .args in
+    let s = now (a .s) in
+    let size = c .before .before .judgement .given .0 .1 .0 in
+    Passes (a .rules) (loop .c) s (located (loop .c) (c .kind .result) (take size (drop (loop .c .start) s))) (after (loop .c) (c .kind .result) size)
 passes c =
-    let test = c .before .before .before .before .before in
+    let test = c .before .before .before .before .before .before in
     let loop = test .before .loop in
-    let rules = test .before .before .before .before .before .args .rules in
-    let s = now (test .before .before .before .before .before .args .s) in
-    let due = ap (judge rules (loop .c)) (sym (part-from (loop .c .start) s)) ∙ sym (c .before .before .before .judge .ensures) ∙
-    ap judgementMeaning (c .before .judgement .given .1) in
-    step-yields rules (loop .c) s (laws.step-whole rules (loop .c) s (test .if1 .left) due)
+    let a = test .before .before .before .before .before .args in
+    let s = now (a .s) in
+    let told = rw part-from at (rw (c .before .before .judgement .given .1) at (c .before .before .before .before .judge .ensures)) in
+    let due = rw (← c .kind .ensures) at (judged.found-whole (a .rules) (loop .c) (drop (loop .c .start) s) told) in
+    step-yields (a .rules) (loop .c) s (laws.step-whole (a .rules) (loop .c) s (test .if1 .left) due)
 
 -- it ends in the stream, and so in the output
-ends : (c : tie.After-known-told Inv-loop μ-loop) →
-    let loop = c .before .before .before .before .before .before .loop in
-    let s = now (c .before .before .before .before .before .before .before .before .before .before .args .s) in
-    let end = loop .c .start + c .before .judgement .given .0 .0 in
+ends : (c : tie.After-kind Inv-loop μ-loop) →
+    let loop = c .before .before .before .before .before .before .before .loop in
+    let s = now (c .before .before .before .before .before .before .before .before .before .before .before .args .s) in
+    let end = loop .c .start + c .before .before .judgement .given .0 .1 .0 in
     (end ≤ length s) × (length s ≤ length (loop .out))
 ends c =
-    let inv = c .before .before .before .before .before .before .loop .inv in
+    let inv = c .before .before .before .before .before .before .before .loop .inv in
     (passes c .within, omega (arith, inv .room .fits, same-size inv))
 
 add-end : tie.Need-add-end Inv-loop μ-loop
@@ -72,11 +71,11 @@ part-put-message-end-2 c = let e = ends (c .before) in omega (arith, e)
 put-message-requires : tie.Need-put-message-requires Inv-loop μ-loop
 put-message-requires c κs =
     let told = c .before .before in
-    let loop = told .before .before .before .before .before .before .loop in
-    let s = now (told .before .before .before .before .before .before .before .before .before .before .args .s) in
+    let loop = told .before .before .before .before .before .before .before .loop in
+    let s = now (told .before .before .before .before .before .before .before .before .before .before .before .args .s) in
     let e = ends told in (
       passed-message (passes told),
-      same-room (loop .c .start) (loop .c .start + told .before .judgement .given .0 .0) s (loop .out) (e .0) (omega (arith, e)),
+      same-room (loop .c .start) (loop .c .start + told .before .before .judgement .given .0 .1 .0) s (loop .out) (e .0) (omega (arith, e)),
     )
 
 after-requires : tie.Need-after-requires Inv-loop μ-loop
@@ -88,14 +87,14 @@ after-requires c κs =
 loop-less : tie.Need-loop-less Inv-loop μ-loop
 loop-less c =
     let told = c .before .before .before .before .before .before in
-    let s = now (told .before .before .before .before .before .before .before .before .before .before .args .s) in
+    let s = now (told .before .before .before .before .before .before .before .before .before .before .before .args .s) in
     rw (c .after .ensures) (on-less s (passes told))
 
 loop-again : tie.Need-loop-again Inv-loop μ-loop
 loop-again c =
     let told = c .before .before .before .before .before .before in
     rw (c .after .ensures)
-    (next (told .before .before .before .before .before .before .loop .inv) (passes told) (c .before .before .before .put-message .ensures))
+    (next (told .before .before .before .before .before .before .before .loop .inv) (passes told) (c .before .before .before .put-message .ensures))
 
 -- no message is refused
 never : (c : tie.After-enum-told Inv-loop μ-loop) → ⊥
@@ -104,8 +103,8 @@ never c =
     let loop = test .before .loop in
     let rules = test .before .before .before .before .before .args .rules in
     let s = now (test .before .before .before .before .before .args .s) in
-    let due : judge rules (loop .c) (drop (loop .c .start) s) ≡ faulty (c .enum-told .given .0 .0) =
-    ap (judge rules (loop .c)) (sym (part-from (loop .c .start) s)) ∙ sym (c .before .before .judge .ensures) ∙ ap judgementMeaning (c .enum-told .given .1) in
+    let told = rw part-from at (rw (c .enum-told .given .1) at (c .before .before .judge .ensures)) in
+    let due = judged.found-faulty rules (loop .c) (drop (loop .c .start) s) told in
     never-refused (loop .inv) (laws.step-faulty rules (loop .c) s (test .if1 .left) due)
 
 same-length-2 : tie.Need-same-length-2 Inv-loop μ-loop
@@ -129,6 +128,7 @@ put-messages-spec =
     (λ c. search needs)
     (λ c κs. search needs)
     (λ c. search needs)
+    (λ c κs. search needs)
     add-end
     (λ c. omega arith)
     (λ c. omega arith)

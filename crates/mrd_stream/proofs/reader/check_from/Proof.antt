@@ -2,7 +2,7 @@
 -- bytes left.
 -- Assumes nothing.
 use Prim.Native.Nat.{_-_}
-use mathlib.Core.Path.{_≡_, refl, sym, ap, _∙_}
+use mathlib.Core.Path.{_≡_, refl, _∙_}
 use borrow.Author.Needs.{needs}
 use denote.Ref.{now}
 use lib.ListN.{length, drop}
@@ -10,7 +10,8 @@ use Rattle.mrd_numbers.specs.Stored.{part-from}
 use Rattle.mrd_stream.specs.NextLaws as laws
 use Rattle.mrd_stream.specs.Walk.{from, verdict}
 use Rattle.mrd_stream.specs.StepLaws.{kept-next, kept-end, on-less, step-yields}
-use Rattle.mrd_judge.specs.Judge.{judgementMeaning, judge, whole, faulty}
+use Rattle.mrd_judge.specs.Judge.{judge, whole}
+use Rattle.mrd_judge.specs.WholeLaws as judged
 use Rattle.mrd_stream.proofs.reader.check_from.Statement.{statement}
 use Rattle.mrd_stream.proofs.reader.check_from.Tie as tie
 
@@ -47,21 +48,20 @@ judge-requires c κs = search needs
 enum-known-judgement : tie.Need-enum-known-judgement Inv-loop μ-loop
 enum-known-judgement c = search needs
 
--- the message that is due is whole
-found-whole : (c : tie.After-known-told Inv-loop μ-loop) →
-    let loop = c .before .before .before .before .before .before .loop in
-    let s = now (c .before .before .before .before .before .before .before .before .args .s) in
-    let given = c .before .judgement .given .0 in
-    judge (c .before .before .before .before .before .before .before .before .args .rules) (loop .c) (drop (loop .c .start) s) ≡ whole (given .1 .0) (given .0)
+-- the message that is due is whole, of the kind that the rules make of its sort
+found-whole : (c : tie.After-kind Inv-loop μ-loop) →
+    let loop = c .before .before .before .before .before .before .before .loop in
+    let a = c .before .before .before .before .before .before .before .before .before .args in
+    judge (a .rules) (loop .c) (drop (loop .c .start) (now (a .s))) ≡ whole (c .kind .result) (c .before .before .judgement .given .0 .1 .0)
 found-whole c =
-    let loop = c .before .before .before .before .before .before .loop in
-    let s = now (c .before .before .before .before .before .before .before .before .args .s) in
-    ap (judge (c .before .before .before .before .before .before .before .before .args .rules) (loop .c)) (sym (part-from (loop .c .start) s)) ∙ sym (c .before .before .before .judge .ensures) ∙
-    ap judgementMeaning (c .before .judgement .given .1)
+    let loop = c .before .before .before .before .before .before .before .loop in
+    let a = c .before .before .before .before .before .before .before .before .before .args in
+    let told = rw part-from at (rw (c .before .before .judgement .given .1) at (c .before .before .before .before .judge .ensures)) in
+    rw (c .kind .ensures) (judged.found-whole (a .rules) (loop .c) (drop (loop .c .start) (now (a .s))) told)
 
 after-requires : tie.Need-after-requires Inv-loop μ-loop
 after-requires c κs =
-    let test = c .before .before .before .before .before in
+    let test = c .before .before .before .before .before .before in
     let loop = test .before .loop in
     let s = now (test .before .before .before .args .s) in
     let size = laws.whole-ends _ (loop .c) s (test .if1 .left) (found-whole c) in
@@ -69,14 +69,14 @@ after-requires c κs =
 
 loop-less : tie.Need-loop-less Inv-loop μ-loop
 loop-less c =
-    let test = c .before .before .before .before .before .before in
+    let test = c .before .before .before .before .before .before .before in
     let loop = test .before .loop in
     let s = now (test .before .before .before .args .s) in
     rw (c .after .ensures) (on-less s (step-yields _ (loop .c) s (laws.step-whole _ (loop .c) s (test .if1 .left) (found-whole (c .before)))))
 
 loop-again : tie.Need-loop-again Inv-loop μ-loop
 loop-again c =
-    let test = c .before .before .before .before .before .before in
+    let test = c .before .before .before .before .before .before .before in
     let loop = test .before .loop in
     let s = now (test .before .before .before .args .s) in
     rw (c .after .ensures)
@@ -91,14 +91,13 @@ refused-requires c κs = search needs
 
 returns-2 : tie.Need-returns-2 Inv-loop μ-loop
 returns-2 c =
-    let judged = c .before .before .before .before in
-    let test = judged .before .before in
+    let judge-call = c .before .before .before .before in
+    let test = judge-call .before .before in
     let loop = test .before .loop in
-    let s = now (test .before .before .before .args .s) in
-    let due : judge (test .before .before .before .args .rules) (loop .c) (drop (loop .c .start) s) ≡ faulty (c .before .before .judgement2 .given .0 .0) =
-    ap (judge (test .before .before .before .args .rules) (loop .c)) (sym (part-from (loop .c .start) s)) ∙ sym (judged .judge .ensures) ∙ ap judgementMeaning
-    (c .before .before .judgement2 .given .1) in
-    c .refused .ensures ∙ kept-end _ verdict s (loop .c) (loop .inv) (laws.step-faulty _ (loop .c) s (test .if1 .left) due)
+    let a = test .before .before .before .args in
+    let told = rw part-from at (rw (c .before .before .judgement2 .given .1) at (judge-call .judge .ensures)) in
+    c .refused .ensures ∙ kept-end _ verdict (now (a .s)) (loop .c) (loop .inv) (laws.step-faulty _ (loop .c) (now (a .s)) (test .if1 .left)
+    (judged.found-faulty (a .rules) (loop .c) (drop (loop .c .start) (now (a .s))) told))
 
 pub check-from-spec : {M : Type 1} → statement M
 check-from-spec =
@@ -114,6 +113,7 @@ check-from-spec =
     part-judge-end
     judge-requires
     enum-known-judgement
+    (λ c κs. search needs)
     after-requires
     loop-less
     loop-again

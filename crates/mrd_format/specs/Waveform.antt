@@ -63,6 +63,11 @@ offsetsOf l =
       «waveform_id» = offset l waveform-id;
     }
 
+-- the filler between the version and the flags
+abbrev pub frontFiller : Layout → ℕ
+frontFiller Packed = 0
+frontFiller Aligned = 6
+
 abbrev pub headerBytes : Layout → ℕ
 headerBytes Packed = 32
 headerBytes Aligned = 40

@@ -20,7 +20,7 @@ use Rattle.mrd_format.specs.Elements.{ElementType, Run, width, one, elem
 use Rattle.mrd_format.specs.Headers.{runSize, runBytes, settled}
 use Rattle.mrd_format.specs.HeaderLaws.{waveform-lawful, elements-lie, SameFields, values-same, settled-same, settled-fields, settled-long, fields-settled, whole-settled}
 use Rattle.mrd_format.specs.Parts.{Part}
-use Rattle.mrd_format.specs.Waveform.{Field, version, flags, measurement-uid, scan-counter, time-stamp, number-of-samples, channels, sample-time-us, waveform-id, typeOf, offset, offsetsOf, headerBytes, run, table, cells, cleared, get, checks, bodySize}
+use Rattle.mrd_format.specs.Waveform.{Field, version, flags, measurement-uid, scan-counter, time-stamp, number-of-samples, channels, sample-time-us, waveform-id, typeOf, offset, offsetsOf, frontFiller, headerBytes, run, table, cells, cleared, get, checks, bodySize}
 use Rattle.mrd_format.specs.Message as message
 use Rattle.mrd_format.specs.Message.{idAt, fixedPart, sizeOf}
 use Rattle.mrd_format.specs.MessageLaws.{id-kept}
@@ -88,11 +88,7 @@ offset-in l f e = ap (λ (w : WaveformOffsets). offsetIn w f) e ∙ by f
     by sample-time-us = refl
     by waveform-id = refl
 
--- the filler between the version and the flags, by which all offsets of the layouts go
-abbrev pub frontFiller : Layout → ℕ
-frontFiller Packed = 0
-frontFiller Aligned = 6
-
+-- every field but the version stands so far on as the filler in front of the flags takes
 pub offsets-shifted : (l : Layout) → offsetsOf l ≡
     record {
       version = 0;

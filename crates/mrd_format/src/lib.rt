@@ -1,6 +1,6 @@
-// The format of one message: the eight kinds, the numbers of refusal, the rules that a caller chooses, the
-// shape of a message, what a channel mask says, and sizes that cannot wrap. The header tables, the checks and the rest of the format's
-// definitions stand in specs/.
+// The format of one message: the eight kinds, the numbers of refusal, the rules that a caller says of a stream,
+// the shape of a message, what a channel mask says, and sizes that cannot wrap. The header tables, the checks
+// and the rest of the format's definitions stand in specs/.
 //
 // Assumes nothing.
 mod kind;

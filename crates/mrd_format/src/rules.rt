@@ -1,7 +1,6 @@
 // What a caller says of a whole stream: nothing in a stream tells it.
 ghost use mathlib.Core.Path.{_≡_};
-ghost use Rattle.mrd_format.specs.Waveform.{headerBytes, offsetsOf};
-ghost use Rattle.mrd_format.specs.WaveformLaws.{frontFiller};
+ghost use Rattle.mrd_format.specs.Waveform.{headerBytes, offsetsOf, frontFiller};
 ghost use Prim.Native.Nat.{_≤_};
 
 // Where the elements of a waveform's header stand.

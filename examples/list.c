@@ -5,8 +5,8 @@
 #include "read_whole.h"
 #include <cotterleaf.h>
 
-/* Packed waveform headers; {true} is for aligned ones. Nothing in a stream tells which it has. */
-static const mrd_rules rules = {false};
+/* Packed waveform headers, and texts of any bytes. Nothing in a stream tells the rules that it goes by. */
+static const mrd_rules rules = {.aligned_waveforms = false, .strict_text = false};
 
 static int list(const uint8_t *stream, size_t length)
 {

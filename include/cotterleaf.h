@@ -6,8 +6,8 @@
  * Every function takes any bytes and any numbers and ends with an answer; none asks its caller to check first,
  * allocates, or keeps what it is given. Each answer is a struct whose `refusal` is 0 (MRD_OK) or the number of
  * refusal; mrd_refusal_text says what is wrong and what to do. `record` and `byte` say where a stream is refused
- * (refusals 1 to 13 and 19) and are 0 otherwise; what an answer lacks is 0. Only the outputs `out`, `starts`, `ids`
- * and `counters` of the writing functions are written to, and a refusal writes none.
+ * (refusals 1 to 13, 19 and 21) and are 0 otherwise; what an answer lacks is 0. Only the outputs `out`, `starts`,
+ * `ids` and `counters` of the writing functions are written to, and a refusal writes none.
  *
  * What is assumed of a caller. A slice is a pointer and the number of its elements: so many can be read there (of
  * an output: written), and the pointer is aligned for their type; an empty slice may have any pointer, NULL too.
@@ -24,7 +24,8 @@
  * index that is given is compared with all of it: it shows that stream and index belong together, and makes no
  * question faster. For many records walk once: mrd_next, mrd_view_at and mrd_field_at take time that does not grow
  * with the stream. For many records in any order have mrd_columns_match compare columns once; mrd_cursor_for then
- * makes the cursor of each.
+ * makes the cursor of each. In the strict profile each message that is walked, or stood at, has its text or attributes
+ * read whole, and a name; in the plain one no text and no attributes are read.
  *
  * The library is for x86-64 and its usual calling convention (System V) alone. */
 #ifndef COTTERLEAF_H
@@ -44,14 +45,22 @@ extern "C" {
 /* ---- What the caller says of a stream ---- */
 
 /* The rules by which a stream is read or written, the same for the whole of it. Nothing in a stream tells them: the
- * caller knows them from where the stream comes. A stream may be accepted under both layouts, with other records; a
- * cursor, an index and a normal form belong to a stream under one of them.
+ * caller knows the layout from where the stream comes, and the profile from where it goes. `{0}`, or `{false}`, is
+ * packed and plain.
  *
- * `{false}`, or `{0}`, is for packed waveform headers, 32 bytes, whose fields adjoin (MRD_WAVEFORM_..). `{true}` is for
- * aligned ones, 40 bytes (MRD_ALIGNED_WAVEFORM_..), of which bytes 2 to 7, 38 and 39 are filler: reading does not look
- * at them, no field starts there, they are no part of the record, and the normal form and the writer make them zero. */
+ * The layout. Where `aligned_waveforms` is false, waveform headers are packed, 32 bytes, and their fields adjoin
+ * (MRD_WAVEFORM_..). Where it is true they are aligned, 40 bytes (MRD_ALIGNED_WAVEFORM_..), of which bytes 2 to 7, 38
+ * and 39 are filler: reading does not look at them, no field starts there, they are no part of the record, and the
+ * normal form and the writer make them zero. A stream may be accepted under both layouts, with other records; a cursor,
+ * an index and a normal form belong to a stream under one of them.
+ *
+ * The profile. Where `strict_text` is false, the plain profile, a text may have any bytes. Where it is true, the strict
+ * one, names (the bytes before the zero), configuration texts, header texts, texts and the attributes of images must
+ * each be well-formed UTF-8 by RFC 3629: 21 where one is not and nothing else is wrong with its message. A stream that
+ * the strict profile accepts is accepted by the plain one too, with the same records, index and normal form. */
 typedef struct {
     bool aligned_waveforms;
+    bool strict_text;
 } mrd_rules;
 
 /* ---- Is it a stream, and where are its records? ---- */
@@ -302,6 +311,7 @@ mrd_matched mrd_columns_match(mrd_rules rules, const uint8_t *stream, size_t str
 /* Writes one message into `out` from `position` on, and answers the position after it. The header is that
  * of the kind, 340, 198 or 32 bytes (of an aligned waveform 40), or empty; parts that the kind lacks are empty.
  * An image's header is written with the length of its attributes, whatever it holds there, and filler as zero.
+ * In the strict profile name, text and attributes must be UTF-8: 21, after 18 and before 14.
  * Order and count are not judged: mrd_check judges the whole stream. */
 typedef struct {
     mrd_refusal refusal;

@@ -6,9 +6,9 @@
 #include <stdint.h>
 
 #define COTTERLEAF_VERSION_MAJOR 0
-#define COTTERLEAF_VERSION_MINOR 3
+#define COTTERLEAF_VERSION_MINOR 4
 #define COTTERLEAF_VERSION_PATCH 0
-#define COTTERLEAF_VERSION "0.3.0"
+#define COTTERLEAF_VERSION "0.4.0"
 
 /* The numbers of refusal, and 0 where nothing is refused. mrd_refusal_text says what to do about each. */
 typedef enum mrd_refusal {
@@ -32,7 +32,8 @@ typedef enum mrd_refusal {
     MRD_REFUSED_NO_PART = 17,         /* The record has no such part or channel. */
     MRD_REFUSED_BODY_LENGTH = 18,     /* Of the writer: a body's length isn't what its header says, or a part its kind lacks isn't empty. */
     MRD_REFUSED_TOO_MANY = 19,        /* A message begins after 1,000,000 messages. */
-    MRD_REFUSED_NO_FIELD = 20         /* No header element starts at that offset, or the record has no header. */
+    MRD_REFUSED_NO_FIELD = 20,        /* No header element starts at that offset, or the record has no header. */
+    MRD_REFUSED_TEXT_NOT_UTF8 = 21    /* In the strict profile: a name, a text or attributes are not UTF-8. */
 } mrd_refusal;
 
 /* What is wrong and what to do, as one sentence, for any number: never NULL. */
@@ -59,7 +60,8 @@ static inline const char *mrd_refusal_text(uint32_t refusal)
         "the record has no such part or channel; ask for a part of the record's kind, or a channel below its number of active channels",
         "a part to be written has another length than its header says, or its kind lacks it; give the kind's own parts in their lengths, and leave the others empty",
         "a message begins after 1,000,000 messages; close the stream before it, and begin another",
-        "no header element starts at that offset, or the record has no header; take an offset from the table of the record's header"
+        "no header element starts at that offset, or the record has no header; take an offset from the table of the record's header",
+        "a name, a text or the attributes of an image are not UTF-8, as the strict profile demands; have the sender write its texts in UTF-8, or choose the plain profile"
     };
     if (refusal >= sizeof texts / sizeof texts[0])
         return "no refusal has this number; the library and its header may be of different versions";

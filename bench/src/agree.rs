@@ -1,20 +1,23 @@
-//! The baseline is worth comparing with only if it does the same. On drawn, damaged and refused streams and
-//! on a writer's inputs, library and baseline must give the same answers and write the same bytes.
+//! The baseline is worth comparing with only if it does the same. On drawn, damaged and refused streams, on texts in
+//! UTF-8 and not, and on a writer's inputs, library and baseline must give the same answers and write the same bytes.
 
 use crate::baseline::reader::{self, Met};
+use crate::baseline::strict::{self, NOT_UTF8};
 use crate::baseline::{index, normal, questions, writer::Message};
 use crate::library;
+use crate::texts::{self, Script};
 use second_reader::Rules;
 use streams::{Rng, SHORT_REFUSALS, WRITER_REFUSALS};
 
-/// The baseline knows packed waveform headers alone.
+/// The baseline knows packed waveform headers alone. Of the strict profile it has the check.
 const RULES: Rules = Rules::PACKED;
 
 /// Compares both on so many streams of each sort. Panics at the first difference.
 pub fn on_drawn_streams(count: usize, seed: u64) {
     let mut rng = Rng::new(seed);
+    let mut strict_answers = [0, 0];
     for round in 0..count {
-        for number in SHORT_REFUSALS {
+        for number in plain(&SHORT_REFUSALS) {
             let stream = streams::refused_with(RULES, &mut rng, number);
             let refusal = on_stream(&mut rng, &stream).expect_err("a refused stream");
             assert_eq!(refusal.number, number);
@@ -27,7 +30,11 @@ pub fn on_drawn_streams(count: usize, seed: u64) {
         let damaged = streams::damaged(RULES, &mut rng, damage, 6_000);
         let _ = on_stream(&mut rng, &damaged);
         on_writer_inputs(&mut rng);
+        for _ in 0..20 {
+            strict_answers[usize::from(on_texts(&mut rng))] += 1;
+        }
     }
+    assert!(strict_answers.iter().all(|&met| met > 0), "21, and none");
     for close in [false, true] {
         let stream = streams::too_many(close);
         let refusal = library::check(&stream).expect_err("one message too many");
@@ -36,10 +43,37 @@ pub fn on_drawn_streams(count: usize, seed: u64) {
     }
 }
 
+/// The numbers of refusal that the plain profile has too.
+fn plain(numbers: &[u32]) -> impl Iterator<Item = u32> + '_ {
+    numbers.iter().copied().filter(|&number| number != NOT_UTF8)
+}
+
+/// Bytes at the borders of RFC 3629's table.
+const BORDERS: [u8; 20] = [
+    0x00, 0x7F, 0x80, 0x8F, 0x90, 0x9F, 0xA0, 0xBF, 0xC0, 0xC1, 0xC2, 0xDF, 0xE0, 0xED, 0xEF, 0xF0,
+    0xF1, 0xF4, 0xF5, 0xFF,
+];
+
+/// A text in characters of all lengths, every other time with one byte changed, by the strict profile; gives whether it
+/// is UTF-8.
+fn on_texts(rng: &mut Rng) -> bool {
+    let length = rng.size(300) as usize;
+    let mut text = Script::Mixed.text(rng, length).into_bytes();
+    if !text.is_empty() && rng.one_in(2) {
+        let at = rng.below(text.len() as u64) as usize;
+        text[at] = rng.pick(&BORDERS);
+    }
+    let stream = texts::stream([b"before it", &text[..], b"behind it"]);
+    let answer = library::check_strict(&stream);
+    assert_eq!(strict::check(&stream), answer);
+    answer.is_ok()
+}
+
 /// Every question that is measured, about one stream; gives the stream's answer.
 fn on_stream(rng: &mut Rng, stream: &[u8]) -> Result<usize, crate::baseline::Refusal> {
     let answer = library::check(stream);
     assert_eq!(reader::check(stream), answer);
+    assert_eq!(library::check_strict(stream), strict::check(stream));
     let mut places = vec![];
     let walked = library::walk(stream, |met| places.push(met));
     assert_eq!(walked, answer);
@@ -106,7 +140,7 @@ fn on_index(rng: &mut Rng, stream: &[u8]) {
 
 fn on_writer_inputs(rng: &mut Rng) {
     let mut inputs = vec![streams::writer_input(RULES, rng)];
-    for number in WRITER_REFUSALS {
+    for number in plain(&WRITER_REFUSALS) {
         inputs.push(streams::writer_input_refused(RULES, rng, number));
     }
     for input in inputs {

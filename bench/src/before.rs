@@ -1,5 +1,6 @@
 //! Check and walk beside those of an older library, on the same bytes in the same run. The functions are declared as that
-//! library has them: before request E3 none took the rules, and waveform headers were packed.
+//! library has them: before request E9 the rules had the layout alone, and texts might hold any bytes. So the present
+//! library is asked by the plain profile, and both with packed waveform headers.
 
 use crate::library::{self, Cursor};
 use crate::operations::{library_walk, taken, walked_by, Measured};
@@ -8,9 +9,25 @@ use crate::timing::alternately;
 use cotterleaf::raw::{mrd_checked, mrd_step};
 use std::hint::black_box;
 
+/// `mrd_rules` as that library has it.
+#[repr(C)]
+#[derive(Clone, Copy)]
+struct Rules {
+    aligned_waveforms: bool,
+}
+
+const PACKED: Rules = Rules {
+    aligned_waveforms: false,
+};
+
 extern "C" {
-    fn before_mrd_check(stream: *const u8, stream_length: usize) -> mrd_checked;
-    fn before_mrd_next(stream: *const u8, stream_length: usize, cursor: Cursor) -> mrd_step;
+    fn before_mrd_check(rules: Rules, stream: *const u8, stream_length: usize) -> mrd_checked;
+    fn before_mrd_next(
+        rules: Rules,
+        stream: *const u8,
+        stream_length: usize,
+        cursor: Cursor,
+    ) -> mrd_step;
 }
 
 pub const HEAD: &str = "\
@@ -19,12 +36,12 @@ pub const HEAD: &str = "\
 
 fn check(stream: &[u8]) -> mrd_checked {
     // SAFETY: the pointer and length are those of a slice that is borrowed for the call.
-    unsafe { before_mrd_check(stream.as_ptr(), stream.len()) }
+    unsafe { before_mrd_check(PACKED, stream.as_ptr(), stream.len()) }
 }
 
 fn next(stream: &[u8], cursor: Cursor) -> mrd_step {
     // SAFETY: the pointer and length are those of a slice that is borrowed for the call; any cursor may be given.
-    unsafe { before_mrd_next(stream.as_ptr(), stream.len(), cursor) }
+    unsafe { before_mrd_next(PACKED, stream.as_ptr(), stream.len(), cursor) }
 }
 
 fn check_row(of: &Measured) -> Row {

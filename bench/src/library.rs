@@ -1,5 +1,5 @@
 //! The proved library by its C functions, answering in the baseline's types so that the two can be compared. Waveform
-//! headers are packed, as the baseline has them.
+//! headers are packed, as the baseline has them, and texts may hold any bytes where nothing else is said.
 
 use crate::baseline::questions::Field;
 use crate::baseline::reader::Met;
@@ -11,6 +11,12 @@ pub use cotterleaf::raw::mrd_cursor as Cursor;
 
 const PACKED: raw::mrd_rules = raw::mrd_rules {
     aligned_waveforms: false,
+    strict_text: false,
+};
+
+const STRICT: raw::mrd_rules = raw::mrd_rules {
+    strict_text: true,
+    ..PACKED
 };
 
 fn answer<T>(number: u32, record: usize, byte: usize, value: T) -> Result<T, Refusal> {
@@ -32,6 +38,11 @@ pub fn counted(a: raw::mrd_checked) -> Result<usize, Refusal> {
 
 pub fn check(stream: &[u8]) -> Result<usize, Refusal> {
     counted(raw::check(PACKED, stream))
+}
+
+/// The same by the strict profile.
+pub fn check_strict(stream: &[u8]) -> Result<usize, Refusal> {
+    counted(raw::check(STRICT, stream))
 }
 
 pub fn next(stream: &[u8], cursor: Cursor) -> raw::mrd_step {

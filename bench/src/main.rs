@@ -3,7 +3,8 @@
 //!
 //!   bench            all streams, several rounds; give it an idle machine
 //!   bench --quick    small streams, one round: shows that answers and bytes are the same
-//!   bench --before   check and walk alone, beside those of an older library that the build linked (see build.rs)
+//!   bench --before   check and walk alone, by the plain profile, beside those of an older library that the build
+//!                    linked (see build.rs)
 
 mod agree;
 mod baseline;
@@ -14,6 +15,7 @@ mod made;
 mod operations;
 mod reads;
 mod table;
+mod texts;
 mod timing;
 
 use made::{Shape, IMAGES, LARGE, MEDIUM, SMALL, WAVEFORMS};
@@ -110,7 +112,9 @@ fn main() {
     };
     let effort = if quick { Effort::QUICK } else { Effort::FULL };
     agree::on_drawn_streams(if quick { 60 } else { 200 }, 1);
-    print_table(table::HEAD, rows_of(quick, effort, measure));
+    let mut rows = rows_of(quick, effort, measure);
+    rows.extend(texts::rows(quick, effort));
+    print_table(table::HEAD, rows);
     print_second_reader(effort);
     reads::print(effort);
 }

@@ -2,7 +2,7 @@
 //! answer or write the same bytes, then times both.
 
 use crate::baseline::reader::{self, Met};
-use crate::baseline::{index, normal, questions, writer::Message};
+use crate::baseline::{index, normal, questions, strict, writer::Message};
 use crate::library::{self, Cursor};
 use crate::made;
 use crate::table::{Row, Unit};
@@ -36,6 +36,7 @@ impl Measured<'_> {
     pub fn rows(&self, out: &mut [u8]) -> Vec<Row> {
         vec![
             self.check(),
+            self.strict_check(),
             self.walk(),
             self.field(),
             self.field_at(),
@@ -58,6 +59,19 @@ impl Measured<'_> {
             &mut || taken(reader::check(black_box(s))),
         );
         self.row("check", Unit::PerMessage, times)
+    }
+
+    /// Against the library's own plain check: what the strict profile costs where there is little text.
+    fn strict_check(&self) -> Row {
+        let s = self.stream;
+        assert_eq!(library::check_strict(s), Ok(self.messages));
+        assert_eq!(strict::check(s), Ok(self.messages));
+        let times = alternately(
+            self.effort,
+            &mut || taken(library::check_strict(black_box(s))),
+            &mut || taken(library::check(black_box(s))),
+        );
+        self.row("strict check (plain)", Unit::PerMessage, times)
     }
 
     fn walk(&self) -> Row {

@@ -6,7 +6,8 @@ use cotterleaf::{Refusal, Rules, Stream};
 use std::process::ExitCode;
 
 fn list(bytes: &[u8]) -> Result<(), Refusal> {
-    // Packed waveform headers; `Rules::aligned()` is for aligned ones. Nothing in a stream tells which it has.
+    // Packed waveform headers; `Rules::aligned()` is for aligned ones, and with `.strict()` texts must be UTF-8.
+    // Nothing in a stream tells the rules that it goes by.
     for record in Stream::new(Rules::packed(), bytes).records() {
         let record = record?;
         println!(

@@ -13,7 +13,8 @@
 //! assert_eq!(stream.view(0, Part::Pixels).unwrap_err().number, 17);
 //! ```
 //!
-//! The [`Rules`] say how the stream's waveform headers are laid out, which nothing in a stream tells.
+//! The [`Rules`] say how the stream's waveform headers are laid out, which nothing in a stream tells, and whether its
+//! texts must be UTF-8.
 //!
 //! A walk yields each record with the cursor at which it was due, so that its header and parts cost no further walk:
 //!
@@ -69,7 +70,7 @@ pub use names::{acquisition_flag, counter, data_type, id, image_type, offset, re
 pub use names::{MAX_MESSAGES, MAX_MESSAGE_SIZE};
 pub use record::{Field, Kind, Mask, Part, Record};
 pub use refusal::{Fault, Refusal};
-pub use rules::{Layout, Rules};
+pub use rules::{Layout, Profile, Rules};
 pub use samples::Samples;
 pub use stream::Stream;
 pub use walk::{Cursor, RecordAt, Records, Step};

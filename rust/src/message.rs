@@ -29,7 +29,7 @@ pub struct Message<'a> {
 
 impl Message<'_> {
     /// Writes the message into `out` from `position` on and gives the position after it; a refusal (2 to 8, 10,
-    /// 18, 14) writes nothing. An image's header gets the length of its attributes, whatever it holds there, and
+    /// 18, 21, 14) writes nothing. An image's header gets the length of its attributes, whatever it holds there, and
     /// the filler of an aligned waveform header is written as zero. The order of messages is not judged: check the
     /// whole stream.
     pub fn write(&self, rules: Rules, out: &mut [u8], position: usize) -> Result<usize, Refusal> {

@@ -43,10 +43,12 @@ pub mod refused {
     pub const TOO_MANY: u32 = 19;
     /// No header element starts at that offset, or the record has no header.
     pub const NO_FIELD: u32 = 20;
+    /// In the strict profile: a name, a text or attributes are not UTF-8.
+    pub const TEXT_NOT_UTF8: u32 = 21;
 }
 
 /// What is wrong and what to do, for each number of refusal from 1 on.
-pub(crate) const SENTENCES: [(&str, &str); 20] = [
+pub(crate) const SENTENCES: [(&str, &str); 21] = [
     (
         "one byte remains where an id is due",
         "have the rest of the recording sent again, or cut this byte off",
@@ -126,6 +128,10 @@ pub(crate) const SENTENCES: [(&str, &str); 20] = [
     (
         "no header element starts at that offset, or the record has no header",
         "take an offset from the table of the record's header",
+    ),
+    (
+        "a name, a text or the attributes of an image are not UTF-8, as the strict profile demands",
+        "have the sender write its texts in UTF-8, or choose the plain profile",
     ),
 ];
 

@@ -9,6 +9,7 @@ mod interface;
 #[derive(Clone, Copy, Debug, Default, PartialEq, Eq)]
 pub struct mrd_rules {
     pub aligned_waveforms: bool,
+    pub strict_text: bool,
 }
 
 #[repr(C)]

@@ -172,7 +172,8 @@ impl Record {
     }
 }
 
-/// A part of a record that a view shows.
+/// A part of a record that a view shows. Under strict rules ([`Profile::Strict`](crate::Profile::Strict)) a name, a
+/// text and attributes are UTF-8, so that `std::str::from_utf8` of them never fails.
 #[derive(Clone, Copy, Debug, PartialEq, Eq, Hash)]
 pub enum Part {
     /// A configuration name: the bytes before its zero.

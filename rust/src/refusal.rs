@@ -13,7 +13,7 @@ pub struct Fault {
     pub byte: usize,
 }
 
-/// A refusal: its number, 1 to 20, and where, if the stream itself is refused (1 to 13, and 19). What is
+/// A refusal: its number, 1 to 21, and where, if the stream itself is refused (1 to 13, 19 and 21). What is
 /// refused about a writer's message, an index, a record number, a part or an output has no place.
 #[derive(Clone, Copy, Debug, PartialEq, Eq, Hash)]
 pub struct Refusal {
@@ -48,7 +48,7 @@ impl Refusal {
     pub(crate) fn in_answer(number: u32, record: usize, byte: usize) -> Result<(), Refusal> {
         match number {
             0 => Ok(()),
-            1..=13 | 19 => Err(Refusal {
+            1..=13 | 19 | 21 => Err(Refusal {
                 number,
                 place: Some(Fault { record, byte }),
             }),

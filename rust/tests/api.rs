@@ -17,6 +17,11 @@ fn aligned(bytes: &[u8]) -> Stream<'_> {
     Stream::new(Rules::aligned(), bytes)
 }
 
+/// The same bytes by the strict profile.
+fn strictly<'a>(stream: &Stream<'a>) -> Stream<'a> {
+    Stream::new(stream.rules().strict(), stream.bytes())
+}
+
 fn number_of<T: std::fmt::Debug>(answer: Result<T, Refusal>) -> u32 {
     answer.expect_err("a refusal").number
 }
@@ -663,6 +668,344 @@ fn an_aligned_header_is_whole_or_cut() {
     assert_eq!(number_of(aligned(&old).check()), refused::VERSION);
 }
 
+/// A configuration name or a text with these bytes, to be written.
+fn text_message(id: u16, bytes: &[u8]) -> Message<'_> {
+    let (name, text) = match id {
+        id::CONFIGURATION_NAME => (bytes, &[][..]),
+        _ => (&[][..], bytes),
+    };
+    Message {
+        id,
+        name,
+        text,
+        ..Message::default()
+    }
+}
+
+/// A stream of one text with these bytes, and the close.
+fn text_stream(bytes: &[u8]) -> Vec<u8> {
+    let mut stream = id::TEXT.to_le_bytes().to_vec();
+    stream.extend((bytes.len() as u32).to_le_bytes());
+    stream.extend(bytes);
+    stream.extend(id::CLOSE.to_le_bytes());
+    stream
+}
+
+/// What every call about a stream answers, in words, so that the answers of two profiles can be compared.
+fn all_answers(stream: &Stream, kept: &Kept) -> Vec<String> {
+    let mut answers = vec![format!("{:?}", stream.check())];
+    let mut cursor = Cursor::beginning();
+    while let Step::Record(record, next) = stream.step(cursor) {
+        answers.push(format!("{record:?}, then {next:?}"));
+        let mut streams = vec![*stream];
+        streams.extend(kept.forms().map(|index| stream.with(index)));
+        for stream in streams {
+            answers.extend(answers_about(&stream, record.number));
+        }
+        for part in PARTS {
+            answers.push(format!("{:?}", stream.view_at(cursor, part)));
+        }
+        answers.push(format!("{:?}", stream.field_at(cursor, 14)));
+        answers.push(format!("{:?}", stream.check_from(cursor)));
+        cursor = next;
+    }
+    answers.extend(
+        kept.forms()
+            .map(|index| format!("{:?}", stream.matches(index))),
+    );
+    let again = Kept::of(stream);
+    answers.push(format!("{:?} {:?}", again.file, again.starts));
+    let mut normal = vec![0; stream.bytes().len()];
+    answers.push(format!("{:?} {normal:?}", stream.normal_form(&mut normal)));
+    answers
+}
+
+const PARTS: [Part; 7] = [
+    Part::Name,
+    Part::Text,
+    Part::Attributes,
+    Part::Trajectory,
+    Part::Channel(1),
+    Part::Pixels,
+    Part::Waveform,
+];
+
+/// Each question by number, about one record.
+fn answers_about(stream: &Stream, n: usize) -> Vec<String> {
+    let mut answers = vec![
+        format!("{:?}", stream.place(n)),
+        format!("{:?}", stream.field(n, 14)),
+        format!("{:?}", stream.find(n, &[0; 17])),
+    ];
+    let views = PARTS.map(|part| format!("{:?}", stream.view(n, part)));
+    answers.extend(views);
+    answers
+}
+
+/// What the strict profile accepts it answers as the plain one does, in every call.
+#[test]
+fn a_strict_stream_answers_as_a_plain_one() {
+    let waveforms = waveforms();
+    for stream in [packed(ALL_KINDS), aligned(&waveforms), packed(&waveforms)] {
+        let strict = strictly(&stream);
+        assert_eq!(strict.rules().layout, stream.rules().layout);
+        assert_eq!(strict.rules().plain(), stream.rules());
+        let kept = Kept::of(&stream);
+        assert_eq!(all_answers(&strict, &kept), all_answers(&stream, &kept));
+        for record in stream.records() {
+            let message = message_of(&stream, &record.unwrap());
+            let (mut ours, mut theirs) = (vec![0xEE; 2_000], vec![0xEE; 2_000]);
+            let written = message.write(strict.rules(), &mut ours, 3);
+            assert_eq!(written, message.write(stream.rules(), &mut theirs, 3));
+            assert!(written.is_ok() && ours == theirs);
+        }
+        let cursors = [strict, stream]
+            .map(|stream| Cursor::for_record(stream.rules(), &kept.starts, &kept.ids, 2));
+        assert_eq!(cursors[0], cursors[1]);
+    }
+}
+
+/// The refusal that every call gives of a stream whose fault is at the cursor's record.
+fn all_refusals(stream: &Stream, cursor: Cursor, kept: &Kept) -> Vec<Refusal> {
+    let mut out = vec![0xEE; stream.bytes().len() + 23 + 17 * 9];
+    let (mut starts, mut ids, mut counters) = ([7; 9], [7; 9], [7; 9]);
+    let mut answers = vec![
+        stream.check().map(drop),
+        stream.check_from(cursor).map(drop),
+        stream.view_at(cursor, Part::Text).map(drop),
+        stream.field_at(cursor, 0).map(drop),
+        stream.normal_form(&mut out).map(drop),
+        stream.write_index(&mut out).map(drop),
+        stream
+            .fill_columns(&mut starts, &mut ids, &mut counters)
+            .map(drop),
+        stream.records().try_for_each(|record| record.map(drop)),
+        match stream.step(cursor) {
+            Step::Record(..) => Ok(()),
+            Step::End(answer) => answer.map(drop),
+        },
+    ];
+    answers.extend(kept.forms().map(|index| stream.matches(index)));
+    let mut streams = vec![*stream];
+    streams.extend(kept.forms().map(|index| stream.with(index)));
+    for stream in streams {
+        answers.push(stream.place(0).map(drop));
+        answers.push(stream.view(0, Part::Name).map(drop));
+        answers.push(stream.samples(0, 0).map(drop));
+        answers.push(stream.field(0, 0).map(drop));
+        answers.push(stream.find(0, &[0; 17]).map(drop));
+    }
+    assert!(out.iter().all(|&byte| byte == 0xEE));
+    assert_eq!((starts, ids, counters), ([7; 9], [7; 9], [7; 9]));
+    let refusal = |answer: Result<(), Refusal>| answer.expect_err("a refused stream");
+    answers.into_iter().map(refusal).collect()
+}
+
+/// One byte that no text in UTF-8 has, in each part that is text: 21 where its record is, in every call.
+#[test]
+fn every_call_refuses_text_that_is_not_utf8() {
+    let parts = [
+        (0, Part::Name),
+        (1, Part::Text),
+        (2, Part::Text),
+        (6, Part::Attributes),
+    ];
+    for (n, part) in parts {
+        let text = packed(ALL_KINDS).view_place(n, part).unwrap();
+        for at in [text.start, text.end - 1] {
+            let mut bytes = ALL_KINDS.to_vec();
+            bytes[at] = 0xFF;
+            let plain = packed(&bytes);
+            assert_eq!(plain.check(), Ok(9));
+            let kept = Kept::of(&plain);
+            let cursor = plain.records().nth(n).unwrap().unwrap().cursor();
+            let fault = Fault {
+                record: n,
+                byte: cursor.start,
+            };
+            let refusal = Refusal {
+                number: refused::TEXT_NOT_UTF8,
+                place: Some(fault),
+            };
+            for given in all_refusals(&strictly(&plain), cursor, &kept) {
+                assert_eq!(given, refusal);
+            }
+            // The records before it come, and a walk from behind it does not meet it.
+            let strict = strictly(&plain);
+            assert_eq!(strict.records().filter(|record| record.is_ok()).count(), n);
+            let Step::Record(_, next) = plain.step(cursor) else {
+                panic!("no record {n}")
+            };
+            assert_eq!(strict.check_from(next), Ok(9));
+        }
+    }
+}
+
+/// What carries no text may hold any byte: the sample's trajectories, samples, pixels and waveforms, the filler of its
+/// name and the numbers of its headers.
+#[test]
+fn bytes_that_are_no_text_are_not_judged() {
+    let stream = packed(ALL_KINDS);
+    let parts = [
+        (3, Part::Trajectory),
+        (4, Part::Channel(0)),
+        (6, Part::Pixels),
+        (7, Part::Waveform),
+    ];
+    let mut bytes = ALL_KINDS.to_vec();
+    for (n, part) in parts {
+        bytes[stream.view_place(n, part).unwrap()].fill(0xFF);
+    }
+    let name = stream.view_place(0, Part::Name).unwrap();
+    bytes[name.end + 1..1_026].fill(0xFF);
+    bytes[1_417 + 2 + offset::acquisition::FLAGS] = 0xFF;
+    assert_eq!(strictly(&packed(&bytes)).check(), Ok(9));
+}
+
+/// By RFC 3629, as Rust has it: every two bytes, alone and with one or two more behind them.
+#[test]
+fn a_text_is_judged_as_rust_judges_it() {
+    let mut accepted = 0;
+    for number in 0..=u16::MAX {
+        let [first, second] = number.to_le_bytes();
+        for text in [
+            &[first, second][..],
+            &[first, second, 0x80],
+            &[first, second, 0x80, 0xBF],
+        ] {
+            let stream = text_stream(text);
+            let is_utf8 = std::str::from_utf8(text).is_ok();
+            accepted += usize::from(is_utf8);
+            let answer = strictly(&packed(&stream)).check();
+            match is_utf8 {
+                true => assert_eq!(answer, Ok(2), "{text:x?}"),
+                false => assert_eq!(number_of(answer), refused::TEXT_NOT_UTF8, "{text:x?}"),
+            }
+        }
+    }
+    assert!(accepted > 20_000);
+}
+
+/// Each text by itself: neither a name's zero nor the next message ends a character.
+#[test]
+fn a_character_lies_in_one_text() {
+    let mut split = text_stream(&[0xC3]);
+    split.truncate(split.len() - 2);
+    split.extend(text_stream(&[0xA9]));
+    let whole = text_stream("é".as_bytes());
+    assert_eq!(strictly(&packed(&whole)).check(), Ok(2));
+    assert_eq!(packed(&split).check(), Ok(3));
+    let refusal = strictly(&packed(&split)).check().unwrap_err();
+    assert_eq!(refusal.place, Some(Fault { record: 0, byte: 0 }));
+    let mut bytes = ALL_KINDS.to_vec();
+    bytes[12..15].copy_from_slice(&[0xC3, 0, 0xA9]);
+    assert_eq!(packed(&bytes).view(0, Part::Name), Ok(&bytes[2..13]));
+    let answer = strictly(&packed(&bytes)).check();
+    assert_eq!(number_of(answer), refused::TEXT_NOT_UTF8);
+}
+
+/// 21 comes after all else about its message, and before anything about a later one.
+#[test]
+fn order_of_checks_with_text() {
+    let strict = |bytes: &[u8]| number_of(strictly(&packed(bytes)).check());
+    let bad = text_stream(&[0xFF, b'a']);
+    assert_eq!(strict(&bad[..7]), refused::MESSAGE_CUT);
+    assert_eq!(strict(&bad[..8]), refused::TEXT_NOT_UTF8);
+    assert_eq!(strict(&[&bad[..], &[0]].concat()), refused::TEXT_NOT_UTF8);
+    // A header text comes once, whatever it holds.
+    let mut headers = ALL_KINDS[..1_417].to_vec();
+    let second = headers.len();
+    headers.extend(id::HEADER_TEXT.to_le_bytes());
+    headers.extend([1, 0, 0, 0, 0xFF]);
+    let refusal = strictly(&packed(&headers)).check().unwrap_err();
+    let fault = Fault {
+        record: 3,
+        byte: second,
+    };
+    assert_eq!(
+        (refusal.number, refusal.place),
+        (refused::ORDER, Some(fault))
+    );
+}
+
+/// The writer's 21 is of no stream and has no place; it writes nothing, and the plain profile writes the message.
+#[test]
+fn the_writer_refuses_text_that_is_not_utf8() {
+    let image = message_of(&packed(ALL_KINDS), &packed(ALL_KINDS).place(6).unwrap());
+    let mut attributes = image.attributes.to_vec();
+    attributes[133] = 0xC3;
+    let texts = [
+        id::CONFIGURATION_NAME,
+        id::CONFIGURATION_TEXT,
+        id::HEADER_TEXT,
+        id::TEXT,
+    ];
+    let mut messages = texts.map(|id| text_message(id, b"caf\xE9")).to_vec();
+    messages.push(Message {
+        attributes: &attributes,
+        ..image
+    });
+    let refusal = Refusal {
+        number: refused::TEXT_NOT_UTF8,
+        place: None,
+    };
+    for message in messages {
+        for rules in [Rules::packed(), Rules::aligned()] {
+            let mut out = vec![0xEE; 1_400];
+            assert_eq!(message.write(rules.strict(), &mut out, 5), Err(refusal));
+            assert!(out.iter().all(|&byte| byte == 0xEE));
+            assert!(message.write(rules, &mut out, 5).is_ok());
+        }
+    }
+}
+
+/// 5, 18, 21 and 14 of the writer, in that order.
+#[test]
+fn order_of_the_writers_checks_with_text() {
+    let rules = Rules::packed().strict();
+    let write = |message: Message, room| number_of(message.write(rules, &mut vec![0; room], 0));
+    let text = text_message(id::TEXT, &[0xFF]);
+    assert_eq!(write(text, 6), refused::TEXT_NOT_UTF8);
+    let plain = text.write(rules.plain(), &mut [0; 6], 0);
+    assert_eq!(number_of(plain), refused::OUTPUT_SHORT);
+    let past = text.write(rules, &mut [0; 100], usize::MAX);
+    assert_eq!(number_of(past), refused::TEXT_NOT_UTF8);
+    let overfull = Message {
+        pixels: &[0],
+        ..text
+    };
+    assert_eq!(write(overfull, 6), refused::BODY_LENGTH);
+    // A part that the kind lacks is 18, not 21, and its bytes are no text.
+    let lacking = Message {
+        name: &[0xFF],
+        ..text_message(id::TEXT, b"a")
+    };
+    assert_eq!(write(lacking, 100), refused::BODY_LENGTH);
+    let name = text_message(id::CONFIGURATION_NAME, &[0xFF, 0]);
+    assert_eq!(write(name, 2_000), refused::NAME);
+    let utf8 = text_message(id::TEXT, "é".as_bytes());
+    assert_eq!(write(utf8, 7), refused::OUTPUT_SHORT);
+}
+
+/// What the pages promise of a strict stream's texts.
+#[test]
+fn strict_texts_are_strings() {
+    let stream = strictly(&packed(ALL_KINDS));
+    let mut texts = vec![];
+    for record in stream.records() {
+        let record = record.unwrap();
+        let views = [Part::Name, Part::Text, Part::Attributes].map(|part| record.view(part));
+        for view in views.into_iter().flatten() {
+            texts.push(std::str::from_utf8(view).expect("UTF-8"));
+        }
+    }
+    assert_eq!(texts.len(), 4);
+    assert_eq!(
+        (texts[0], texts[2]),
+        ("default.xml", "three radial readouts follow\n")
+    );
+}
+
 #[test]
 fn flags_and_counters() {
     let flags = flag_set(0, acquisition_flag::FIRST_IN_SLICE);
@@ -684,6 +1027,13 @@ fn a_refusal_says_what_where_and_what_to_do() {
         "refused 13 at record 1, byte 8: the stream ends without a close; \
          wait for the rest, or add a close (04 00) if the recording is over."
     );
+    let bytes = text_stream(&[b'a', 0xFF]);
+    let not_utf8 = strictly(&packed(&bytes)).check().unwrap_err();
+    assert_eq!(
+        not_utf8.to_string(),
+        "refused 21 at record 0, byte 0: a name, a text or the attributes of an image are not UTF-8, as the strict \
+         profile demands; have the sender write its texts in UTF-8, or choose the plain profile."
+    );
     let unplaced = packed(&SHORT).normal_form(&mut []).unwrap_err();
     assert_eq!(
         unplaced.to_string(),
@@ -693,9 +1043,9 @@ fn a_refusal_says_what_where_and_what_to_do() {
         number,
         place: None,
     };
-    let texts: BTreeSet<(&str, &str)> = (1..=20)
+    let texts: BTreeSet<(&str, &str)> = (1..=21)
         .map(|number| (refused(number).what(), refused(number).remedy()))
         .collect();
-    assert_eq!(texts.len(), 20, "each number has a text of its own");
-    assert!(!texts.contains(&(refused(21).what(), refused(21).remedy())));
+    assert_eq!(texts.len(), 21, "each number has a text of its own");
+    assert!(!texts.contains(&(refused(22).what(), refused(22).remedy())));
 }

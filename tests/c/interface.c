@@ -73,8 +73,9 @@ MEMBER(mrd_reply, view, 112, mrd_view_place);
 MEMBER(mrd_reply, field, 152, mrd_field_answer);
 MEMBER(mrd_reply, found, 200, mrd_found);
 
-_Static_assert(sizeof(mrd_rules) == 1, "mrd_rules: another size");
+_Static_assert(sizeof(mrd_rules) == 2, "mrd_rules: another size");
 MEMBER(mrd_rules, aligned_waveforms, 0, bool);
+MEMBER(mrd_rules, strict_text, 1, bool);
 
 _Static_assert(sizeof(mrd_checked) == 32, "mrd_checked: another size");
 MEMBER(mrd_checked, refusal, 0, uint32_t);

@@ -38,6 +38,7 @@ static int of_the_stream(mrd_refusal refusal)
     case MRD_REFUSED_ORDER:
     case MRD_REFUSED_NO_CLOSE:
     case MRD_REFUSED_TOO_MANY:
+    case MRD_REFUSED_TEXT_NOT_UTF8:
         return 1;
     case MRD_OK:
     case MRD_REFUSED_OUTPUT_SHORT:
@@ -54,14 +55,14 @@ static int of_the_stream(mrd_refusal refusal)
 /* Each number has a sentence of its own, that says what to do; any other number has one too. */
 static int sentences(void)
 {
-    for (uint32_t i = 1; i <= 20; i++) {
+    for (uint32_t i = 1; i <= 21; i++) {
         CHECK(strchr(mrd_refusal_text(i), ';') != NULL);
         for (uint32_t j = 0; j < i; j++)
             CHECK(strcmp(mrd_refusal_text(i), mrd_refusal_text(j)) != 0);
     }
     CHECK(strcmp(mrd_refusal_text(MRD_OK), "nothing is refused") == 0);
-    CHECK(strncmp(mrd_refusal_text(21), "no refusal", 10) == 0);
-    CHECK(mrd_refusal_text(21) == mrd_refusal_text(UINT32_MAX));
+    CHECK(strncmp(mrd_refusal_text(22), "no refusal", 10) == 0);
+    CHECK(mrd_refusal_text(22) == mrd_refusal_text(UINT32_MAX));
     CHECK(of_the_stream(MRD_REFUSED_NO_CLOSE) && !of_the_stream(MRD_REFUSED_NO_FIELD));
     CHECK(strcmp(COTTERLEAF_VERSION, "") != 0 && COTTERLEAF_VERSION_MAJOR >= 0);
     return 0;

@@ -1,11 +1,12 @@
-/* The worked examples of document 01, each call of the library once for each layout of waveform headers, what a mask
- * says, and an image header that says 0 of its attributes, from C. */
+/* The worked examples of document 01, each call of the library once for each layout of waveform headers and each
+ * profile of texts, what a mask says, and an image header that says 0 of its attributes, from C. */
 #include "cotterleaf.h"
 
 #include <stdio.h>
 #include <string.h>
 
-static const mrd_rules PACKED = {false}, ALIGNED = {true};
+static const mrd_rules PACKED = {false}, ALIGNED = {.aligned_waveforms = true}, STRICT = {.strict_text = true},
+                       STRICT_ALIGNED = {true, true};
 
 static int checks, failures;
 
@@ -496,8 +497,9 @@ static const struct {
     {MRD_ALIGNED_WAVEFORM_WAVEFORM_ID, MRD_WHOLE, 0x4321, 0},
 };
 
-/* An aligned stream with its index in both forms. */
+/* An aligned stream with its index in both forms, and the rules by which all is asked: aligned, of either profile. */
 typedef struct {
+    mrd_rules rules;
     waveform_stream stream;
     uint8_t file[23 + 3 * 17];
     uint64_t starts[3];
@@ -512,19 +514,19 @@ typedef struct {
  * same bytes under the other one. */
 static void aligned_index(aligned_indexed *of)
 {
-    CHECK(mrd_write_index(ALIGNED, STREAM_OF(of), of->file, sizeof of->file).length == sizeof of->file);
-    CHECK(mrd_fill_columns(ALIGNED, STREAM_OF(of), COLUMNS_OF(of)).length == 3);
+    CHECK(mrd_write_index(of->rules, STREAM_OF(of), of->file, sizeof of->file).length == sizeof of->file);
+    CHECK(mrd_fill_columns(of->rules, STREAM_OF(of), COLUMNS_OF(of)).length == 3);
     CHECK(of->starts[1] == WAVEFORM && of->ids[1] == MRD_ID_WAVEFORM && of->counters[1] == (6 << 16 | 77));
-    CHECK(mrd_index_matches(ALIGNED, STREAM_OF(of), of->file, sizeof of->file).refusal == MRD_OK);
-    CHECK(mrd_columns_match(ALIGNED, STREAM_OF(of), COLUMNS_OF(of)).refusal == MRD_OK);
+    CHECK(mrd_index_matches(of->rules, STREAM_OF(of), of->file, sizeof of->file).refusal == MRD_OK);
+    CHECK(mrd_columns_match(of->rules, STREAM_OF(of), COLUMNS_OF(of)).refusal == MRD_OK);
     CHECK(mrd_index_matches(PACKED, STREAM_OF(of), of->file, sizeof of->file).refusal == MRD_REFUSED_INDEX_DIFFERS);
     CHECK(mrd_columns_match(PACKED, STREAM_OF(of), COLUMNS_OF(of)).refusal == MRD_REFUSED_INDEX_DIFFERS);
 }
 
 static mrd_reply ask_aligned(const aligned_indexed *of, mrd_question question, bool by_file)
 {
-    return by_file ? mrd_ask_with_file(ALIGNED, STREAM_OF(of), question, of->file, sizeof of->file)
-                   : mrd_ask_with_columns(ALIGNED, STREAM_OF(of), question, COLUMNS_OF(of));
+    return by_file ? mrd_ask_with_file(of->rules, STREAM_OF(of), question, of->file, sizeof of->file)
+                   : mrd_ask_with_columns(of->rules, STREAM_OF(of), question, COLUMNS_OF(of));
 }
 
 /* Every element at its offset, and 20 at every other, filler and packed offsets among them: by number, at a cursor, and
@@ -538,8 +540,8 @@ static void aligned_fields(const aligned_indexed *of, mrd_cursor cursor)
             e++;
         mrd_question question = mrd_question_field(1, offset);
         mrd_field_answer fields[] = {
-            mrd_field(ALIGNED, STREAM_OF(of), 1, offset),
-            mrd_field_at(ALIGNED, STREAM_OF(of), cursor, offset),
+            mrd_field(of->rules, STREAM_OF(of), 1, offset),
+            mrd_field_at(of->rules, STREAM_OF(of), cursor, offset),
             ask_aligned(of, question, true).field,
             ask_aligned(of, question, false).field,
         };
@@ -557,11 +559,11 @@ static void aligned_fields(const aligned_indexed *of, mrd_cursor cursor)
 static void aligned_places(const aligned_indexed *of, mrd_cursor cursor)
 {
     static const uint16_t asked[17] = {0};
-    mrd_cursor_answer made = mrd_cursor_for(ALIGNED, of->starts, 3, of->ids, 3, 1);
+    mrd_cursor_answer made = mrd_cursor_for(of->rules, of->starts, 3, of->ids, 3, 1);
     CHECK(made.refusal == MRD_OK && made.cursor.start == cursor.start && made.cursor.number == cursor.number);
     mrd_placed placed[] = {
-        mrd_place(ALIGNED, STREAM_OF(of), 1),
-        mrd_next(ALIGNED, STREAM_OF(of), cursor).here,
+        mrd_place(of->rules, STREAM_OF(of), 1),
+        mrd_next(of->rules, STREAM_OF(of), cursor).here,
         ask_aligned(of, mrd_question_place(1), true).place,
         ask_aligned(of, mrd_question_place(1), false).place,
     };
@@ -570,33 +572,33 @@ static void aligned_places(const aligned_indexed *of, mrd_cursor cursor)
               placed[i].size == WAVEFORM_END - WAVEFORM && placed[i].number_of_samples == 2 &&
               placed[i].channels == 2);
     mrd_view_place views[] = {
-        mrd_view(ALIGNED, STREAM_OF(of), 1, MRD_PART_WAVEFORM, 0),
-        mrd_view_at(ALIGNED, STREAM_OF(of), cursor, MRD_PART_WAVEFORM, 0),
-        mrd_view_at(ALIGNED, STREAM_OF(of), made.cursor, MRD_PART_WAVEFORM, 0),
+        mrd_view(of->rules, STREAM_OF(of), 1, MRD_PART_WAVEFORM, 0),
+        mrd_view_at(of->rules, STREAM_OF(of), cursor, MRD_PART_WAVEFORM, 0),
+        mrd_view_at(of->rules, STREAM_OF(of), made.cursor, MRD_PART_WAVEFORM, 0),
         ask_aligned(of, mrd_question_view(1, MRD_PART_WAVEFORM, 0), true).view,
         ask_aligned(of, mrd_question_view(1, MRD_PART_WAVEFORM, 0), false).view,
     };
     for (size_t i = 0; i < sizeof views / sizeof views[0]; i++)
         CHECK(views[i].refusal == MRD_OK && views[i].start == WAVEFORM_DATA &&
               views[i].length == WAVEFORM_END - WAVEFORM_DATA);
-    CHECK(mrd_find(ALIGNED, STREAM_OF(of), 0, asked).refusal == MRD_REFUSED_NO_RECORD);
+    CHECK(mrd_find(of->rules, STREAM_OF(of), 0, asked).refusal == MRD_REFUSED_NO_RECORD);
 }
 
 /* Each call once with aligned waveform headers. What filler holds is no part of any answer, and the normal form has it
  * zero. */
-static void aligned_waveforms(void)
+static void aligned_waveforms(mrd_rules rules)
 {
     for (int filler = 0; filler < 256; filler += 85) {
-        aligned_indexed of = {.stream = waveform_filled((uint8_t)filler)};
+        aligned_indexed of = {.rules = rules, .stream = waveform_filled((uint8_t)filler)};
         waveform_stream normal = waveform_filled(0), out;
-        CHECK(mrd_check(ALIGNED, STREAM_OF(&of)).count == 3);
-        mrd_step text = mrd_next(ALIGNED, STREAM_OF(&of), mrd_beginning());
-        CHECK(mrd_check_from(ALIGNED, STREAM_OF(&of), text.next).count == 3);
+        CHECK(mrd_check(rules, STREAM_OF(&of)).count == 3);
+        mrd_step text = mrd_next(rules, STREAM_OF(&of), mrd_beginning());
+        CHECK(mrd_check_from(rules, STREAM_OF(&of), text.next).count == 3);
         aligned_index(&of);
         aligned_fields(&of, text.next);
         aligned_places(&of, text.next);
         memset(&out, 0xEE, sizeof out);
-        CHECK(mrd_normal_form(ALIGNED, STREAM_OF(&of), out.bytes, sizeof out.bytes).length == sizeof out.bytes);
+        CHECK(mrd_normal_form(rules, STREAM_OF(&of), out.bytes, sizeof out.bytes).length == sizeof out.bytes);
         CHECK(memcmp(&out, &normal, sizeof out) == 0);
     }
 }
@@ -659,6 +661,343 @@ static void aligned_written(void)
     CHECK(memcmp(out, kept, sizeof out) == 0);
     CHECK(mrd_write_parts(ALIGNED, MRD_ID_WAVEFORM, &parts, out, sizeof out, 0).position == sizeof out);
     CHECK(memcmp(out, normal.bytes + WAVEFORM, sizeof out) == 0);
+}
+
+/* ---- The strict profile ---- */
+
+/* A text by its bytes, which may have a zero among them. */
+typedef struct {
+    const char *bytes;
+    size_t length;
+} text_bytes;
+
+#define TEXT(literal) {literal, sizeof literal - 1}
+
+/* Well formed by RFC 3629: the first and the last character of each length and of each row of its table, U+FEFF, and a
+ * noncharacter. */
+static const text_bytes WELL_FORMED[] = {
+    TEXT(""),
+    TEXT("radial"),
+    TEXT("\x7F"),
+    TEXT("\xC2\x80"),
+    TEXT("\xDF\xBF"),
+    TEXT("\xE0\xA0\x80"),
+    TEXT("\xE1\x80\x80"),
+    TEXT("\xED\x9F\xBF"),
+    TEXT("\xEE\x80\x80"),
+    TEXT("\xEF\xBB\xBF"),
+    TEXT("\xEF\xBF\xBF"),
+    TEXT("\xF0\x90\x80\x80"),
+    TEXT("\xF1\x80\x80\x80"),
+    TEXT("\xF4\x8F\xBF\xBF"),
+    TEXT("m\xC3\xA9t\xC3\xA9o \xE2\x82\xAC \xF0\x9F\xA7\xB2"),
+};
+
+/* Not well formed: a byte that begins no character, overlong forms, surrogates, numbers above U+10FFFF, characters cut
+ * short by the end or by another one, and bytes that no text has. */
+static const text_bytes NOT_WELL_FORMED[] = {
+    TEXT("\x80"),
+    TEXT("a\xBF"),
+    TEXT("\xC0\x80"),
+    TEXT("\xC1\xBF"),
+    TEXT("\xE0\x9F\xBF"),
+    TEXT("\xF0\x8F\xBF\xBF"),
+    TEXT("\xED\xA0\x80"),
+    TEXT("\xED\xBF\xBF"),
+    TEXT("\xF4\x90\x80\x80"),
+    TEXT("\xF5\x80\x80\x80"),
+    TEXT("caf\xE9"),
+    TEXT("\xC3"),
+    TEXT("\xE2\x82"),
+    TEXT("\xF0\x9F\xA7"),
+    TEXT("\xC3\xC3\xA9"),
+    TEXT("\xE2\x82 "),
+    TEXT("\xF0\x9F\xA7z"),
+    TEXT("\xC3\xA9\xA9"),
+    TEXT("\xFE"),
+    TEXT("plain for long enough that a word of eight bytes is read at once\xFF"),
+};
+
+enum {
+    WELL = sizeof WELL_FORMED / sizeof WELL_FORMED[0],
+    NOT_WELL = sizeof NOT_WELL_FORMED / sizeof NOT_WELL_FORMED[0]
+};
+
+/* The five kinds that have a text. A stream has one of the first two. */
+static const uint16_t TEXT_KINDS[] = {MRD_ID_CONFIGURATION_NAME, MRD_ID_CONFIGURATION_TEXT, MRD_ID_HEADER_TEXT,
+                                      MRD_ID_TEXT, MRD_ID_IMAGE};
+enum { KINDS = sizeof TEXT_KINDS / sizeof TEXT_KINDS[0], TEXT_RECORDS = 5 };
+
+/* A message of one of these kinds with this text. The image has no pixels. */
+static mrd_put write_text(mrd_rules rules, uint16_t id, text_bytes text, uint8_t *out, size_t room, size_t position)
+{
+    static const uint8_t header[198] = {1, 0, 1};
+    const uint8_t *bytes = (const uint8_t *)text.bytes;
+    mrd_parts parts = {0};
+    if (id == MRD_ID_CONFIGURATION_NAME) {
+        parts.name = bytes;
+        parts.name_length = text.length;
+    } else if (id == MRD_ID_IMAGE) {
+        parts.header = header;
+        parts.header_length = sizeof header;
+        parts.attributes = bytes;
+        parts.attributes_length = text.length;
+    } else {
+        parts.text = bytes;
+        parts.text_length = text.length;
+    }
+    return mrd_write_parts(rules, id, &parts, out, room, position);
+}
+
+/* A configuration, a header text, a text, an image and the close, and where each of them starts. */
+typedef struct {
+    uint8_t bytes[2000];
+    size_t length, starts[TEXT_RECORDS];
+} text_stream;
+
+/* The stream in which the message of this kind has this text, and every other one `other`; the message's record number
+ * is `record`. */
+static text_stream text_stream_of(uint16_t kind, text_bytes text, text_bytes other, size_t *record)
+{
+    text_stream stream = {.length = 0};
+    size_t n = 0;
+    uint16_t unused = kind == MRD_ID_CONFIGURATION_TEXT ? MRD_ID_CONFIGURATION_NAME : MRD_ID_CONFIGURATION_TEXT;
+    for (size_t k = 0; k < KINDS; k++) {
+        uint16_t id = TEXT_KINDS[k];
+        if (id == unused)
+            continue;
+        if (id == kind)
+            *record = n;
+        stream.starts[n++] = stream.length;
+        text_bytes its = id == kind ? text : other;
+        mrd_put end = write_text(PACKED, id, its, stream.bytes, sizeof stream.bytes, stream.length);
+        CHECK(end.refusal == MRD_OK);
+        stream.length = end.position;
+    }
+    stream.starts[n] = stream.length;
+    put(stream.bytes, stream.length, 2, MRD_ID_CLOSE);
+    stream.length += 2;
+    return stream;
+}
+
+/* Its index in both forms, made by the plain profile, which has any bytes for a text. */
+typedef struct {
+    uint8_t file[23 + 17 * TEXT_RECORDS];
+    uint64_t starts[TEXT_RECORDS];
+    uint16_t ids[TEXT_RECORDS];
+    uint32_t counters[TEXT_RECORDS];
+} text_index;
+
+#define ALL_COLUMNS(of) (of)->starts, TEXT_RECORDS, (of)->ids, TEXT_RECORDS, (of)->counters, TEXT_RECORDS
+
+static text_index text_index_of(const text_stream *stream)
+{
+    text_index of;
+    const uint8_t *s = stream->bytes;
+    size_t n = stream->length;
+    CHECK(mrd_check(PACKED, s, n).count == TEXT_RECORDS);
+    CHECK(mrd_write_index(PACKED, s, n, of.file, sizeof of.file).length == sizeof of.file);
+    CHECK(mrd_fill_columns(PACKED, s, n, ALL_COLUMNS(&of)).length == TEXT_RECORDS);
+    return of;
+}
+
+/* Where a call refuses a stream: every answer about one has these three. */
+#define WHERE(answer) ((mrd_matched){(answer).refusal, (answer).record, (answer).byte})
+
+/* Each call about a stream refuses it with 21 and says where; none writes anything. */
+static void each_call_refuses(mrd_rules rules, const text_stream *stream, size_t record)
+{
+    static const uint16_t asked[17] = {0};
+    text_index of = text_index_of(stream), out;
+    static uint8_t normal[sizeof stream->bytes];
+    const uint8_t *s = stream->bytes;
+    size_t n = stream->length;
+    mrd_cursor at = mrd_cursor_for(rules, of.starts, TEXT_RECORDS, of.ids, TEXT_RECORDS, record).cursor;
+    memset(&out, 0xEE, sizeof out);
+    memset(normal, 0xEE, sizeof normal);
+    text_index kept = out;
+    mrd_question place = mrd_question_place(0), view = mrd_question_view(record, MRD_PART_TEXT, 0),
+                 field = mrd_question_field(9, 0), find = mrd_question_find(0, asked);
+    mrd_matched answers[] = {
+        WHERE(mrd_check(rules, s, n)),
+        WHERE(mrd_check_from(rules, s, n, mrd_beginning())),
+        WHERE(mrd_check_from(rules, s, n, at)),
+        WHERE(mrd_next(rules, s, n, at).answer),
+        WHERE(mrd_place(rules, s, n, 0)),
+        WHERE(mrd_view(rules, s, n, record, MRD_PART_TEXT, 0)),
+        WHERE(mrd_view_at(rules, s, n, at, MRD_PART_TEXT, 0)),
+        WHERE(mrd_field(rules, s, n, 9, 0)),
+        WHERE(mrd_field_at(rules, s, n, at, 0)),
+        WHERE(mrd_find(rules, s, n, 0, asked)),
+        WHERE(mrd_ask_with_file(rules, s, n, place, of.file, sizeof of.file)),
+        WHERE(mrd_ask_with_file(rules, s, n, view, of.file, sizeof of.file)),
+        WHERE(mrd_ask_with_file(rules, s, n, field, of.file, 0)),
+        WHERE(mrd_ask_with_file(rules, s, n, find, of.file, 0)),
+        WHERE(mrd_ask_with_columns(rules, s, n, place, ALL_COLUMNS(&of))),
+        WHERE(mrd_ask_with_columns(rules, s, n, view, ALL_COLUMNS(&of))),
+        WHERE(mrd_ask_with_columns(rules, s, n, field, ALL_COLUMNS(&kept))),
+        WHERE(mrd_ask_with_columns(rules, s, n, find, ALL_COLUMNS(&kept))),
+        WHERE(mrd_index_matches(rules, s, n, of.file, sizeof of.file)),
+        WHERE(mrd_columns_match(rules, s, n, ALL_COLUMNS(&of))),
+        WHERE(mrd_normal_form(rules, s, n, normal, sizeof normal)),
+        WHERE(mrd_write_index(rules, s, n, out.file, sizeof out.file)),
+        WHERE(mrd_fill_columns(rules, s, n, ALL_COLUMNS(&out))),
+    };
+    for (size_t i = 0; i < sizeof answers / sizeof answers[0]; i++)
+        CHECK(answers[i].refusal == MRD_REFUSED_TEXT_NOT_UTF8 && answers[i].record == record &&
+              answers[i].byte == stream->starts[record]);
+    CHECK(memcmp(out.file, kept.file, sizeof out.file) == 0 && memcmp(out.starts, kept.starts, sizeof out.starts) == 0);
+    CHECK(memcmp(out.ids, kept.ids, sizeof out.ids) == 0 &&
+          memcmp(out.counters, kept.counters, sizeof out.counters) == 0);
+    CHECK(normal[0] == 0xEE && normal[n - 1] == 0xEE);
+}
+
+/* Each call about a stream whose texts are UTF-8 answers what it does by the plain profile. */
+static void each_call_accepts(mrd_rules rules, const text_stream *stream, size_t record)
+{
+    static const uint16_t asked[17] = {0};
+    text_index of = text_index_of(stream), out;
+    static uint8_t normal[sizeof stream->bytes];
+    const uint8_t *s = stream->bytes;
+    size_t n = stream->length;
+    uint32_t part = of.ids[record] == MRD_ID_CONFIGURATION_NAME ? MRD_PART_NAME
+                    : of.ids[record] == MRD_ID_IMAGE            ? MRD_PART_ATTRIBUTES
+                                                                : MRD_PART_TEXT;
+    mrd_view_place plain = mrd_view(PACKED, s, n, record, part, 0);
+    mrd_cursor at = mrd_cursor_for(rules, of.starts, TEXT_RECORDS, of.ids, TEXT_RECORDS, record).cursor;
+    CHECK(mrd_check(rules, s, n).count == TEXT_RECORDS);
+    CHECK(mrd_check_from(rules, s, n, at).count == TEXT_RECORDS);
+    CHECK(mrd_next(rules, s, n, at).here.start == stream->starts[record]);
+    CHECK(mrd_place(rules, s, n, record).start == stream->starts[record]);
+    mrd_question view = mrd_question_view(record, part, 0);
+    mrd_view_place views[] = {
+        mrd_view(rules, s, n, record, part, 0),
+        mrd_view_at(rules, s, n, at, part, 0),
+        mrd_ask_with_file(rules, s, n, view, of.file, sizeof of.file).view,
+        mrd_ask_with_columns(rules, s, n, view, ALL_COLUMNS(&of)).view,
+    };
+    for (size_t i = 0; i < sizeof views / sizeof views[0]; i++)
+        CHECK(views[i].refusal == MRD_OK && views[i].start == plain.start && views[i].length == plain.length);
+    CHECK(mrd_field(rules, s, n, 3, MRD_IMAGE_VERSION).whole == 1);
+    CHECK(mrd_field_at(rules, s, n, at, MRD_IMAGE_VERSION).refusal ==
+          (part == MRD_PART_ATTRIBUTES ? MRD_OK : MRD_REFUSED_NO_FIELD));
+    CHECK(mrd_find(rules, s, n, 0, asked).refusal == MRD_REFUSED_NO_RECORD);
+    CHECK(mrd_index_matches(rules, s, n, of.file, sizeof of.file).refusal == MRD_OK);
+    CHECK(mrd_columns_match(rules, s, n, ALL_COLUMNS(&of)).refusal == MRD_OK);
+    CHECK(mrd_normal_form(rules, s, n, normal, sizeof normal).length == n && memcmp(normal, s, n) == 0);
+    CHECK(mrd_write_index(rules, s, n, out.file, sizeof out.file).length == sizeof out.file);
+    CHECK(memcmp(out.file, of.file, sizeof out.file) == 0);
+    CHECK(mrd_fill_columns(rules, s, n, ALL_COLUMNS(&out)).length == TEXT_RECORDS);
+    CHECK(memcmp(out.starts, of.starts, sizeof out.starts) == 0);
+}
+
+/* Every text in every kind that has one, by both profiles and both layouts. */
+static void strict_texts(void)
+{
+    static const text_bytes other = TEXT("\xC3\xA9"), latin1 = TEXT("caf\xE9");
+    for (size_t k = 0; k < KINDS; k++) {
+        size_t record = 0;
+        for (size_t i = 0; i < WELL; i++) {
+            text_stream stream = text_stream_of(TEXT_KINDS[k], WELL_FORMED[i], other, &record);
+            each_call_accepts(STRICT, &stream, record);
+            each_call_accepts(STRICT_ALIGNED, &stream, record);
+        }
+        for (size_t i = 0; i < NOT_WELL; i++) {
+            text_stream stream = text_stream_of(TEXT_KINDS[k], NOT_WELL_FORMED[i], other, &record);
+            each_call_accepts(PACKED, &stream, record);
+            each_call_accepts(ALIGNED, &stream, record);
+            each_call_refuses(STRICT, &stream, record);
+            each_call_refuses(STRICT_ALIGNED, &stream, record);
+        }
+        /* The first text that is not UTF-8 decides. */
+        text_stream stream = text_stream_of(TEXT_KINDS[k], other, latin1, &record);
+        mrd_checked first = mrd_check(STRICT, stream.bytes, stream.length);
+        CHECK(first.refusal == MRD_REFUSED_TEXT_NOT_UTF8 && first.record == (record == 0 ? 1 : 0));
+    }
+}
+
+/* What follows a name's zero is no text; what comes before it is, to its last byte. A text may hold a zero. */
+static void zeros_in_texts(void)
+{
+    static const text_bytes zeros = {"a\0b\0", 4}, name = TEXT("radial");
+    size_t record = 0;
+    text_stream stream = text_stream_of(MRD_ID_CONFIGURATION_NAME, name, zeros, &record);
+    CHECK(mrd_check(STRICT, stream.bytes, stream.length).count == TEXT_RECORDS);
+    memset(stream.bytes + 2 + 7, 0xFF, 1024 - 7);
+    CHECK(mrd_check(STRICT, stream.bytes, stream.length).count == TEXT_RECORDS);
+    /* U+00E9 with the zero in its middle. */
+    memcpy(stream.bytes + 2 + 5, "\xC3\0\xA9", 3);
+    CHECK(mrd_check(PACKED, stream.bytes, stream.length).count == TEXT_RECORDS);
+    CHECK(mrd_check(STRICT, stream.bytes, stream.length).refusal == MRD_REFUSED_TEXT_NOT_UTF8);
+}
+
+/* 21 comes after all else about its message, and before anything about a later one. */
+static void strict_order(void)
+{
+    static const uint8_t bad[] = {5, 0, 2, 0, 0, 0, 0xFF, 'a', 6, 0};
+    CHECK(mrd_check(STRICT, bad, 7).refusal == MRD_REFUSED_MESSAGE_CUT);
+    CHECK(mrd_check(STRICT, bad, 8).refusal == MRD_REFUSED_TEXT_NOT_UTF8);
+    CHECK(mrd_check(STRICT, bad, 9).refusal == MRD_REFUSED_TEXT_NOT_UTF8);
+    mrd_checked plain = mrd_check(PACKED, bad, 10);
+    CHECK(plain.refusal == MRD_REFUSED_UNKNOWN_ID && plain.record == 1 && plain.byte == 8);
+    /* A character does not run from one message into the next. */
+    static const uint8_t split[] = {5, 0, 1, 0, 0, 0, 0xC3, 5, 0, 1, 0, 0, 0, 0xA9, 4, 0};
+    CHECK(mrd_check(PACKED, split, sizeof split).count == 3);
+    mrd_checked first = mrd_check(STRICT, split, sizeof split);
+    CHECK(first.refusal == MRD_REFUSED_TEXT_NOT_UTF8 && first.record == 0 && first.byte == 0);
+    mrd_cursor second = mrd_next(PACKED, split, sizeof split, mrd_beginning()).next;
+    mrd_checked then = mrd_check_from(STRICT, split, sizeof split, second);
+    CHECK(then.refusal == MRD_REFUSED_TEXT_NOT_UTF8 && then.record == 1 && then.byte == 7);
+}
+
+/* The writer's 21: each text in each kind, with room and without. What it refuses leaves the output as it was. */
+static void strict_written(void)
+{
+    uint8_t out[1100], kept[sizeof out], plain[sizeof out];
+    for (size_t k = 0; k < KINDS; k++) {
+        for (size_t i = 0; i < WELL; i++) {
+            memset(out, 0xEE, sizeof out);
+            memset(plain, 0xEE, sizeof plain);
+            mrd_put end = write_text(STRICT, TEXT_KINDS[k], WELL_FORMED[i], out, sizeof out, 3);
+            CHECK(end.refusal == MRD_OK);
+            CHECK(end.position == write_text(PACKED, TEXT_KINDS[k], WELL_FORMED[i], plain, sizeof plain, 3).position);
+            CHECK(memcmp(out, plain, sizeof out) == 0);
+            CHECK(write_text(STRICT, TEXT_KINDS[k], WELL_FORMED[i], out, 5, 0).refusal == MRD_REFUSED_OUTPUT_SHORT);
+        }
+        for (size_t i = 0; i < NOT_WELL; i++) {
+            memset(out, 0xEE, sizeof out);
+            memset(kept, 0xEE, sizeof kept);
+            text_bytes text = NOT_WELL_FORMED[i];
+            CHECK(write_text(STRICT, TEXT_KINDS[k], text, out, sizeof out, 3).refusal == MRD_REFUSED_TEXT_NOT_UTF8);
+            CHECK(write_text(STRICT_ALIGNED, TEXT_KINDS[k], text, out, 5, SIZE_MAX).refusal ==
+                  MRD_REFUSED_TEXT_NOT_UTF8);
+            CHECK(memcmp(out, kept, sizeof out) == 0);
+            CHECK(write_text(PACKED, TEXT_KINDS[k], text, out, 5, 0).refusal == MRD_REFUSED_OUTPUT_SHORT);
+            CHECK(write_text(PACKED, TEXT_KINDS[k], text, out, sizeof out, 3).refusal == MRD_OK);
+        }
+    }
+}
+
+/* 5 and 18 come before 21, and 21 before 14; what is no text may have any bytes. */
+static void strict_written_order(void)
+{
+    static const uint8_t bad[] = {0xFF, 0xFF, 0xFF, 0xFF};
+    uint8_t out[400], header[340] = {1};
+    mrd_parts parts = {.text = bad, .text_length = 4};
+    CHECK(mrd_write_parts(STRICT, MRD_ID_TEXT, &parts, out, 0, 0).refusal == MRD_REFUSED_TEXT_NOT_UTF8);
+    CHECK(mrd_write_parts(PACKED, MRD_ID_TEXT, &parts, out, 0, 0).refusal == MRD_REFUSED_OUTPUT_SHORT);
+    CHECK(mrd_write_parts(STRICT, MRD_ID_CLOSE, &parts, out, 0, 0).refusal == MRD_REFUSED_BODY_LENGTH);
+    parts.waveform = bad;
+    parts.waveform_length = 4;
+    CHECK(mrd_write_parts(STRICT, MRD_ID_TEXT, &parts, out, 0, 0).refusal == MRD_REFUSED_BODY_LENGTH);
+    static const uint8_t holds_zero[] = {0xFF, 0};
+    mrd_parts name = {.name = holds_zero, .name_length = 2};
+    CHECK(mrd_write_parts(STRICT, MRD_ID_CONFIGURATION_NAME, &name, out, 0, 0).refusal == MRD_REFUSED_NAME);
+    put(header, MRD_WAVEFORM_NUMBER_OF_SAMPLES, 2, 1);
+    put(header, MRD_WAVEFORM_CHANNELS, 2, 1);
+    mrd_parts data = {.header = header, .header_length = MRD_WAVEFORM_HEADER_SIZE, .waveform = bad,
+                      .waveform_length = 4};
+    CHECK(mrd_write_parts(STRICT, MRD_ID_WAVEFORM, &data, out, sizeof out, 0).position == 2 + 32 + 4);
 }
 
 /* A walk hands out each record once and then the answer; from any cursor there is one. */
@@ -726,11 +1065,17 @@ int main(void)
     stated_lengths();
     lengths_past_32_bits();
     stated_lengths_written();
-    aligned_waveforms();
+    aligned_waveforms(ALIGNED);
+    aligned_waveforms(STRICT_ALIGNED);
     one_stream_two_layouts();
     one_layout_alone();
     aligned_refusals();
     aligned_written();
+    strict_texts();
+    zeros_in_texts();
+    strict_order();
+    strict_written();
+    strict_written_order();
     walk();
     where_a_walk_stands();
     where_the_columns_say();

@@ -1,5 +1,5 @@
-/* How much stack each family of calls takes on a large stream, for each layout of waveform headers: below 64 KiB, or
- * this program fails.
+/* How much stack each family of calls takes on a large stream, for each layout of waveform headers and each profile of
+ * texts: below 64 KiB, or this program fails.
  *
  * Each family runs in a thread whose stack is painted before; how deep the paint is gone afterwards is what the
  * thread took, its own start and end included. The line `idle` is a thread that calls nothing. */
@@ -34,6 +34,16 @@ static void *need(size_t bytes)
         exit(EXIT_FAILURE);
     }
     return memory;
+}
+
+/* What texts and attributes hold: characters of one to four bytes, so that the strict profile meets all its cases. */
+static uint8_t texts[1000];
+
+static void set_texts(void)
+{
+    static const uint8_t ten[10] = {'a', 0xC3, 0xA9, 0xE2, 0x82, 0xAC, 0xF0, 0x9F, 0xA7, 0xB2};
+    for (size_t i = 0; i < sizeof texts; i++)
+        texts[i] = ten[i % sizeof ten];
 }
 
 static void put(uint8_t *bytes, size_t at, int width, uint64_t number)
@@ -77,7 +87,7 @@ static void add_image(const uint8_t *body)
         put(header, at, 2, at < 20 ? 16 : 1);
     put(header, 34, 2, 1);
     put(header, 194, 4, 100);
-    add(MRD_ID_IMAGE, (mrd_parts){.header = header, .header_length = 198, .attributes = body,
+    add(MRD_ID_IMAGE, (mrd_parts){.header = header, .header_length = 198, .attributes = texts,
                                   .attributes_length = 100, .pixels = body, .pixels_length = 4096});
 }
 
@@ -103,9 +113,9 @@ static void build(void)
     length = count = 0;
     stream = need(room);
     add(MRD_ID_CONFIGURATION_NAME, (mrd_parts){.name = (const uint8_t *)"radial", .name_length = 6});
-    add(MRD_ID_HEADER_TEXT, (mrd_parts){.text = body, .text_length = 1000});
+    add(MRD_ID_HEADER_TEXT, (mrd_parts){.text = texts, .text_length = sizeof texts});
     for (int round = 0; round < ROUNDS; round++) {
-        add(MRD_ID_TEXT, (mrd_parts){.text = body, .text_length = 20});
+        add(MRD_ID_TEXT, (mrd_parts){.text = texts, .text_length = 20});
         add_acquisition(body, round == ROUNDS - 1 ? 9 : 0);
         add_image(body);
         add_waveform(body);
@@ -226,6 +236,13 @@ static bool write_message(void)
     return mrd_write_parts(rules, MRD_ID_ACQUISITION, &parts, out, room, 0).position == at.size;
 }
 
+/* The longest text that the stream has. */
+static bool write_text(void)
+{
+    mrd_parts parts = {.text = texts, .text_length = sizeof texts};
+    return mrd_write_parts(rules, MRD_ID_TEXT, &parts, out, room, 0).position == 6 + sizeof texts;
+}
+
 static bool flags(void)
 {
     return mrd_flag_test(mrd_flag_set(mrd_flag_clear(0, 1), 7), 7) && mrd_counter_step(1, 2) == 1;
@@ -283,6 +300,7 @@ static const struct {
     {"columns match", columns_match},
     {"with columns", with_columns},
     {"write", write_message},
+    {"write text", write_text},
     {"flags", flags},
 };
 
@@ -293,13 +311,15 @@ static const char *who = "";
 static bool measured(void)
 {
     const char *layout = rules.aligned_waveforms ? "aligned" : "packed";
+    const char *profile = rules.strict_text ? "strict" : "plain";
     bool passed = true;
     for (size_t i = 0; i < sizeof families / sizeof families[0]; i++) {
         size_t bytes = taken(families[i].family);
-        printf("%s, %s: %zu bytes of stack\n", families[i].name, layout, bytes);
+        printf("%s, %s, %s: %zu bytes of stack\n", families[i].name, layout, profile, bytes);
         if (bytes == 0 || bytes >= MOST) {
             passed = false;
-            printf("%s, %s: %s\n", families[i].name, layout, bytes == 0 ? "refused, or not run" : "64 KiB or more");
+            printf("%s, %s, %s: %s\n", families[i].name, layout, profile,
+                   bytes == 0 ? "refused, or not run" : "64 KiB or more");
         }
         if (bytes > most) {
             most = bytes;
@@ -312,8 +332,9 @@ static bool measured(void)
 int main(void)
 {
     bool passed = true;
-    for (int aligned = 0; aligned < 2; aligned++) {
-        rules.aligned_waveforms = aligned;
+    set_texts();
+    for (int i = 0; i < 4; i++) {
+        rules = (mrd_rules){.aligned_waveforms = i % 2 == 1, .strict_text = i / 2 == 1};
         build();
         passed = measured() && passed;
         release();

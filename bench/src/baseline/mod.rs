@@ -6,6 +6,7 @@ pub mod index;
 pub mod normal;
 pub mod questions;
 pub mod reader;
+pub mod strict;
 pub mod writer;
 
 /// A whole message, id included, may have at most this many bytes (check 10).

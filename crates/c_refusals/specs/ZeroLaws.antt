@@ -193,6 +193,6 @@ zero-put rules id c at o = zero-answer (λ a. cPut a .refusal) (λ f r b. refl) 
     judged zero n = tt
     judged (suc f) n = omega arith
 
-    by : (i : Identified) → Refuses 1 (answerAs i c at o)
+    by : (i : Identified) → Refuses 1 (answerAs (rules .profile) i c at o)
     by Unknown = omega arith
-    by (Known k) = judged (first (writeChecks k c at o)) (at + contentsSize k c)
+    by (Known k) = judged (first (writeChecks (rules .profile) k c at o)) (at + contentsSize k c)

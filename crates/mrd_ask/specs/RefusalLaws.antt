@@ -72,7 +72,7 @@ module _ {A : Type 0} (m : ℕ) where
 judge-numbered : (rules : Rules) (c : Cursor) (t : List ℕ) {f : ℕ} → judge rules c t ≡ faulty f → 0 < f
 judge-numbered rules c t {f} e =
     let i = identified rules (idAt t) in
-    let some = fault-not-zero (checksAs i c t) {f = f} (all-numbered i c t) (judge-faulty rules c t e) in
+    let some = fault-not-zero (checksAs (rules .profile) i c t) {f = f} (all-numbered (rules .profile) i c t) (judge-faulty rules c t e) in
     omega (arith, some)
 
 ended-numbered : (c : Cursor) → NumberedRefusal (ended c)

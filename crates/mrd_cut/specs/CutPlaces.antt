@@ -10,7 +10,7 @@ use lib.Seq.{take-append-seam, drop-at}
 use Rattle.mrd_format.specs.declared.kind.Kind.{Kind}
 use Rattle.mrd_format.specs.declared.rules.Rules.{Rules}
 use Rattle.mrd_format.specs.declared.kind.Kind.the-variants.{Close, Text}
-use Rattle.mrd_format.specs.Message.{WellFormed}
+use Rattle.mrd_format.specs.WellFormed.{WellFormed}
 use Rattle.mrd_cursor.specs.declared.cursor.Cursor.{Cursor}
 use Rattle.mrd_logic.specs.Answer.{accepted}
 use Rattle.mrd_stream.specs.Walk.{Trace, trace, answer}

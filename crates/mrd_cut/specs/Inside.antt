@@ -7,7 +7,8 @@ use mathlib.Core.List.{List, [], _∷_, _++_, append-assoc}
 use lib.ListN.{length, length-append}
 use lib.Seq.{take-append-seam, drop-at}
 use Rattle.mrd_logic.specs.Every.{Every}
-use Rattle.mrd_format.specs.Message.{fixedPart, numbersOf, WellFormed}
+use Rattle.mrd_format.specs.Message.{fixedPart, numbersOf}
+use Rattle.mrd_format.specs.WellFormed.{WellFormed}
 use Rattle.mrd_cursor.specs.declared.cursor.Cursor.{Cursor}
 use Rattle.mrd_logic.specs.Answer.{answered}
 use Rattle.mrd_logic.specs.AnswerLaws.{answered-not-number, answered-accepted}

@@ -10,7 +10,8 @@ use lib.ListN.{length}
 use Rattle.mrd_format.specs.declared.kind.Kind.{Kind}
 use Rattle.mrd_format.specs.declared.rules.Rules.{Rules}
 use Rattle.mrd_format.specs.Kinds.{identified}
-use Rattle.mrd_format.specs.Message.{idAt, WellFormed}
+use Rattle.mrd_format.specs.Message.{idAt}
+use Rattle.mrd_format.specs.WellFormed.{WellFormed}
 use Rattle.mrd_cursor.specs.declared.cursor.Cursor.{Cursor}
 use Rattle.mrd_cursor.specs.Order.{isClosed}
 use Rattle.mrd_cursor.specs.Cursors.{maxMessages}
@@ -30,7 +31,7 @@ use Rattle.mrd_cut.specs.Walked.{refused-not-accepted, Stops, met, piece
 -- that refuses the message at the front of t
 abbrev pub FaultAt : Rules → ℕ → Cursor → List Kind → List ℕ → Type 0
 FaultAt rules f c ks [] = (f ≡ 13) × Lacks close ks
-FaultAt rules f c ks (b ∷ t) = FirstFault f (checksAs (identified rules (idAt (b ∷ t))) c (b ∷ t))
+FaultAt rules f c ks (b ∷ t) = FirstFault f (checksAs (rules .profile) (identified rules (idAt (b ∷ t))) c (b ∷ t))
 
 -- after n well-formed messages of s in order, and b bytes, comes the fault f
 pub record RefusedAt (rules : Rules) (s : List ℕ) (f n b : ℕ) : Type 0 where

@@ -5,7 +5,7 @@ use native.Mathlib.Omega.{arith}
 use mathlib.Core.Path.{_≡_, refl, sym, ap, _∙_}
 use mathlib.Core.List.{List, [], _∷_, _++_, append-cancel-left}
 use lib.ListN.{length, length-append}
-use Rattle.mrd_format.specs.Message.{WellFormed}
+use Rattle.mrd_format.specs.WellFormed.{WellFormed}
 use Rattle.mrd_format.specs.MessageLaws.{well-least, prefix-free}
 use Rattle.mrd_logic.specs.Every.{Every}
 use Rattle.mrd_logic.specs.Joined.{joined}

@@ -10,7 +10,8 @@ use mathlib.Core.List.{List, [], _∷_, _++_, append-assoc}
 use lib.ListN.{length, take, drop, length-append, length-drop, take-append-drop}
 use lib.Seq.{take-append-seam, drop-append-seam}
 use Rattle.mrd_format.specs.Kinds.{identified}
-use Rattle.mrd_format.specs.Message.{idAt, fixedPart, WellFormed}
+use Rattle.mrd_format.specs.Message.{idAt, fixedPart}
+use Rattle.mrd_format.specs.WellFormed.{WellFormed}
 use Rattle.mrd_format.specs.MessageLaws.{size-least}
 use Rattle.mrd_cursor.specs.declared.cursor.Cursor.{Cursor}
 use Rattle.mrd_cursor.specs.Order.{allowed}
@@ -86,7 +87,7 @@ cursorPast rules c ms w =
 abbrev pub Stops : Rules → Cursor → List ℕ → Verdict → Type 0
 Stops rules c [] v = v ≡ ended c
 Stops rules c (b ∷ t) v =
-    (f : ℕ) × FirstFault f (checksAs (identified rules (idAt (b ∷ t))) c (b ∷ t)) × (v ≡ refused f (c .number) (c .start))
+    (f : ℕ) × FirstFault f (checksAs (rules .profile) (identified rules (idAt (b ∷ t))) c (b ∷ t)) × (v ≡ refused f (c .number) (c .start))
 
 -- the messages that a walk over s from c met: they are well formed, allowed, and not too many; after them the walk stops
 pub record Walked (rules : Rules) (c : Cursor) (s : List ℕ) (r : Trace) : Type 0 where

@@ -12,7 +12,8 @@ use Rattle.mrd_numbers.specs.Stored.{stored}
 use Rattle.mrd_logic.specs.Answer.{accepted, answered}
 use Rattle.mrd_format.specs.declared.kind.Kind.the-variants.{Image}
 use Rattle.mrd_format.specs.Image.{attributeLength}
-use Rattle.mrd_format.specs.Message.{fixedPart, sizeOf, WellFormed}
+use Rattle.mrd_format.specs.Message.{fixedPart, sizeOf}
+use Rattle.mrd_format.specs.WellFormed.{WellFormed}
 use Rattle.mrd_format.specs.MessageLaws.{num-fixed, well-least}
 use Rattle.mrd_format.specs.ImageLaws.{restated-long, restated-id, restated-size, restated-sound, restated-record, restated-normal}
 use Rattle.mrd_stream.specs.Walk.{answer}
@@ -31,6 +32,7 @@ restated-well m w size f e may long = record {
   sound = restated-sound m w size long may (rw e at (f .sound));
   small = rw (restated-size m w size long) (rw e at (f .small));
   whole = restated-size m w size long ∙ rw e at (f .whole) ∙ sym (restated-long m w size long);
+  encoded = rw (restated-record m w size long) (rw e at (f .encoded));
 }
 
 -- the true length, where it stands in the stream

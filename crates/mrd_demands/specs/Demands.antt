@@ -4,18 +4,25 @@
 -- Assumes nothing.
 use Prim.Native.Nat.{ℕ, _+_}
 use mathlib.Core.Path.{_≡_, sym, ap, _∙_}
+use mathlib.Core.Bool.{true}
 use mathlib.Core.Logic.{_↔_, _⊎_}
 use mathlib.Core.List.{List, map}
 use lib.ListN.{length, take, drop}
 use Rattle.mrd_numbers.specs.Little.{num, Bytes}
 use Rattle.mrd_numbers.specs.Stored.{stored}
+use Rattle.mrd_utf8.specs.Utf8.{Utf8}
+use Rattle.mrd_utf8.specs.Fold.{utf8Of}
+use Rattle.mrd_utf8.specs.FoldLaws.{utf8-exactly}
 use Rattle.mrd_logic.specs.Lists.{Nth}
+use Rattle.mrd_logic.specs.Every.{Every}
 use Rattle.mrd_logic.specs.Answer.{accepted, refused, Answer, answered, number, andThen}
 use Rattle.mrd_format.specs.Parts.{Parts, Contents}
 use Rattle.mrd_format.specs.Content.{Record, bytesOf}
 use Rattle.mrd_format.specs.declared.kind.Kind.the-variants.{Acquisition, Image, Waveform}
 use Rattle.mrd_format.specs.declared.rules.Layout.{Layout}
 use Rattle.mrd_format.specs.declared.rules.Layout.the-variants.{Aligned}
+use Rattle.mrd_format.specs.declared.rules.Profile.the-variants.{Plain, Strict}
+use Rattle.mrd_format.specs.Profiles.{rulesBy}
 use Rattle.mrd_format.specs.Acquisition as acquisition
 use Rattle.mrd_format.specs.Image as image
 use Rattle.mrd_format.specs.Waveform as waveform
@@ -65,6 +72,8 @@ use Rattle.mrd_demands.specs.Masks as masks
 use Rattle.mrd_demands.specs.Replaced.{SameMeaning}
 use Rattle.mrd_demands.specs.AttributeLengths as attribute-lengths
 use Rattle.mrd_demands.specs.Layouts as layouts
+use Rattle.mrd_demands.specs.StrictTexts.{TextsAreUtf8, ReadAlike}
+use Rattle.mrd_demands.specs.StrictTexts as texts
 use Rattle.mrd_demands.specs.NormalStreams.{accepted-again, normal-long, normal-records, normal-own, normal-written, records-cut}
 use Rattle.mrd_format.specs.declared.rules.Rules.{Rules}
 
@@ -232,3 +241,23 @@ given-filler-disregarded = filler-disregarded
 pub no-field-in-filler : (rules : Rules) (s : List ℕ) (i : ℕ) {l : Located} → place rules s i ≡ answered l → l .kind ≡ Waveform Aligned →
     map (fieldOf rules s i) filler ≡ map (λ (o : ℕ). number 20) filler
 no-field-in-filler = layouts.no-field-there
+
+-- Request E9: strict text profile. Every theorem above is one of all rules, and so of either profile; two streams are compared under one
+
+-- which texts are UTF-8: the fold over octets that the code runs accepts those that RFC 3629's rows make, and no others
+pub utf8-by-the-rows : (t : List ℕ) → (utf8Of t ≡ true) ↔ Utf8 t
+utf8-by-the-rows = utf8-exactly
+
+-- a stream is accepted in the strict profile exactly when it is accepted in the plain one, with the same layout, and each text of each record is
+-- UTF-8 by itself
+pub strict-accepted-exactly : (l : Layout) (s : List ℕ) (n : ℕ) →
+    (answer (rulesBy l Strict) s ≡ accepted n) ↔ ((answer (rulesBy l Plain) s ≡ accepted n) × Every TextsAreUtf8 (records (rulesBy l Plain) s))
+strict-accepted-exactly = texts.strict-iff
+
+-- and it is then read as in the plain one: the same places, records, normal form and index
+pub strict-reads-the-same : (l : Layout) (s : List ℕ) (n : ℕ) → answer (rulesBy l Strict) s ≡ accepted n → ReadAlike (rulesBy l Strict) (rulesBy l Plain) s
+strict-reads-the-same = texts.strict-reads
+
+-- the plain profile asks nothing of a text: no stream is refused with 21
+pub plain-gives-no-21 : (l : Layout) (s : List ℕ) (n b : ℕ) → answer (rulesBy l Plain) s ≡ refused 21 n b → ⊥
+plain-gives-no-21 = texts.plain-no-21

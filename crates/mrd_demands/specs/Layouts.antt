@@ -15,7 +15,8 @@ use Rattle.mrd_format.specs.IdLaws.{known-layout}
 use Rattle.mrd_format.specs.HeaderLaws.{SameFields}
 use Rattle.mrd_format.specs.Waveform.{headerBytes, cells}
 use Rattle.mrd_format.specs.WaveformLaws.{other, other-long, other-id, other-checks, other-size, other-record, other-normal}
-use Rattle.mrd_format.specs.Message.{idAt, fixedPart, ownChecks, sizeOf, WellFormed}
+use Rattle.mrd_format.specs.Message.{idAt, fixedPart, ownChecks, sizeOf}
+use Rattle.mrd_format.specs.WellFormed.{WellFormed}
 use Rattle.mrd_format.specs.MessageLaws.{well-least}
 use Rattle.mrd_element.specs.ElementLaws.{filler, none-in-filler}
 use Rattle.mrd_stream.specs.Walk.{answer}
@@ -54,6 +55,7 @@ module _ {rules : Rules} (k : Layout) (m : List ℕ) (f : WellFormed rules m) (i
     sound = rw (with-header, other-checks k m whole g long same) (rw is at (f .sound));
     small = rw (with-header, other-size k m whole g long same) (rw is at (f .small));
     whole = rw with-header (other-size k m whole g long same ∙ whole ∙ sym (other-long k m whole g long same));
+    encoded = rw (with-header, other-record k m whole g long same) (rw is at (f .encoded));
   }
 
 -- other bytes g in the place of a waveform's header, which agree with it in the fields

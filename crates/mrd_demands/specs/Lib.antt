@@ -8,7 +8,9 @@ pub mod Told
 pub mod Masks
 pub mod AttributeLengths
 pub mod Layouts
+pub mod StrictTexts
 pub mod LayoutExample
+pub mod TextExample
 pub mod Demands
 pub mod FillerExample
 pub mod NumberExample

@@ -12,8 +12,10 @@ use Rattle.mrd_logic.specs.Answer.{accepted, answered}
 use Rattle.mrd_format.specs.declared.kind.Kind.the-variants.{Acquisition}
 use Rattle.mrd_format.specs.Acquisition.{trajectorySize, channelSize}
 use Rattle.mrd_format.specs.MaskLaws.{checks-look-at}
-use Rattle.mrd_format.specs.Message.{idAt, fixedPart, ownChecks, bodySize, sizeOf, WellFormed}
+use Rattle.mrd_format.specs.Message.{idAt, fixedPart, ownChecks, bodySize, sizeOf}
+use Rattle.mrd_format.specs.WellFormed.{WellFormed}
 use Rattle.mrd_format.specs.MessageLaws.{num-fixed, well-least}
+use Rattle.mrd_format.specs.ProfileLaws.{acquisition-encoded}
 use Rattle.mrd_stream.specs.Walk.{answer}
 use Rattle.mrd_stream.specs.Places.{Located, place}
 use Rattle.mrd_cut.specs.CutPlaces.{partAt}
@@ -65,12 +67,13 @@ module _ (m w : List ℕ) (size : length w ≡ 128) (long : 342 ≤ length m) wh
 
   -- so it is well formed as m is
   other-well : {rules : Rules} (f : WellFormed rules m) → f .kind ≡ Acquisition → WellFormed rules other
-  other-well f e = record {
+  other-well {rules} f e = record {
     kind = Acquisition;
     known = rw other-id (rw e at (f .known));
     sound = rw same-checks (rw e at (f .sound));
     small = rw same-size (rw e at (f .small));
     whole = rw same-size (rw e at (f .whole) ∙ sym other-long);
+    encoded = acquisition-encoded (rules .profile) other;
   }
 
 -- an acquisition's message has an id and a header

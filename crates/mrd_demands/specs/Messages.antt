@@ -9,7 +9,7 @@ use Rattle.mrd_numbers.specs.ByteLaws.{bytes-split}
 use Rattle.mrd_format.specs.declared.kind.Kind.{Kind}
 use Rattle.mrd_format.specs.declared.rules.Rules.{Rules}
 use Rattle.mrd_logic.specs.Every.{Every}
-use Rattle.mrd_format.specs.Message.{WellFormed}
+use Rattle.mrd_format.specs.WellFormed.{WellFormed}
 use Rattle.mrd_format.specs.Content.{Record, recordOf, normalOf, bytesOf}
 use Rattle.mrd_format.specs.Rewritten.{record-writes}
 use Rattle.mrd_format.specs.NormalLaws.{well-normalised, normal-well}

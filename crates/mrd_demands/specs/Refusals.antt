@@ -35,6 +35,6 @@ pub written-kept : (rules : Rules) (id : ℕ) (c : Contents) (at : ℕ) (o : Lis
 unfolding writeAnswer writeOutput outputAs
 written-kept rules id c at o r = by (identified rules id) r
   where
-    by : (i : Identified) → Refusal (answerAs i c at o) → outputAs i c at o ≡ o
+    by : (i : Identified) → Refusal (answerAs (rules .profile) i c at o) → outputAs (rules .profile) i c at o ≡ o
     by Unknown r = refl
-    by (Known k) r = message-kept (answerAs (Known k) c at o) r (messageOf k c) at o
+    by (Known k) r = message-kept (answerAs (rules .profile) (Known k) c at o) r (messageOf k c) at o

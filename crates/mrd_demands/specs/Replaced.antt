@@ -15,7 +15,8 @@ use Rattle.mrd_logic.specs.Joined.{joined}
 use Rattle.mrd_logic.specs.Answer.{accepted, answered}
 use Rattle.mrd_format.specs.declared.kind.Kind.{Kind}
 use Rattle.mrd_format.specs.declared.rules.Rules.{Rules}
-use Rattle.mrd_format.specs.Message.{idAt, WellFormed}
+use Rattle.mrd_format.specs.Message.{idAt}
+use Rattle.mrd_format.specs.WellFormed.{WellFormed}
 use Rattle.mrd_format.specs.Content.{recordOf, normalOf}
 use Rattle.mrd_cursor.specs.declared.cursor.Cursor.{Cursor}
 use Rattle.mrd_stream.specs.Walk.{Trace, trace, answer}

@@ -9,6 +9,7 @@ use denote.Enum.Declared.{tagOf}
 use types.Run.{OneOf}
 use Rattle.mrd_format.specs.declared.rules.Layout.{Layout}
 use Rattle.mrd_format.specs.declared.rules.Layout.the-variants.{Packed}
+use Rattle.mrd_format.specs.declared.rules.Profile.the-variants.{Plain}
 use Rattle.mrd_format.specs.declared.kind.Kind.{Kind}
 use Rattle.mrd_format.specs.declared.kind.Kind.the-variants.{ConfigurationName, ConfigurationText, HeaderText, Close, Text, Acquisition, Image, Waveform}
 use Rattle.mrd_format.specs.Kinds.{kinds}
@@ -21,7 +22,7 @@ nth (k ∷ ks) (suc n) = nth ks n
 
 -- the kind at a place of the declaration, a waveform's with this layout
 abbrev pub kindAt : Layout → ℕ → Kind
-kindAt l n = nth (kinds (record { layout = l })) n
+kindAt l n = nth (kinds (record { layout = l; profile = Plain })) n
 
 -- the layout of a waveform, and some layout for any other kind
 abbrev pub layoutOf : Kind → Layout

@@ -16,6 +16,9 @@ pub mod Sizes
 pub mod SizeLaws
 pub mod Shapes
 pub mod Content
+pub mod Profiles
+pub mod WellFormed
+pub mod ProfileLaws
 pub mod HeaderLaws
 pub mod AdjoinLaws
 pub mod ReachLaws

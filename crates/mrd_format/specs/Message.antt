@@ -1,15 +1,12 @@
--- One message: its fixed part, its size, the checks of its own bytes, and what 'well formed' means.
+-- One message: its fixed part, its size and the checks of its own bytes.
 -- Assumes nothing.
-use Prim.Native.Nat.{ℕ, _+_, _≤_}
-use mathlib.Core.Path.{_≡_}
+use Prim.Native.Nat.{ℕ, _+_}
 use mathlib.Core.List.{List}
-use lib.ListN.{length, take, drop}
+use lib.ListN.{take, drop}
 use Rattle.mrd_numbers.specs.Little.{num}
 use Rattle.mrd_format.specs.declared.kind.Kind.{Kind}
-use Rattle.mrd_format.specs.declared.rules.Rules.{Rules}
-use Rattle.mrd_format.specs.declared.kind.Identified.the-variants.{Known}
-use Rattle.mrd_format.specs.Kinds.{formOf, fixedSize, identified}
-use Rattle.mrd_logic.specs.Checks.{Check, first}
+use Rattle.mrd_format.specs.Kinds.{formOf, fixedSize}
+use Rattle.mrd_logic.specs.Checks.{Check}
 use Rattle.mrd_format.specs.Segments.{total}
 unfoldable pub use Rattle.mrd_format.specs.Segments.{nameLength}
 unfoldable pub use Rattle.mrd_format.specs.Texts.{textLength}
@@ -38,16 +35,10 @@ bodySize k h = total (formOf k .bodySegments h)
 unfoldable pub sizeOf : Kind → List ℕ → ℕ
 sizeOf k h = 2 + fixedSize k + bodySize k h
 
+-- the message of kind k at the front of t, by the size that its fixed part gives
+abbrev pub messageAt : Kind → List ℕ → List ℕ
+messageAt k t = take (sizeOf k (fixedPart k t)) t
+
 -- a 'kind's own numbers', in the paper's order
 unfoldable pub numbersOf : Kind → List ℕ → List ℕ
 numbersOf k h = formOf k .numbers h
-
--- 'A message is well formed when its bytes, taken alone, are one row of the table from id to end with none left over, and pass every check
--- but 12, 13 and 19', by the rules that the caller says. That the size is the length says that the id, the fixed part and the whole message fit: checks
--- 1, 3 and 11
-pub record WellFormed (rules : Rules) (m : List ℕ) : Type 0 where
-  pub kind : Kind
-  pub known : identified rules (idAt m) ≡ Known kind
-  pub sound : first (ownChecks kind (fixedPart kind m)) ≡ 0
-  pub small : sizeOf kind (fixedPart kind m) ≤ limit
-  pub whole : sizeOf kind (fixedPart kind m) ≡ length m

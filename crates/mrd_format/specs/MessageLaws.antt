@@ -14,7 +14,8 @@ use Rattle.mrd_format.specs.declared.kind.Kind.{Kind}
 use Rattle.mrd_format.specs.declared.kind.Identified.the-variants.{Known}
 use Rattle.mrd_format.specs.declared.rules.Rules.{Rules}
 use Rattle.mrd_format.specs.Kinds.{fixedSize, identified}
-use Rattle.mrd_format.specs.Message.{idAt, fixedPart, sizeOf, WellFormed}
+use Rattle.mrd_format.specs.Message.{idAt, fixedPart, sizeOf}
+use Rattle.mrd_format.specs.WellFormed.{WellFormed}
 
 -- what follows an id does not matter to it
 pub id-append : (m rest : List ℕ) → 2 ≤ length m → idAt (m ++ rest) ≡ idAt m

@@ -21,7 +21,8 @@ use Rattle.mrd_format.specs.declared.kind.Kind.{Kind}
 use Rattle.mrd_format.specs.declared.kind.Kind.the-variants.{ConfigurationName, ConfigurationText, HeaderText, Close, Text, Acquisition, Image, Waveform}
 use Rattle.mrd_logic.specs.Checks.{first}
 use Rattle.mrd_logic.specs.CheckLaws.{first-passed}
-use Rattle.mrd_format.specs.Message.{limit, idAt, fixedPart, nameLength, ownChecks, bodySize, sizeOf, WellFormed}
+use Rattle.mrd_format.specs.Message.{limit, idAt, fixedPart, nameLength, ownChecks, bodySize, sizeOf}
+use Rattle.mrd_format.specs.WellFormed.{WellFormed}
 use Rattle.mrd_format.specs.MessageLaws.{id-kept}
 use Rattle.mrd_format.specs.Segments.{total}
 use Rattle.mrd_format.specs.Image.{attributeLength}
@@ -236,4 +237,5 @@ normal-well m w =
       sound = n .sound;
       small = rw (n .size) (w .small);
       whole = n .size ∙ w .whole ∙ sym (n .long);
+      encoded = rw (n .same) (w .encoded);
     }

@@ -19,7 +19,8 @@ use Rattle.mrd_format.specs.Kinds.{idOf, formOf, fixedSize}
 use Rattle.mrd_format.specs.IdLaws.{known-id}
 use Rattle.mrd_format.specs.Segments.{nameLength, segmentsBytes}
 use Rattle.mrd_format.specs.Texts.{textLength}
-use Rattle.mrd_format.specs.Message.{idAt, fixedPart, ownChecks, bodySize, sizeOf, WellFormed}
+use Rattle.mrd_format.specs.Message.{idAt, fixedPart, ownChecks, bodySize, sizeOf}
+use Rattle.mrd_format.specs.WellFormed.{WellFormed}
 use Rattle.mrd_format.specs.MessageLaws.{well-least}
 use Rattle.mrd_format.specs.Content.{extentOf, partSize, contentsOf, fieldsOf, recordOf, normalOf, fixedOf, bodyOf, bytesAfterId, messageOf, bytesOf}
 use Rattle.mrd_format.specs.Acquisition as acquisition

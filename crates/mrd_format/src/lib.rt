@@ -14,6 +14,7 @@ pub use kind::Identified;
 pub use kind::Kind;
 pub use mask::Mask;
 pub use rules::Layout;
+pub use rules::Profile;
 pub use rules::Rules;
 pub use rules::WaveformOffsets;
 pub use shape::AcquisitionShape;

@@ -60,3 +60,6 @@ pub const TOO_MANY: u8 = 19;
 
 // No header element starts at that offset, or the record has no header.
 pub const NO_FIELD: u8 = 20;
+
+// In the strict profile: a name, a text or attributes are not UTF-8.
+pub const TEXT_NOT_UTF8: u8 = 21;

@@ -65,7 +65,16 @@ impl Layout {
     }
 }
 
+// What is asked of the texts of a stream: names, the three kinds of texts, and attributes.
+pub enum Profile {
+    // Any bytes.
+    Plain,
+    // UTF-8, each text by itself.
+    Strict,
+}
+
 // The rules that a stream is read and written by.
 pub struct Rules {
     pub layout: Layout,
+    pub profile: Profile,
 }

@@ -4,7 +4,7 @@ ghost use Rattle.mrd_stream.specs.ReaderMeaning.{recordMeaning};
 ghost use Rattle.mrd_index_fields.specs.IndexFields.{entryMeaning};
 ghost use Rattle.mrd_index.specs.Entries.{entryAt, WithinStream};
 use mrd_index_fields::Entry;
-use mrd_judge::fixed_part;
+use mrd_message::fixed_part;
 use mrd_message::scan_counter;
 use mrd_stream::PlacedRecord;
 

@@ -4,22 +4,27 @@ use Prim.Native.Nat.{ℕ, zero, suc, _+_, _≤_, _<_}
 use native.Mathlib.Omega.{arith}
 use native.Mathlib.Decide.{decLe}
 use mathlib.Core.Path.{_≡_, refl, sym, ap, _∙_}
-use mathlib.Core.Bool.{true}
+use mathlib.Core.Bool.{true, false}
 use mathlib.Core.List.{List, [], _∷_, _++_}
 use borrow.Author.Tests.{eqb-false, lt-ltb, le-ltb, ltb-false}
-use lib.ListN.{length, drop, length-drop}
+use lib.ListN.{length, take, drop, length-drop}
 use lib.Seq.{length-take-le}
 use Rattle.mrd_format.specs.declared.kind.Kind.{Kind}
+use Rattle.mrd_format.specs.declared.rules.Profile.{Profile}
 use Rattle.mrd_format.specs.declared.kind.Identified.{Identified}
 use Rattle.mrd_format.specs.declared.kind.Identified.the-variants.{Known, Unknown}
 use Rattle.mrd_format.specs.Kinds.{fixedSize}
 use Rattle.mrd_format.specs.OwnCheckLaws.{own-numbered}
-use Rattle.mrd_format.specs.Message.{limit, fixedPart, sizeOf}
+use Rattle.mrd_format.specs.Message.{limit, fixedPart, sizeOf, messageAt}
+use Rattle.mrd_format.specs.MessageLaws.{size-least, fixed-take}
 use Rattle.mrd_format.specs.Sizes.{capped}
+use Rattle.mrd_texts.specs.Whole.{Whole}
+use Rattle.mrd_format.specs.Content.{recordOf}
+use Rattle.mrd_format.specs.Profiles.{textsIn, encoded}
 use Rattle.mrd_logic.specs.Checks.{Check, first, unless}
-use Rattle.mrd_logic.specs.CheckLaws.{first-passed, first-stops, first-next, numbered, unless-refused, unless-stops}
+use Rattle.mrd_logic.specs.CheckLaws.{first-passed, first-stops, first-next, first-same, numbered, unless-stops}
 use Rattle.mrd_cursor.specs.declared.cursor.Cursor.{Cursor}
-use Rattle.mrd_judge.specs.Stages.{frontChecks, idChecks, fixedChecks, sizeChecks, id, fixed, size, checksOf, checksAs}
+use Rattle.mrd_judge.specs.Stages.{frontChecks, idChecks, fixedChecks, sizeChecks, textChecks, id, fixed, size, text, checksOf, checksAs}
 use Rattle.mrd_judge.specs.Judge.{Judged, faulty, whole, judgeAs, judgeBody}
 
 -- a fixed part that fits is as long as its kind's
@@ -32,10 +37,10 @@ abbrev judgedBy : Identified → ℕ → List ℕ → Judged
 judgedBy Unknown f t = faulty f
 judgedBy (Known k) f t = unless f faulty (whole k (sizeOf k (fixedPart k t)))
 
-judged-by : (i : Identified) (c : Cursor) (t : List ℕ) → judgeAs i c t ≡ judgedBy i (first (checksAs i c t)) t
+judged-by : (p : Profile) (i : Identified) (c : Cursor) (t : List ℕ) → judgeAs p i c t ≡ judgedBy i (first (checksAs p i c t)) t
 unfolding judgeAs
-judged-by Unknown c t = refl
-judged-by (Known k) c t = refl
+judged-by p Unknown c t = refl
+judged-by p (Known k) c t = refl
 
 -- checks that refuse decide, with a kind or without
 stopped : (i : Identified) (t : List ℕ) (cs ds : List Check) {f : ℕ} → first cs ≡ f → (f ≡ 0 → ⊥) → judgedBy i (first (cs ++ ds)) t ≡ faulty f
@@ -56,6 +61,10 @@ fixed-numbered : (k : Kind) (t : List ℕ) → numbered (fixedChecks k t) ≡ tr
 unfolding fixedChecks
 fixed-numbered k t = own-numbered k (fixedPart k t)
 
+size-numbered : (z : ℕ) (t : List ℕ) → numbered (sizeChecks z t) ≡ true
+unfolding sizeChecks
+size-numbered z t = refl
+
 -- where the front passed, an id has two bytes
 pub front-two : (c : Cursor) (t : List ℕ) → 0 < length t → first (frontChecks c t) ≡ 0 → 2 ≤ length t
 unfolding frontChecks
@@ -63,35 +72,35 @@ front-two c t h e =
     let other : length t ≡ 1 → ⊥ = eqb-false (length t) 1 (first-passed (frontChecks c t) refl e .1 .1 .0) in
     omega (arith, other)
 
-module _ (i : Identified) (c : Cursor) (t : List ℕ) where
-  pub front-stops : {f : ℕ} → first (frontChecks c t) ≡ f → (f ≡ 0 → ⊥) → judgeAs i c t ≡ faulty f
+module _ (p : Profile) (i : Identified) (c : Cursor) (t : List ℕ) where
+  pub front-stops : {f : ℕ} → first (frontChecks c t) ≡ f → (f ≡ 0 → ⊥) → judgeAs p i c t ≡ faulty f
   unfolding checksAs
-  front-stops e n = judged-by i c t ∙ stopped i t (frontChecks c t) (checksOf (id ∷ fixed ∷ size ∷ []) i c t) e n
+  front-stops e n = judged-by p i c t ∙ stopped i t (frontChecks c t) (checksOf p (id ∷ fixed ∷ size ∷ text ∷ []) i c t) e n
 
   -- where the front passed, the id
   module _ (front : first (frontChecks c t) ≡ 0) where
-    front-passed : judgeAs i c t ≡ judgedBy i (first (idChecks i c ++ checksOf (fixed ∷ size ∷ []) i c t)) t
+    front-passed : judgeAs p i c t ≡ judgedBy i (first (idChecks i c ++ checksOf p (fixed ∷ size ∷ text ∷ []) i c t)) t
     unfolding checksAs
     front-passed =
-        judged-by i c t ∙ ap (λ (f : ℕ). judgedBy i f t)
-        (first-next (frontChecks c t) (checksOf (id ∷ fixed ∷ size ∷ []) i c t) (front-numbered c t) front)
+        judged-by p i c t ∙ ap (λ (f : ℕ). judgedBy i f t)
+        (first-next (frontChecks c t) (checksOf p (id ∷ fixed ∷ size ∷ text ∷ []) i c t) (front-numbered c t) front)
 
-    pub id-stops : {f : ℕ} → first (idChecks i c) ≡ f → (f ≡ 0 → ⊥) → judgeAs i c t ≡ faulty f
-    id-stops e n = front-passed ∙ stopped i t (idChecks i c) (checksOf (fixed ∷ size ∷ []) i c t) e n
+    pub id-stops : {f : ℕ} → first (idChecks i c) ≡ f → (f ≡ 0 → ⊥) → judgeAs p i c t ≡ faulty f
+    id-stops e n = front-passed ∙ stopped i t (idChecks i c) (checksOf p (fixed ∷ size ∷ text ∷ []) i c t) e n
 
 -- an id that no kind has stops
-pub unknown-stops : (c : Cursor) (t : List ℕ) {f : ℕ} → first (frontChecks c t) ≡ 0 → first (idChecks Unknown c) ≡ f →
-    judgeAs Unknown c t ≡ faulty f
+pub unknown-stops : (p : Profile) (c : Cursor) (t : List ℕ) {f : ℕ} → first (frontChecks c t) ≡ 0 → first (idChecks Unknown c) ≡ f →
+    judgeAs p Unknown c t ≡ faulty f
 unfolding idChecks
-unknown-stops c t front e = id-stops Unknown c t front e (λ z. let never : _≡_ {A = ℕ} 2 0 = e ∙ z in omega arith)
+unknown-stops p c t front e = id-stops p Unknown c t front e (λ z. let never : _≡_ {A = ℕ} 2 0 = e ∙ z in omega arith)
 
--- where the front and the id passed, the last two stages
-pub id-passed : (k : Kind) (c : Cursor) (t : List ℕ) → first (frontChecks c t) ≡ 0 → first (idChecks (Known k) c) ≡ 0 →
-    judgeAs (Known k) c t ≡ judgeBody k t
-unfolding judgeBody sizeChecks
-id-passed k c t front e =
-    front-passed (Known k) c t front ∙
-    ap (λ (f : ℕ). judgedBy (Known k) f t) (first-next (idChecks (Known k) c) (checksOf (fixed ∷ size ∷ []) (Known k) c t) (id-numbered (Known k) c) e)
+-- where the front and the id passed, the last three stages
+pub id-passed : (p : Profile) (k : Kind) (c : Cursor) (t : List ℕ) → first (frontChecks c t) ≡ 0 → first (idChecks (Known k) c) ≡ 0 →
+    judgeAs p (Known k) c t ≡ judgeBody p k t
+unfolding judgeBody sizeChecks textChecks
+id-passed p k c t front e =
+    front-passed p (Known k) c t front ∙
+    ap (λ (f : ℕ). judgedBy (Known k) f t) (first-next (idChecks (Known k) c) (checksOf p (fixed ∷ size ∷ text ∷ []) (Known k) c t) (id-numbered (Known k) c) e)
 
 -- a size passes where it is within the limit and ends within t, and not otherwise
 module _ (z : ℕ) (t : List ℕ) where
@@ -116,31 +125,57 @@ capped-size z t =
       | no h ↦ let over : limit < z = omega arith in let capped-over : limit < capped z = omega arith in simp (lt-ltb _ _ over, lt-ltb _ _ capped-over)
     ]
 
-module _ (k : Kind) (t : List ℕ) where
-  pub fixed-stops : {f : ℕ} → first (fixedChecks k t) ≡ f → (f ≡ 0 → ⊥) → judgeBody k t ≡ faulty f
+-- a size that passed, capped, is the message's
+pub size-true : (y z : ℕ) (t : List ℕ) → z ≡ capped y → first (sizeChecks z t) ≡ 0 → (z ≤ limit) × ((z ≤ length t) × (y ≡ z))
+unfolding sizeChecks
+size-true y z t sized q =
+    let passed = first-passed (sizeChecks z t) refl q in
+    let small : z ≤ limit = ltb-false limit z (passed .0) in
+    (small, (ltb-false (length t) z (passed .1 .0), omega arith))
+
+-- and so many bytes are a message of its kind's size
+pub taken-whole : (k : Kind) (z : ℕ) (t : List ℕ) → z ≡ capped (sizeOf k (fixedPart k t)) → first (sizeChecks z t) ≡ 0 → Whole k (take z t)
+taken-whole k z t sized q =
+    let true-size = size-true (sizeOf k (fixedPart k t)) z t sized q in
+    let least : 2 + fixedSize k ≤ z = omega (arith, size-least k (fixedPart k t), true-size .1 .1) in
+    let long : length (take z t) ≡ z = length-take-le z t (true-size .1 .0) in
+    record { size = long ∙ rw (fixed-take k z t least (true-size .1 .0)) (sym (true-size .1 .1)); small = rw long (true-size .0) }
+
+-- a fixed part that passed is there
+pub fixed-fits : (k : Kind) (t : List ℕ) → first (fixedChecks k t) ≡ 0 → 2 + fixedSize k ≤ length t
+unfolding fixedChecks
+fixed-fits k t e = ltb-false (length t) (2 + fixedSize k) (first-passed (fixedChecks k t) (fixed-numbered k t) e .0)
+
+module _ (p : Profile) (k : Kind) (t : List ℕ) where
+  pub fixed-stops : {f : ℕ} → first (fixedChecks k t) ≡ f → (f ≡ 0 → ⊥) → judgeBody p k t ≡ faulty f
   unfolding judgeBody
-  fixed-stops e n = stopped (Known k) t (fixedChecks k t) (sizeChecks (sizeOf k (fixedPart k t)) t) e n
+  fixed-stops e n = stopped (Known k) t (fixedChecks k t) (sizeChecks (sizeOf k (fixedPart k t)) t ++ textChecks p k (messageAt k t)) e n
 
-  -- where the fixed part passed, it is there, and the size decides
+  -- where the fixed part passed, the size decides
   module _ (e : first (fixedChecks k t) ≡ 0) where
-    pub fixed-fits : 2 + fixedSize k ≤ length t
-    unfolding fixedChecks
-    fixed-fits = ltb-false (length t) (2 + fixedSize k) (first-passed (fixedChecks k t) (fixed-numbered k t) e .0)
-
     module _ {z : ℕ} (sized : z ≡ capped (sizeOf k (fixedPart k t))) where
-      by-size : judgeBody k t ≡ unless (first (sizeChecks z t)) faulty (whole k (sizeOf k (fixedPart k t)))
+      by-size : judgeBody p k t ≡ unless (first (sizeChecks z t ++ textChecks p k (messageAt k t))) faulty (whole k (sizeOf k (fixedPart k t)))
       unfolding judgeBody
       by-size =
-          let same : first (sizeChecks z t) ≡ first (sizeChecks (sizeOf k (fixedPart k t)) t) = rw sized (capped-size (sizeOf k (fixedPart k t)) t) in
+          let y = sizeOf k (fixedPart k t) in
+          let same : first (sizeChecks z t) ≡ first (sizeChecks y t) = rw sized (capped-size y t) in
           ap (λ (f : ℕ). judgedBy (Known k) f t)
-          (first-next (fixedChecks k t) (sizeChecks (sizeOf k (fixedPart k t)) t) (fixed-numbered k t) e ∙ sym same)
+          (first-next (fixedChecks k t) (sizeChecks y t ++ textChecks p k (messageAt k t)) (fixed-numbered k t) e ∙
+          sym (first-same (sizeChecks z t) (sizeChecks y t) (textChecks p k (messageAt k t)) (size-numbered z t) (size-numbered y t) same))
 
-      pub size-stops : {f : ℕ} → first (sizeChecks z t) ≡ f → (f ≡ 0 → ⊥) → judgeBody k t ≡ faulty f
-      size-stops {f} q n = by-size ∙ rw q (unless-refused f faulty (whole k (sizeOf k (fixedPart k t))) n)
+      pub size-stops : {f : ℕ} → first (sizeChecks z t) ≡ f → (f ≡ 0 → ⊥) → judgeBody p k t ≡ faulty f
+      size-stops {f} q n =
+          by-size ∙ unless-stops (sizeChecks z t) (textChecks p k (messageAt k t)) faulty (whole k (sizeOf k (fixedPart k t))) q n
 
-      pub size-passed : first (sizeChecks z t) ≡ 0 → judgeBody k t ≡ whole k z
-      unfolding sizeChecks
-      size-passed q =
-          let small : z ≤ limit = ltb-false limit z (first-passed (sizeChecks z t) refl q .0) in
-          let same : sizeOf k (fixedPart k t) ≡ z = omega arith in
-          by-size ∙ rw (q, same)
+      -- where the size passed, it is the message's, and the texts decide
+      module _ (q : first (sizeChecks z t) ≡ 0) where
+        by-text : judgeBody p k t ≡ unless (first (textChecks p k (take z t))) faulty (whole k z)
+        by-text = by-size ∙ rw (first-next (sizeChecks z t) (textChecks p k (messageAt k t)) (size-numbered z t) q, size-true _ z t sized q .1 .1)
+
+        pub text-stops : encoded p (textsIn (recordOf k (take z t) .parts)) ≡ false → judgeBody p k t ≡ faulty 21
+        unfolding textChecks
+        text-stops x = by-text ∙ rw x
+
+        pub text-passed : encoded p (textsIn (recordOf k (take z t) .parts)) ≡ true → judgeBody p k t ≡ whole k z
+        unfolding textChecks
+        text-passed x = by-text ∙ rw x

@@ -1,4 +1,4 @@
--- The 'order of checks at each message', in four stages: front, id, fixed part, size and end. Each stage has its checks as a list, and the
+-- The 'order of checks at each message', in five stages: front, id, fixed part, size and end, texts. Each stage has its checks as a list, and the
 -- whole list is theirs, one after the other.
 -- Assumes nothing.
 use Prim.Native.Nat.{ℕ, _+_}
@@ -10,7 +10,10 @@ use Rattle.mrd_format.specs.declared.kind.Kind.{Kind}
 use Rattle.mrd_format.specs.declared.kind.Identified.{Identified}
 use Rattle.mrd_format.specs.declared.kind.Identified.the-variants.{Known, Unknown}
 use Rattle.mrd_format.specs.Kinds.{fixedSize}
-use Rattle.mrd_format.specs.Message.{limit, fixedPart, ownChecks, sizeOf}
+use Rattle.mrd_format.specs.declared.rules.Profile.{Profile}
+use Rattle.mrd_format.specs.Message.{limit, fixedPart, ownChecks, sizeOf, messageAt}
+use Rattle.mrd_format.specs.Content.{recordOf}
+use Rattle.mrd_format.specs.Profiles.{textsIn, encoded}
 use Rattle.mrd_logic.specs.Checks.{Check, _when_}
 use Rattle.mrd_cursor.specs.declared.cursor.Cursor.{Cursor}
 use Rattle.mrd_cursor.specs.Order.{allowed, isClosed}
@@ -37,27 +40,33 @@ fixedChecks k t = (3 when ltb (length t) (2 + fixedSize k)) ∷ ownChecks k (fix
 unfoldable pub sizeChecks : ℕ → List ℕ → List Check
 sizeChecks z t = (10 when ltb limit z) ∷ (11 when ltb (length t) z) ∷ []
 
+-- the texts of the message m of kind k, by the caller's profile: 21, 'a stream refusal after 11'
+unfoldable pub textChecks : Profile → Kind → List ℕ → List Check
+textChecks f k m = (21 when not (encoded f (textsIn (recordOf k m .parts)))) ∷ []
+
 pub data Stage : Type 0 where
-  front id fixed size : Stage
+  front id fixed size text : Stage
 
 -- the checks of a stage, for the message at the front of t, which is not empty; without a kind, those of the id are the last
-abbrev pub stageChecks : Stage → Identified → Cursor → List ℕ → List Check
-stageChecks front i c t = frontChecks c t
-stageChecks id i c t = idChecks i c
-stageChecks fixed Unknown c t = []
-stageChecks fixed (Known k) c t = fixedChecks k t
-stageChecks size Unknown c t = []
-stageChecks size (Known k) c t = sizeChecks (sizeOf k (fixedPart k t)) t
+abbrev pub stageChecks : Profile → Stage → Identified → Cursor → List ℕ → List Check
+stageChecks f front i c t = frontChecks c t
+stageChecks f id i c t = idChecks i c
+stageChecks f fixed Unknown c t = []
+stageChecks f fixed (Known k) c t = fixedChecks k t
+stageChecks f size Unknown c t = []
+stageChecks f size (Known k) c t = sizeChecks (sizeOf k (fixedPart k t)) t
+stageChecks f text Unknown c t = []
+stageChecks f text (Known k) c t = textChecks f k (messageAt k t)
 
 -- the stages in order
 abbrev pub stages : List Stage
-stages = front ∷ id ∷ fixed ∷ size ∷ []
+stages = front ∷ id ∷ fixed ∷ size ∷ text ∷ []
 
 -- the checks of stages, one stage after the other
-abbrev pub checksOf : List Stage → Identified → Cursor → List ℕ → List Check
-checksOf [] i c t = []
-checksOf (g ∷ gs) i c t = stageChecks g i c t ++ checksOf gs i c t
+abbrev pub checksOf : Profile → List Stage → Identified → Cursor → List ℕ → List Check
+checksOf f [] i c t = []
+checksOf f (g ∷ gs) i c t = stageChecks f g i c t ++ checksOf f gs i c t
 
 -- all checks of the message at the front of t, in order
-unfoldable pub checksAs : Identified → Cursor → List ℕ → List Check
-checksAs i c t = checksOf stages i c t
+unfoldable pub checksAs : Profile → Identified → Cursor → List ℕ → List Check
+checksAs f i c t = checksOf f stages i c t

@@ -7,21 +7,26 @@ use mathlib.Core.Path.{_≡_, refl, sym, ap, _∙_}
 use mathlib.Core.Bool.{true, false, not, true≢false}
 use mathlib.Core.List.{List, _++_}
 use lib.ListN.{length, take, length-append}
-use lib.Seq.{length-take-le}
+use lib.Seq.{length-take-le, take-append-seam}
 use lib.Dec.{eqb}
 use borrow.Author.Tests.{leb-false, ltb-false, not-false, lt-leb, le-ltb, ne-eqb}
 use Rattle.mrd_format.specs.declared.kind.Kind.{Kind}
 use Rattle.mrd_format.specs.declared.rules.Rules.{Rules}
+use Rattle.mrd_format.specs.declared.rules.Profile.{Profile}
 use Rattle.mrd_format.specs.declared.kind.Identified.{Identified}
 use Rattle.mrd_format.specs.declared.kind.Identified.the-variants.{Known, Unknown}
 use Rattle.mrd_format.specs.Kinds.{fixedSize, identified}
 use Rattle.mrd_logic.specs.Checks.{first, Passed, FirstFault}
-use Rattle.mrd_format.specs.Message.{limit, idAt, fixedPart, ownChecks, sizeOf, WellFormed}
+use Rattle.mrd_format.specs.Message.{limit, idAt, fixedPart, ownChecks, sizeOf, messageAt}
+use Rattle.mrd_format.specs.Content.{recordOf}
+use Rattle.mrd_format.specs.Profiles.{textsIn, Encoded, encoded}
+use Rattle.mrd_format.specs.ProfileLaws.{encoded-exactly}
+use Rattle.mrd_format.specs.WellFormed.{WellFormed}
 use Rattle.mrd_format.specs.MessageLaws.{size-least, id-take, fixed-take, well-known, well-fixed, well-size}
 use Rattle.mrd_cursor.specs.declared.cursor.Cursor.{Cursor}
 use Rattle.mrd_cursor.specs.Order.{allowed}
 use Rattle.mrd_cursor.specs.Cursors.{maxMessages}
-use Rattle.mrd_judge.specs.Stages.{frontChecks, idChecks, fixedChecks, sizeChecks, checksAs}
+use Rattle.mrd_judge.specs.Stages.{frontChecks, idChecks, fixedChecks, sizeChecks, textChecks, checksAs}
 use Rattle.mrd_judge.specs.Judge.{Judged, faulty, whole, passes, refusedBy, sorted, judgeAs, judge}
 use Rattle.mrd_logic.specs.Every.{Every, every-split, every-append}
 use Rattle.mrd_cursor.specs.OrderLaws.{allowed-open}
@@ -40,22 +45,24 @@ pub record WholeAt (rules : Rules) (c : Cursor) (t : List ℕ) (k : Kind) (z : �
   pub size : sizeOf k (fixedPart k t) ≡ z
   pub small : z ≤ limit
   pub fits : z ≤ length t
+  pub encoded : Encoded (rules .profile) (textsIn (recordOf k (take z t) .parts))
 
 -- no check has the number 0
-pub all-numbered : (i : Identified) (c : Cursor) (t : List ℕ) → numbered (checksAs i c t) ≡ true
-unfolding checksAs frontChecks idChecks fixedChecks sizeChecks
-all-numbered Unknown c t = refl
-all-numbered (Known k) c t =
-    numbered-append (ownChecks k (fixedPart k t)) (sizeChecks (sizeOf k (fixedPart k t)) t) (own-numbered k (fixedPart k t)) refl
+pub all-numbered : (p : Profile) (i : Identified) (c : Cursor) (t : List ℕ) → numbered (checksAs p i c t) ≡ true
+unfolding checksAs frontChecks idChecks fixedChecks sizeChecks textChecks
+all-numbered p Unknown c t = refl
+all-numbered p (Known k) c t =
+    numbered-append (ownChecks k (fixedPart k t)) (sizeChecks (sizeOf k (fixedPart k t)) t ++ textChecks p k (messageAt k t))
+    (own-numbered k (fixedPart k t)) refl
 
 -- every check of a message of kind k passed exactly when the facts of WholeAt hold
 module _ (rules : Rules) (c : Cursor) (t : List ℕ) (k : Kind) where
-  passed-facts : identified rules (idAt t) ≡ Known k → Every Passed (checksAs (Known k) c t) → WholeAt rules c t k (sizeOf k (fixedPart k t))
-  unfolding checksAs frontChecks idChecks fixedChecks sizeChecks
+  passed-facts : identified rules (idAt t) ≡ Known k → Every Passed (checksAs (rules .profile) (Known k) c t) → WholeAt rules c t k (sizeOf k (fixedPart k t))
+  unfolding checksAs frontChecks idChecks fixedChecks sizeChecks textChecks
   passed-facts e p =
       let own = ownChecks k (fixedPart k t) in
       let z = sizeOf k (fixedPart k t) in
-      let late = every-split Passed own (sizeChecks z t) (p .1 .1 .1 .1 .1) in
+      let late = every-split Passed own (sizeChecks z t ++ textChecks (rules .profile) k (take z t)) (p .1 .1 .1 .1 .1) in
       record {
         counted = leb-false maxMessages (c .number) (p .1 .0);
         known = e;
@@ -64,24 +71,28 @@ module _ (rules : Rules) (c : Cursor) (t : List ℕ) (k : Kind) where
         size = refl;
         small = ltb-false limit z (late .1 .0);
         fits = ltb-false (length t) z (late .1 .1 .0);
+        encoded = encoded-exactly (rules .profile) _ .0 (not-false _ (late .1 .1 .1 .0));
       }
 
-  facts-passed : {z : ℕ} → WholeAt rules c t k z → Every Passed (checksAs (Known k) c t)
-  unfolding checksAs frontChecks idChecks fixedChecks sizeChecks
+  facts-passed : {z : ℕ} → WholeAt rules c t k z → Every Passed (checksAs (rules .profile) (Known k) c t)
+  unfolding checksAs frontChecks idChecks fixedChecks sizeChecks textChecks
   facts-passed {z} w =
       let own = ownChecks k (fixedPart k t) in
       let least : 2 + fixedSize k ≤ length t = omega (arith, size-least k (fixedPart k t)) in
       let small : sizeOf k (fixedPart k t) ≤ limit = rw (w .size) (w .small) in
       let fits : sizeOf k (fixedPart k t) ≤ length t = rw (w .size) (w .fits) in
       let passed : Every Passed own = first-passed own (own-numbered k (fixedPart k t)) (w .sound) in
-      let late = every-append Passed own (sizeChecks (sizeOf k (fixedPart k t)) t) passed (le-ltb _ _ small, (le-ltb _ _ fits, tt)) in
+      let texts : not (encoded (rules .profile) (textsIn (recordOf k (messageAt k t) .parts))) ≡ false =
+      rw (w .size) (ap not (encoded-exactly (rules .profile) _ .1 (w .encoded))) in
+      let late = every-append Passed own (sizeChecks (sizeOf k (fixedPart k t)) t ++ textChecks (rules .profile) k (messageAt k t)) passed
+      (le-ltb _ _ small, (le-ltb _ _ fits, (texts, tt))) in
       let two : eqb (length t) 1 ≡ false = ne-eqb (length t) 1 (λ e. omega arith) in
       (allowed-open k (c .phase) (w .ordered), (lt-leb _ _ (w .counted), (two, (ap not (w .ordered), (le-ltb _ _ least, late)))))
 
 -- an id that no kind has is always refused
-unknown-refused : (c : Cursor) (t : List ℕ) → first (checksAs Unknown c t) ≡ 0 → ⊥
+unknown-refused : (p : Profile) (c : Cursor) (t : List ℕ) → first (checksAs p Unknown c t) ≡ 0 → ⊥
 unfolding checksAs frontChecks idChecks
-unknown-refused c t e = true≢false (first-passed (checksAs Unknown c t) refl e .1 .1 .1 .0)
+unknown-refused p c t e = true≢false (first-passed (checksAs p Unknown c t) refl e .1 .1 .1 .0)
 
 -- a judgement is one or the other
 not-both : {f : ℕ} {k : Kind} {z : ℕ} → faulty f ≡ whole k z → ⊥
@@ -92,13 +103,13 @@ pub judge-whole : (rules : Rules) (c : Cursor) (t : List ℕ) {k : Kind} {z : �
 unfolding judge judgeAs
 judge-whole rules c t {k} {z} e = by-id (identified rules (idAt t)) refl e
   where
-    by-id : (i : Identified) → identified rules (idAt t) ≡ i → judgeAs i c t ≡ whole k z → WholeAt rules c t k z
+    by-id : (i : Identified) → identified rules (idAt t) ≡ i → judgeAs (rules .profile) i c t ≡ whole k z → WholeAt rules c t k z
     by-id Unknown n e = absurd (not-both e)
     by-id (Known j) n e =
-        let u = unless-passed (first (checksAs (Known j) c t)) faulty (whole j (sizeOf j (fixedPart j t))) (λ f. not-both) e in
+        let u = unless-passed (first (checksAs (rules .profile) (Known j) c t)) faulty (whole j (sizeOf j (fixedPart j t))) (λ f. not-both) e in
         let kind : j ≡ k = cc (u .1) in
         let size : sizeOf j (fixedPart j t) ≡ z = cc (u .1) in
-        rw (← kind, ← size) (passed-facts rules c t j n (first-passed (checksAs (Known j) c t) (all-numbered (Known j) c t) (u .0)))
+        rw (← kind, ← size) (passed-facts rules c t j n (first-passed (checksAs (rules .profile) (Known j) c t) (all-numbered (rules .profile) (Known j) c t) (u .0)))
 
 -- what is found whole is of the kind that the rules make of its sort
 pub found-whole : (rules : Rules) (c : Cursor) (t : List ℕ) {o : Sort} {z : ℕ} → passes o z ≡ sorted (judge rules c t) → judge rules c t ≡ whole (kindIn rules o) z
@@ -125,29 +136,29 @@ unfolding judge judgeAs
 whole-judge {rules} c t {k} {z} w = rw (w .known, passed-first _ (facts-passed rules c t k w), w .size)
 
 -- what is judged faulty is refused by the first check that refuses
-pub judge-faulty : (rules : Rules) (c : Cursor) (t : List ℕ) {f : ℕ} → judge rules c t ≡ faulty f → FirstFault f (checksAs (identified rules (idAt t)) c t)
+pub judge-faulty : (rules : Rules) (c : Cursor) (t : List ℕ) {f : ℕ} → judge rules c t ≡ faulty f → FirstFault f (checksAs (rules .profile) (identified rules (idAt t)) c t)
 unfolding judge judgeAs
 judge-faulty rules c t {f} e = by-id (identified rules (idAt t)) e
   where
-    by-id : (i : Identified) → judgeAs i c t ≡ faulty f → FirstFault f (checksAs i c t)
+    by-id : (i : Identified) → judgeAs (rules .profile) i c t ≡ faulty f → FirstFault f (checksAs (rules .profile) i c t)
     by-id Unknown e =
-        let n : first (checksAs Unknown c t) ≡ f = cc in
-        first-fault (checksAs Unknown c t) f n (λ z. unknown-refused c t (n ∙ z))
+        let n : first (checksAs (rules .profile) Unknown c t) ≡ f = cc in
+        first-fault (checksAs (rules .profile) Unknown c t) f n (λ z. unknown-refused (rules .profile) c t (n ∙ z))
     by-id (Known k) e =
-        let u = unless-fault (first (checksAs (Known k) c t)) faulty (whole k (sizeOf k (fixedPart k t))) (λ w. not-both (sym w)) e in
-        let n : first (checksAs (Known k) c t) ≡ f = cc (u .0) in
-        first-fault (checksAs (Known k) c t) f n (λ z. u .1 (n ∙ z))
+        let u = unless-fault (first (checksAs (rules .profile) (Known k) c t)) faulty (whole k (sizeOf k (fixedPart k t))) (λ w. not-both (sym w)) e in
+        let n : first (checksAs (rules .profile) (Known k) c t) ≡ f = cc (u .0) in
+        first-fault (checksAs (rules .profile) (Known k) c t) f n (λ z. u .1 (n ∙ z))
 
 -- where a check refuses, the message is judged faulty by the first that does
-pub faulty-judge : (rules : Rules) (c : Cursor) (t : List ℕ) {f : ℕ} → FirstFault f (checksAs (identified rules (idAt t)) c t) → judge rules c t ≡ faulty f
+pub faulty-judge : (rules : Rules) (c : Cursor) (t : List ℕ) {f : ℕ} → FirstFault f (checksAs (rules .profile) (identified rules (idAt t)) c t) → judge rules c t ≡ faulty f
 unfolding judge judgeAs
 faulty-judge rules c t {f} r = by-id (identified rules (idAt t)) r
   where
-    by-id : (i : Identified) → FirstFault f (checksAs i c t) → judgeAs i c t ≡ faulty f
-    by-id Unknown r = ap faulty (fault-first (checksAs Unknown c t) r)
+    by-id : (i : Identified) → FirstFault f (checksAs (rules .profile) i c t) → judgeAs (rules .profile) i c t ≡ faulty f
+    by-id Unknown r = ap faulty (fault-first (checksAs (rules .profile) Unknown c t) r)
     by-id (Known k) r =
-        let n = fault-not-zero (checksAs (Known k) c t) (all-numbered (Known k) c t) r in
-        rw (fault-first (checksAs (Known k) c t) r) (unless-refused f faulty (whole k (sizeOf k (fixedPart k t))) n)
+        let n = fault-not-zero (checksAs (rules .profile) (Known k) c t) (all-numbered (rules .profile) (Known k) c t) r in
+        rw (fault-first (checksAs (rules .profile) (Known k) c t) r) (unless-refused f faulty (whole k (sizeOf k (fixedPart k t))) n)
 
 -- the bytes of a whole message are a well-formed message
 abbrev pub wellFormed : {rules : Rules} (c : Cursor) (t : List ℕ) {k : Kind} {z : ℕ} → WholeAt rules c t k z → WellFormed rules (take z t)
@@ -161,6 +172,7 @@ wellFormed c t {k} {z} w =
       sound = rw same (w .sound);
       small = rw size (w .small);
       whole = size ∙ sym (length-take-le z t (w .fits));
+      encoded = w .encoded;
     }
 
 -- a well-formed message that the order and the count allow is whole, whatever follows it
@@ -175,6 +187,7 @@ well-whole c m rest w a n =
       size = well-size m rest w;
       small = rw (← w .whole) (w .small);
       fits = simp length-append (omega arith);
+      encoded = rw take-append-seam (w .encoded);
     }
 
 -- so it is judged whole, with its kind and length

@@ -1,14 +1,13 @@
-// One message judged where a walk is: the order of checks, in four stages, each with its own function.
+// One message judged where a walk is: the order of checks, in five stages, each with its own function.
 //
-// A message is judged by its fixed part and by how many bytes there are: no payload byte is read. Assumes
-// nothing.
+// In the plain profile a message is judged by its fixed part and by how many bytes there are: no payload byte is read.
+// In the strict one its texts are read too. Assumes nothing.
 mod sort;
 mod stages;
 
 pub use sort::Sort;
 pub use stages::Judgement;
 pub use stages::MAX_MESSAGES;
-pub use stages::fixed_part;
 pub use stages::judge;
 pub use stages::judge_fixed;
 pub use stages::judge_front;

@@ -1,10 +1,8 @@
 // One message judged where a walk is, by the bytes from its first on: the order of checks, stage by stage.
 // Each stage answers the number of its first check that refuses, or 0.
 ghost use mathlib.Core.Path.{_≡_};
-ghost use Prim.Native.Nat.{_+_, _≤_, _<_};
+ghost use Prim.Native.Nat.{_≤_, _<_};
 ghost use lib.ListN.{length};
-ghost use Rattle.mrd_format.specs.Kinds.{fixedSize};
-ghost use Rattle.mrd_format.specs.Message.{fixedPart};
 ghost use Rattle.mrd_logic.specs.Checks.{first};
 ghost use Rattle.mrd_judge.specs.Stages.{frontChecks, idChecks, fixedChecks, sizeChecks};
 ghost use Rattle.mrd_judge.specs.Judge.{judgementMeaning, sorted, judge, judgeBody};
@@ -12,10 +10,13 @@ use crate::sort::Sort;
 use mrd_cursor::Cursor;
 use mrd_format::Identified;
 use mrd_format::Kind;
+use mrd_format::Profile;
 use mrd_format::Rules;
 use mrd_format::refusal;
 use mrd_format::size::MAX_MESSAGE_SIZE;
+use mrd_message::fixed_part;
 use mrd_numbers::read_u16;
+use mrd_texts::message_encoded;
 
 // The most messages that a stream may have.
 pub const MAX_MESSAGES: usize = 1000000;
@@ -37,6 +38,7 @@ pub fn judge(rules: Rules, c: Cursor, t: &[u8]) -> Judgement
     if front != 0 {
         return Judgement::Faulty(front);
     }
+    let profile = rules.profile;
     let identified = Kind::of_id(rules, read_u16(t, 0));
     let id = judge_id(c, identified);
     match identified {
@@ -44,7 +46,7 @@ pub fn judge(rules: Rules, c: Cursor, t: &[u8]) -> Judgement
             if id != 0 {
                 return Judgement::Faulty(id);
             }
-            judge_body(kind, t)
+            judge_body(profile, kind, t)
         }
         Identified::Unknown => Judgement::Faulty(id),
     }
@@ -83,12 +85,12 @@ pub fn judge_id(c: Cursor, identified: Identified) -> u8
     }
 }
 
-// A message of a known kind, by its last two stages. Whether the last one passes is tested here, and its number is
+// A message of a known kind, by its last three stages. Whether its size passes is tested here, and the number is
 // worked out only where it does not: nearly every message passes, and two tests are faster than a number compared
 // with 0.
-fn judge_body(kind: Kind, t: &[u8]) -> Judgement
+fn judge_body(profile: Profile, kind: Kind, t: &[u8]) -> Judgement
     requires { ⌜ 2 ≤ length (now t) ⌝ }
-    ensures { λ r. ⌜ judgementMeaning r ≡ sorted (judgeBody kind (now (t .entry))) ⌝ }
+    ensures { λ r. ⌜ judgementMeaning r ≡ sorted (judgeBody profile kind (now (t .entry))) ⌝ }
 {
     let fixed = judge_fixed(kind, t);
     if fixed != 0 {
@@ -101,7 +103,10 @@ fn judge_body(kind: Kind, t: &[u8]) -> Judgement
     if t.len() < end {
         return Judgement::Faulty(judge_size(end, t));
     }
-    Judgement::Whole(Sort::of(kind), end)
+    if message_encoded(profile, kind, &t[0..end]) {
+        return Judgement::Whole(Sort::of(kind), end);
+    }
+    Judgement::Faulty(refusal::TEXT_NOT_UTF8)
 }
 
 // The fixed part: 3 where it does not fit, else 4 to 9.
@@ -126,13 +131,4 @@ pub fn judge_size(size: usize, t: &[u8]) -> u8
         return refusal::MESSAGE_CUT;
     }
     0
-}
-
-// The fixed part of the message at the front of t.
-pub fn fixed_part(kind: Kind, t: &[u8]) -> &[u8]
-    requires { ⌜ 2 + fixedSize kind ≤ length (now t) ⌝ }
-    ensures { λ r. ⌜ now r ≡ fixedPart kind (now (t .entry)) ⌝ }
-{
-    let end = Kind::ID_SIZE + kind.fixed_size();
-    &t[Kind::ID_SIZE..end]
 }

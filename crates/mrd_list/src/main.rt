@@ -1,12 +1,13 @@
 // Lists the records of the stream on standard input: a line for each with its number, id, start and
 // size, and ` mask` with the count of ones where a channel mask differs from the active channels; or one
-// line with the refusal. Waveform headers are packed. At most 65,536 bytes are listed; of more, nothing is,
+// line with the refusal. Waveform headers are packed, and texts may be any bytes. At most 65,536 bytes are listed; of more, nothing is,
 // and what comes after the first byte too many is not read.
 use libc::STDIN_FILENO;
 use libc::STDOUT_FILENO;
 use mrd_cursor::Cursor;
 use mrd_format::Layout;
 use mrd_format::Mask;
+use mrd_format::Profile;
 use mrd_format::Rules;
 use mrd_format::Shape;
 use mrd_stream::Checked;
@@ -31,6 +32,7 @@ fn main() {
 fn list(s: &[u8]) {
     let rules = Rules {
         layout: Layout::Packed,
+        profile: Profile::Plain,
     };
     match mrd_stream::check(rules, s) {
         Checked::Accepted(count) => {

@@ -82,12 +82,24 @@ lacking-append n ((f when t) ∷ cs) ds a b =
     let tests = both (not (eqb f n)) (lacking n cs) a in
     rw (tests .0) (lacking-append n cs ds (tests .1) b)
 
--- so none of them refuses with it
+-- a check that does not refuse with n
+abbrev pub Never : ℕ → Check → Type 0
+Never n (f when b) = f ≡ n → b ≡ false
+
+pub lacking-each : (n : ℕ) (cs : List Check) → lacking n cs ≡ true → Every (Never n) cs
+lacking-each n [] a = tt
+lacking-each n ((f when b) ∷ cs) a =
+    let tests = both (not (eqb f n)) (lacking n cs) a in
+    (λ e. absurd (true≢false (sym (tests .0) ∙ ap not (eq-eqb f n e))), lacking-each n cs (tests .1))
+
+-- so n is not the first refusal of such
+pub never-first : (n : ℕ) (cs : List Check) → Every (Never n) cs → first cs ≡ n → n ≡ 0
+never-first n [] p e = sym e
+never-first n ((f when true) ∷ cs) p e = absurd (true≢false (p .0 e))
+never-first n ((f when false) ∷ cs) p e = never-first n cs (p .1) e
+
 pub lacking-never : (n : ℕ) (cs : List Check) → lacking n cs ≡ true → first cs ≡ n → n ≡ 0
-lacking-never n [] a e = sym e
-lacking-never n ((f when true) ∷ cs) a e =
-    absurd (true≢false (sym (both (not (eqb f n)) (lacking n cs) a .0) ∙ ap not (eq-eqb f n e)))
-lacking-never n ((f when false) ∷ cs) a e = lacking-never n cs (both (not (eqb f n)) (lacking n cs) a .1) e
+lacking-never n cs a = never-first n cs (lacking-each n cs a)
 
 -- a fault's number is not 0
 pub fault-not-zero : (cs : List Check) {f : ℕ} → numbered cs ≡ true → FirstFault f cs → f ≡ 0 → ⊥
@@ -108,6 +120,14 @@ first-decides cs ds {f = suc f} e n = first-stops cs ds e
 -- and where all of them pass, the next do
 pub first-next : (cs ds : List Check) → numbered cs ≡ true → first cs ≡ 0 → first (cs ++ ds) ≡ first ds
 first-next cs ds n e = first-skip cs ds (first-passed cs n e)
+
+-- checks with the same first number decide alike among more
+pub first-same : (cs ds es : List Check) → numbered cs ≡ true → numbered ds ≡ true → first cs ≡ first ds → first (cs ++ es) ≡ first (ds ++ es)
+first-same cs ds es n m e = by (first cs) refl
+  where
+    by : (f : ℕ) → first cs ≡ f → first (cs ++ es) ≡ first (ds ++ es)
+    by zero q = first-next cs es n q ∙ sym (first-next ds es m (sym e ∙ q))
+    by (suc f) q = first-stops cs es q ∙ sym (first-stops ds es (sym e ∙ q))
 
 -- a number that is not 0 is refused with
 pub unless-refused : {A : Type 0} (f : ℕ) (refusal : ℕ → A) (a : A) → (f ≡ 0 → ⊥) → unless f refusal a ≡ refusal f

@@ -11,6 +11,7 @@ pub use identity::encoding_counter;
 pub use identity::measurement_uid;
 pub use identity::scan_counter;
 pub use message::fault;
+pub use message::fixed_part;
 pub use message::name_length;
 pub use message::shape;
 pub use message::size;

@@ -1,11 +1,11 @@
 // One message, by its kind and the bytes of its fixed part: the checks of its own bytes, its size, and
 // its kind with that kind's own numbers.
 ghost use mathlib.Core.Path.{_≡_};
-ghost use Prim.Native.Nat.{_<_, _≤_, _^_};
+ghost use Prim.Native.Nat.{_+_, _<_, _≤_, _^_};
 ghost use lib.ListN.{length};
 ghost use Rattle.mrd_format.specs.Kinds.{fixedSize};
 ghost use Rattle.mrd_logic.specs.Checks.{first};
-ghost use Rattle.mrd_format.specs.Message.{ownChecks, bodySize, sizeOf, numbersOf, nameLength, textLength};
+ghost use Rattle.mrd_format.specs.Message.{fixedPart, ownChecks, bodySize, sizeOf, numbersOf, nameLength, textLength};
 ghost use Rattle.mrd_format.specs.Sizes.{capped};
 ghost use Rattle.mrd_format.specs.Shapes.{kindOf, shapeNumbers};
 use mrd_format::Kind;
@@ -103,4 +103,13 @@ pub fn shape(kind: Kind, h: &[u8]) -> Shape
         Kind::Image => Shape::Image(mrd_image::shape(h)),
         Kind::Waveform(layout) => Shape::Waveform(mrd_waveform::shape(layout, h)),
     }
+}
+
+// The fixed part of the message at the front of t.
+pub fn fixed_part(kind: Kind, t: &[u8]) -> &[u8]
+    requires { ⌜ 2 + fixedSize kind ≤ length (now t) ⌝ }
+    ensures { λ r. ⌜ now r ≡ fixedPart kind (now (t .entry)) ⌝ }
+{
+    let end = Kind::ID_SIZE + kind.fixed_size();
+    &t[Kind::ID_SIZE..end]
 }

@@ -17,7 +17,8 @@ use Rattle.mrd_format.specs.declared.kind.Kind.the-variants.{ConfigurationName,
 use Rattle.mrd_format.specs.Kinds.{fixedSize}
 use Rattle.mrd_format.specs.Image.{attributeLength}
 use Rattle.mrd_format.specs.Waveform.{headerBytes, cleared}
-use Rattle.mrd_format.specs.Message.{limit, fixedPart, nameLength, bodySize, sizeOf, WellFormed}
+use Rattle.mrd_format.specs.Message.{limit, fixedPart, nameLength, bodySize, sizeOf}
+use Rattle.mrd_format.specs.WellFormed.{WellFormed}
 use Rattle.mrd_format.specs.MessageLaws.{well-least}
 use Rattle.mrd_format.specs.Content.{normalOf}
 use Rattle.mrd_format.specs.NormalLaws.{nameBytes, name-short, name-ends, well-normalised}

@@ -8,17 +8,22 @@ use lib.IntN.{ℤ, pos, negsuc}
 use Rattle.mrd_numbers.specs.Little.{num}
 use Rattle.mrd_format.specs.declared.kind.Kind.{Kind}
 use Rattle.mrd_format.specs.declared.rules.Rules.{Rules}
+use Rattle.mrd_format.specs.declared.rules.Layout.{Layout}
+use Rattle.mrd_format.specs.declared.rules.Profile.{Profile}
+use Rattle.mrd_format.specs.declared.rules.Profile.the-variants.{Plain, Strict}
 use Rattle.mrd_format.specs.declared.kind.Kind
 use Rattle.mrd_format.specs.Kinds.{identified}
+use Rattle.mrd_format.specs.Profiles.{rulesBy, encoded}
+use Rattle.mrd_utf8.specs.Fold.{begun, next, utf8Of}
 use Rattle.mrd_format.specs.Message.{fixedPart, ownChecks, bodySize, sizeOf, textLength}
 use Rattle.mrd_format.specs.Acquisition as acquisition
-use Rattle.mrd_format.specs.Content.{counterOf}
+use Rattle.mrd_format.specs.Content.{extentOf, contentsOf, recordOf, counterOf}
 use Rattle.mrd_flags.specs.Flags.{flagSet, withBit, bit}
 use Rattle.mrd_counter_step.specs.Counters.{counterStep, signed}
 use Rattle.mrd_logic.specs.Answer.{Verdict, accepted, refused}
 use Rattle.mrd_stream.specs.Walk.{answer, trace, walk, ended}
 use Rattle.mrd_judge.specs.Judge.{judge, judgeAs}
-use Rattle.mrd_judge.specs.Stages.{checksAs, frontChecks, idChecks, fixedChecks, sizeChecks}
+use Rattle.mrd_judge.specs.Stages.{checksAs, frontChecks, idChecks, fixedChecks, sizeChecks, textChecks}
 use Rattle.mrd_logic.specs.Every.{Every}
 use Rattle.mrd_stream.specs.Index.{index, entries}
 
@@ -71,7 +76,10 @@ examples =
     indexed (3 ∷ 0 ∷ 0 ∷ 0 ∷ 0 ∷ 0 ∷ 4 ∷ 0 ∷ []) paperIndex ∷  -- 'Index and listing'
     []
 
-pub worked-examples : (rules : Rules) → Every (ExampleHolds rules) examples
-unfolding answer trace walk judge judgeAs checksAs frontChecks idChecks fixedChecks sizeChecks ended identified num fixedPart ownChecks bodySize sizeOf textLength acquisition.bodySize acquisition.trajectorySize acquisition.channelSize flagSet withBit bit counterStep signed index entries counterOf
-worked-examples rules =
+-- they hold for each layout and each profile
+pub worked-examples : (l : Layout) (f : Profile) → Every (ExampleHolds (rulesBy l f)) examples
+unfolding answer trace walk judge judgeAs checksAs frontChecks idChecks fixedChecks sizeChecks textChecks ended identified encoded utf8Of next begun num fixedPart ownChecks bodySize sizeOf textLength acquisition.bodySize acquisition.trajectorySize acquisition.channelSize recordOf contentsOf extentOf flagSet withBit bit counterStep signed index entries counterOf
+worked-examples l Plain =
+    (refl, (refl, (refl, (refl, (refl, (refl, (refl, (refl, (refl, (refl, (refl, (refl, (refl, (refl, (refl, tt)))))))))))))))
+worked-examples l Strict =
     (refl, (refl, (refl, (refl, (refl, (refl, (refl, (refl, (refl, (refl, (refl, (refl, (refl, (refl, (refl, tt)))))))))))))))

@@ -8,7 +8,8 @@ use lib.ListN.{length, take, drop, length-drop, take-append-drop}
 use lib.Seq.{drop-drop}
 use Rattle.mrd_format.specs.declared.kind.Kind.{Kind}
 use Rattle.mrd_format.specs.declared.rules.Rules.{Rules}
-use Rattle.mrd_format.specs.Message.{fixedPart, WellFormed}
+use Rattle.mrd_format.specs.Message.{fixedPart}
+use Rattle.mrd_format.specs.WellFormed.{WellFormed}
 use Rattle.mrd_format.specs.MessageLaws.{size-least}
 use Rattle.mrd_cursor.specs.declared.cursor.Cursor.{Cursor}
 use Rattle.mrd_judge.specs.Judge.{Judged, faulty, whole, judge}

@@ -20,8 +20,8 @@ use mrd_format::Kind;
 use mrd_format::Rules;
 use mrd_format::refusal;
 use mrd_judge::Judgement;
-use mrd_judge::fixed_part;
 use mrd_judge::judge;
+use mrd_message::fixed_part;
 
 // One step over the stream s: the message that is due at c, with its place and kind and the cursor of
 // what follows, or the stream's answer. From Cursor::beginning() on, the steps hand out the stream's

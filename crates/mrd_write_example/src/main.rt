@@ -5,6 +5,7 @@ mod views;
 use libc::STDOUT_FILENO;
 use mrd_format::Kind;
 use mrd_format::Layout;
+use mrd_format::Profile;
 use mrd_format::Rules;
 use mrd_stream::Checked;
 use mrd_writer::WriteAnswer;
@@ -18,10 +19,12 @@ const AVAILABLE_CHANNELS: usize = 36;
 
 const ACTIVE_CHANNELS: usize = 38;
 
-// What is written here has no waveforms, so that either layout would do.
-fn packed() -> Rules {
+// What is written here has no waveforms, so that either layout would do, and texts of ASCII alone, so that either
+// profile would.
+fn rules() -> Rules {
     Rules {
         layout: Layout::Packed,
+        profile: Profile::Strict,
     }
 }
 
@@ -56,7 +59,7 @@ fn after(written: WriteAnswer, position: usize) -> usize {
 fn put_name(out: &mut [u8], position: usize) -> usize {
     let id = Kind::CONFIGURATION_NAME;
     let written = mrd_writer::write(
-        packed(),
+        rules(),
         id,
         b"",
         b"default.xml",
@@ -75,7 +78,7 @@ fn put_name(out: &mut [u8], position: usize) -> usize {
 fn put_header(out: &mut [u8], position: usize) -> usize {
     let id = Kind::HEADER_TEXT;
     let written = mrd_writer::write(
-        packed(),
+        rules(),
         id,
         b"",
         b"",
@@ -102,7 +105,7 @@ fn put_readout(out: &mut [u8], position: usize) -> usize {
     let samples = b"sample 0sample 1sample 2sample 3";
     let id = Kind::ACQUISITION;
     let written = mrd_writer::write(
-        packed(),
+        rules(),
         id,
         &header,
         b"",
@@ -121,7 +124,7 @@ fn put_readout(out: &mut [u8], position: usize) -> usize {
 fn put_close(out: &mut [u8], position: usize) -> usize {
     let id = Kind::CLOSE;
     let written = mrd_writer::write(
-        packed(),
+        rules(),
         id,
         b"",
         b"",
@@ -142,7 +145,7 @@ fn read_back(out: &[u8], end: usize) {
     if out.len() < end {
         return;
     }
-    match mrd_stream::check(packed(), &out[0..end]) {
+    match mrd_stream::check(rules(), &out[0..end]) {
         Checked::Accepted(count) => {
             io::write_all(STDOUT_FILENO, b"accepted, records ");
             io::print_decimal(STDOUT_FILENO, count as u64);
@@ -153,5 +156,5 @@ fn read_back(out: &[u8], end: usize) {
         }
     }
     io::write_all(STDOUT_FILENO, b"\n");
-    views::show(packed(), &out[0..end]);
+    views::show(rules(), &out[0..end]);
 }

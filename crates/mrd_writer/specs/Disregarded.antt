@@ -28,11 +28,12 @@ use Rattle.mrd_writer.specs.Write.{contentsSize, contentsChecks, writeCh
 abbrev pub given : List ℕ → Parts → Contents
 given h ps = record { header = h; parts = ps }
 
--- what is given as c and as d makes the same message of kind k, of the same size, and passes the same checks
+-- what is given as c and as d makes the same message of kind k, of the same size, of the same parts, and passes the same checks
 record Alike (k : Kind) (c d : Contents) : Type 0 where
   message : messageOf k c ≡ messageOf k d
   size : contentsSize k c ≡ contentsSize k d
   checks : contentsChecks k c ≡ contentsChecks k d
+  parts : c .parts ≡ d .parts
 
 -- the writer gives the same answer, and leaves the same output
 abbrev pub WrittenAlike : Rules → ℕ → Contents → Contents → Type 0
@@ -42,7 +43,7 @@ WrittenAlike rules id c d =
 written-alike : (rules : Rules) (id : ℕ) {k : Kind} {c d : Contents} → identified rules id ≡ Known k → Alike k c d → WrittenAlike rules id c d
 unfolding writeAnswer writeOutput outputAs answerAs writeChecks
 written-alike rules id {k} {c} {d} known a at o =
-    let answers : answerAs (Known k) c at o ≡ answerAs (Known k) d at o = rw (a .checks, a .size) in
+    let answers : answerAs (rules .profile) (Known k) c at o ≡ answerAs (rules .profile) (Known k) d at o = rw (a .checks, a .size, a .parts) in
     (rw known answers, rw (known, answers, a .message))
 
 -- image headers that agree in all bytes before the length of the attributes
@@ -62,6 +63,7 @@ module _ (g h : List ℕ) (ps : Parts) (long : length g ≡ length h) (same : ta
         message = rw settled-image;
         size = rw (agree-pixels g h agree);
         checks = rw (long, settled-image, agree-pixels g h agree);
+        parts = refl;
       }
 
   pub number-disregarded : (rules : Rules) → WrittenAlike rules (idOf Image) (given g ps) (given h ps)
@@ -80,6 +82,7 @@ module _ (l : Layout) (g h : List ℕ) (ps : Parts) (long : length g ≡ length 
         message = rw settled-waveform;
         size = rw (waveforms.same-size l g h same);
         checks = rw (long, settled-waveform, waveforms.same-size l g h same);
+        parts = refl;
       }
 
 pub filler-disregarded : (rules : Rules) (g h : List ℕ) (ps : Parts) → length g ≡ length h → SameFields (waveform.cells (rules .layout)) g h →

@@ -22,8 +22,10 @@ use Rattle.mrd_format.specs.declared.kind.Kind.{Kind}
 use Rattle.mrd_format.specs.declared.kind.Kind.the-variants.{ConfigurationName, ConfigurationText, HeaderText, Close, Text, Acquisition, Image, Waveform}
 use Rattle.mrd_format.specs.Segments.{nameLength}
 use Rattle.mrd_format.specs.Texts.{textLength}
-use Rattle.mrd_format.specs.Message.{limit, fixedPart, ownChecks, bodySize, sizeOf, WellFormed}
-use Rattle.mrd_format.specs.Content.{extentOf, contentsOf, normalOf, messageOf}
+use Rattle.mrd_format.specs.Message.{limit, fixedPart, ownChecks, bodySize, sizeOf}
+use Rattle.mrd_format.specs.WellFormed.{WellFormed}
+use Rattle.mrd_format.specs.Content.{extentOf, contentsOf, recordOf, normalOf, messageOf}
+use Rattle.mrd_format.specs.Profiles.{textsIn, Encoded}
 use Rattle.mrd_format.specs.NormalLaws.{nameBytes, name-short}
 use Rattle.mrd_format.specs.Rewritten.{part-length, rewritten-normal}
 use Rattle.mrd_format.specs.Parts.{Part, partLength}
@@ -147,5 +149,7 @@ own-sound (Waveform l) m sound small whole =
 
 -- writing the header and the parts of a well-formed message is not refused, and gives its normal form
 pub own-contents : {rules : Rules} (m : List ℕ) (w : WellFormed rules m) → Bytes m →
-    Sound (w .kind) (contentsOf (w .kind) m) × (messageOf (w .kind) (contentsOf (w .kind) m) ≡ normalOf (w .kind) m)
-own-contents m w bytes = (own-sound (w .kind) m (w .sound) (w .small) (w .whole), rewritten-normal m bytes w)
+    Sound (w .kind) (contentsOf (w .kind) m) ×
+    (Encoded (rules .profile) (textsIn (contentsOf (w .kind) m .parts)) × (messageOf (w .kind) (contentsOf (w .kind) m) ≡ normalOf (w .kind) m))
+unfolding recordOf
+own-contents m w bytes = (own-sound (w .kind) m (w .sound) (w .small) (w .whole), (w .encoded, rewritten-normal m bytes w))

@@ -4,25 +4,27 @@ use Prim.Native.Nat.{ℕ, _+_, _≤_, _<_}
 use native.Mathlib.Omega.{arith}
 use mathlib.Core.Path.{_≡_, refl, sym, ap, _∙_}
 use mathlib.Core.Bool.{true}
-use mathlib.Core.List.{List, [], _∷_, _++_}
-use borrow.Author.Tests.{ltb-false}
-use lib.Dec.{ltb}
+use mathlib.Core.List.{List, _++_}
+use borrow.Author.Tests.{ltb-false, not-false}
 use lib.ListN.{length, take, drop}
 use lib.Seq.{length-take-le, take-at, drop-at}
 use Rattle.mrd_numbers.specs.Stored.{stored}
 use Rattle.mrd_logic.specs.Answer.{answered}
 use Rattle.mrd_logic.specs.AnswerLaws.{answered-not-number}
 use Rattle.mrd_logic.specs.Every.{every-split}
-use Rattle.mrd_logic.specs.Checks.{_when_, first, Passed}
+use Rattle.mrd_logic.specs.Checks.{first, Passed}
 use Rattle.mrd_logic.specs.CheckLaws.{first-passed, passed-first, numbered-append}
 use Rattle.mrd_format.specs.declared.rules.Rules.{Rules}
+use Rattle.mrd_format.specs.declared.rules.Profile.{Profile}
 use Rattle.mrd_format.specs.declared.kind.Kind.{Kind}
 use Rattle.mrd_format.specs.declared.kind.Identified.{Identified}
 use Rattle.mrd_format.specs.declared.kind.Identified.the-variants.{Known, Unknown}
 use Rattle.mrd_format.specs.Kinds.{identified}
-use Rattle.mrd_format.specs.Message.{WellFormed}
+use Rattle.mrd_format.specs.WellFormed.{WellFormed}
 use Rattle.mrd_format.specs.Parts.{Contents}
 use Rattle.mrd_format.specs.Content.{recordOf, messageOf, contentsRecord}
+use Rattle.mrd_format.specs.Profiles.{textsIn, Encoded}
+use Rattle.mrd_format.specs.ProfileLaws.{encoded-exactly}
 use Rattle.mrd_format.specs.Made.{made-record}
 use Rattle.mrd_cursor.specs.declared.cursor.Cursor.{Cursor}
 use Rattle.mrd_cursor.specs.Order.{allowed}
@@ -31,7 +33,7 @@ use Rattle.mrd_stream.specs.Walk.{message, walk, from}
 use Rattle.mrd_cut.specs.Walked.{walk-well}
 use Rattle.mrd_write_checks.specs.WriteChecks.{lengthsOf}
 use Rattle.mrd_write_checks.specs.GivenLaws.{unless-answered, given-numbered}
-use Rattle.mrd_writer.specs.Write.{contentsSize, contentsChecks, writeChecks, answerAs, outputAs, writeAnswer, writeOutput}
+use Rattle.mrd_writer.specs.Write.{contentsSize, contentsChecks, textChecks, roomChecks, writeChecks, answerAs, outputAs, writeAnswer, writeOutput}
 use Rattle.mrd_writer.specs.Sound.{Sound, passed-sound}
 use Rattle.mrd_writer.specs.Written.{sound-fitting, message-length, written-well}
 
@@ -55,16 +57,26 @@ pub record ReadsBack (rules : Rules) (id : ℕ) (c : Contents) (at : ℕ) (o : L
       from rules d s ≡ message d kind m (walk rules rest 0 (after d kind (length m)))
 
 -- an answer that is no refusal: every check passed
-answered-sound : (k : Kind) (c : Contents) (at : ℕ) (o : List ℕ) {p : ℕ} → answerAs (Known k) c at o ≡ answered p →
-    Sound k c × (at + contentsSize k c ≡ p) × (at + contentsSize k c ≤ length o)
+record Passes (f : Profile) (k : Kind) (c : Contents) (at : ℕ) (o : List ℕ) (p : ℕ) : Type 0 where
+  sound : Sound k c
+  texts : Encoded f (textsIn (c .parts))
+  end : at + contentsSize k c ≡ p
+  fits : at + contentsSize k c ≤ length o
+
+answered-passes : (f : Profile) (k : Kind) (c : Contents) (at : ℕ) (o : List ℕ) {p : ℕ} → answerAs f (Known k) c at o ≡ answered p → Passes f k c at o p
 unfolding answerAs writeChecks
-answered-sound k c at o e =
+answered-passes f k c at o e =
     let own = contentsChecks k c in
-    let room = (14 when ltb (length o) (at + contentsSize k c)) ∷ [] in
-    let d = unless-answered (first (own ++ room)) (at + contentsSize k c) e in
-    let numbers = numbered-append own room (given-numbered k (c .header) (c .parts .name) (lengthsOf c)) refl in
-    let all = every-split Passed own room (first-passed (own ++ room) numbers (d .0)) in
-    (passed-sound k c (passed-first own (all .0)), d .1, ltb-false _ _ (all .1 .0))
+    let late = textChecks f c ++ roomChecks at (contentsSize k c) o in
+    let d = unless-answered (first (own ++ late)) (at + contentsSize k c) e in
+    let numbers = numbered-append own late (given-numbered k (c .header) (c .parts .name) (lengthsOf c)) refl in
+    let all = every-split Passed own late (first-passed (own ++ late) numbers (d .0)) in
+    record {
+      sound = passed-sound k c (passed-first own (all .0));
+      texts = encoded-exactly f _ .0 (not-false _ (all .1 .0));
+      end = d .1;
+      fits = ltb-false _ _ (all .1 .1 .0);
+    }
 
 -- bytes that were stored are there
 stored-there : (at : ℕ) (m o : List ℕ) → at + length m ≤ length o → take (length m) (drop at (stored at m o)) ≡ m
@@ -79,23 +91,23 @@ pub written-reads-back : (rules : Rules) (id : ℕ) (c : Contents) (at : ℕ) (o
 unfolding writeAnswer writeOutput answerAs outputAs
 written-reads-back rules id c at o p e = by-id (identified rules id) refl e
   where
-    by-id : (i : Identified) → identified rules id ≡ i → answerAs i c at o ≡ answered p → ReadsBack rules id c at o p
+    by-id : (i : Identified) → identified rules id ≡ i → answerAs (rules .profile) i c at o ≡ answered p → ReadsBack rules id c at o p
     by-id Unknown n e = absurd (answered-not-number (sym e))
     by-id (Known k) n e =
-        let s = answered-sound k c at o e in
-        let long : length (messageOf k c) ≡ contentsSize k c = message-length k c (s .0) in
+        let s = answered-passes (rules .profile) k c at o e in
+        let long : length (messageOf k c) ≡ contentsSize k c = message-length k c (s .sound) in
         let left : writeOutput rules id c at o ≡ stored at (messageOf k c) o = rw (n, e) in
-        let well : WellFormed rules (messageOf k c) = written-well rules id k c n (s .0) in
+        let well : WellFormed rules (messageOf k c) = written-well rules id k c n (s .sound) (s .texts) in
         record {
           kind = k;
           known = n;
           m = messageOf k c;
           made = refl;
-          end = sym (s .1) ∙ ap (λ (z : ℕ). at + z) (sym long);
-          there = rw left (stored-there at (messageOf k c) o (rw long (s .2)));
+          end = sym (s .end) ∙ ap (λ (z : ℕ). at + z) (sym long);
+          there = rw left (stored-there at (messageOf k c) o (rw long (s .fits)));
           output = left;
           well = well;
           its-kind = refl;
-          same-record = made-record k c (sound-fitting k c (s .0));
+          same-record = made-record k c (sound-fitting k c (s .sound));
           met = λ d t rest q a b. ap (λ (u : List ℕ). walk rules u 0 d) q ∙ walk-well d (messageOf k c) rest well a b;
         }

@@ -22,7 +22,8 @@ use Rattle.mrd_format.specs.Kinds.{idOf, identified}
 use Rattle.mrd_format.specs.IdLaws.{known-id}
 use Rattle.mrd_format.specs.Segments.{nameLength}
 use Rattle.mrd_format.specs.Texts.{textLength}
-use Rattle.mrd_format.specs.Message.{idAt, fixedPart, ownChecks, bodySize, sizeOf, WellFormed}
+use Rattle.mrd_format.specs.Message.{idAt, fixedPart, ownChecks, bodySize, sizeOf}
+use Rattle.mrd_format.specs.WellFormed.{WellFormed}
 use Rattle.mrd_format.specs.Parts.{Contents, partLength}
 use Rattle.mrd_format.specs.Acquisition as acquisition
 use Rattle.mrd_format.specs.Image as image
@@ -31,8 +32,9 @@ use Rattle.mrd_format.specs.Headers.{Cell, settled}
 use Rattle.mrd_format.specs.HeaderLaws.{lawful, acquisition-lawful, image-lawful, waveform-lawful, settled-long, whole-settled}
 use Rattle.mrd_format.specs.WaveformLaws.{waveform-settled, cleared-fields, same-size}
 use Rattle.mrd_format.specs.ImageLaws.{agree-pixels, made-agrees, made-number, made-count, number-passes}
-use Rattle.mrd_format.specs.Content.{segmentsOf, extentOf, partSize, settledBy, fixedOf, bytesAfterId, messageOf}
-use Rattle.mrd_format.specs.Made.{Holds, Fitting, made-length, fixed-length, made-fixed}
+use Rattle.mrd_format.specs.Content.{segmentsOf, extentOf, partSize, settledBy, fixedOf, bytesAfterId, messageOf, Record, recordOf, contentsRecord}
+use Rattle.mrd_format.specs.Profiles.{textsIn, Encoded}
+use Rattle.mrd_format.specs.Made.{Holds, Fitting, made-length, fixed-length, made-fixed, made-record}
 use Rattle.mrd_write_checks.specs.declared.lengths.Lengths.{Lengths}
 use Rattle.mrd_write_checks.specs.WriteChecks.{givenFixed, ofWriter, givenOwnChecks, givenSize, partLengths, lengthList, lengthsBy, lengthsOf, dueLengths}
 use Rattle.mrd_write_checks.specs.NameLaws.{name-bounds, name-ends}
@@ -189,9 +191,15 @@ pub content-length : (k : Kind) (c : Contents) → Sound k c → 2 + length (byt
 unfolding messageOf
 content-length k c s = omega (arith, message-length k c s)
 
+-- its texts are those that were given
+pub written-texts : (k : Kind) (c : Contents) → Sound k c → textsIn (recordOf k (messageOf k c) .parts) ≡ textsIn (c .parts)
+unfolding contentsRecord
+written-texts k c s = ap (λ (r : Record). textsIn (r .parts)) (made-record k c (sound-fitting k c s))
+
 -- so what is written by rules that gave the kind is a well-formed message
-abbrev pub written-well : (rules : Rules) (id : ℕ) (k : Kind) (c : Contents) → identified rules id ≡ Known k → Sound k c → WellFormed rules (messageOf k c)
-written-well rules id k c known s =
+abbrev pub written-well : (rules : Rules) (id : ℕ) (k : Kind) (c : Contents) → identified rules id ≡ Known k → Sound k c →
+    Encoded (rules .profile) (textsIn (c .parts)) → WellFormed rules (messageOf k c)
+written-well rules id k c known s texts =
     let fixed : fixedPart k (messageOf k c) ≡ fixedOf k c = made-fixed k c (sound-fitting k c s) in
     let size : sizeOf k (fixedPart k (messageOf k c)) ≡ contentsSize k c = rw fixed (written-size k c s) in
     record {
@@ -200,4 +208,5 @@ written-well rules id k c known s =
       sound = rw fixed (written-own k c s);
       small = rw size (s .small);
       whole = size ∙ sym (message-length k c s);
+      encoded = rw (written-texts k c s) texts;
     }

@@ -1,4 +1,4 @@
-// The writer: what is given is judged, then the output's room, and then the message is put into it.
+// The writer: what is given is judged, then its texts and the output's room, and then the message is put into it.
 ghost use mathlib.Core.Path.{_≡_};
 ghost use lib.ListN.{length};
 ghost use Rattle.mrd_logic.specs.Answer.{answered};
@@ -8,10 +8,12 @@ ghost use Rattle.mrd_writer.specs.Write.{judgedContents, Writes, Stores}
 use crate::answer::WriteAnswer;
 use mrd_format::Identified;
 use mrd_format::Kind;
+use mrd_format::Profile;
 use mrd_format::Rules;
 use mrd_format::refusal;
 use mrd_numbers::put_u16;
 use mrd_put::put_content;
+use mrd_texts::encoded;
 use mrd_write_checks::ContentsJudged;
 use mrd_write_checks::Lengths;
 use mrd_write_checks::judge;
@@ -46,8 +48,10 @@ pub fn write(
     let mut given = body_lengths(text, trajectory, samples, attributes, pixels, waveform);
     given.name = name.len();
     let judged = judge(kind, header, name, given);
+    let profile = rules.profile;
     match judged {
         ContentsJudged::Size(size) => store(
+            profile,
             kind,
             header,
             name,
@@ -65,8 +69,9 @@ pub fn write(
     }
 }
 
-// The same for a message of this kind and size, of which all that is given passes every check.
+// The same for a message of this kind and size, of which all that is given passes checks 3 to 10 and 18.
 fn store(
+    profile: Profile,
     kind: Kind,
     header: &[u8],
     name: &[u8],
@@ -83,11 +88,14 @@ fn store(
     requires { ⌜ judgedContents kind
         (contents (now header) (now name) (now text) (now trajectory) (now samples) (now attributes) (now pixels) (now waveform))
         ≡ answered size ⌝ }
-    ensures { λ r. ⌜ Stores r (now (out .exit)) kind
+    ensures { λ r. ⌜ Stores profile r (now (out .exit)) kind
         (contents (now (header .entry)) (now (name .entry)) (now (text .entry)) (now (trajectory .entry)) (now (samples .entry))
         (now (attributes .entry)) (now (pixels .entry)) (now (waveform .entry)))
         position (now (out .entry)) ⌝ }
 {
+    if !encoded(profile, name, text, attributes) {
+        return WriteAnswer::Refused(refusal::TEXT_NOT_UTF8);
+    }
     if out.len() < position {
         return WriteAnswer::Refused(refusal::OUTPUT_SHORT);
     }

@@ -111,9 +111,11 @@ const _: fn(mrd_reply) -> mrd_field_answer = |of| of.field;
 const _: () = assert!(offset_of!(mrd_reply, found) == 200);
 const _: fn(mrd_reply) -> mrd_found = |of| of.found;
 
-const _: () = assert!(size_of::<mrd_rules>() == 1);
+const _: () = assert!(size_of::<mrd_rules>() == 2);
 const _: () = assert!(offset_of!(mrd_rules, aligned_waveforms) == 0);
 const _: fn(mrd_rules) -> bool = |of| of.aligned_waveforms;
+const _: () = assert!(offset_of!(mrd_rules, strict_text) == 1);
+const _: fn(mrd_rules) -> bool = |of| of.strict_text;
 
 const _: () = assert!(size_of::<mrd_checked>() == 32);
 const _: () = assert!(offset_of!(mrd_checked, refusal) == 0);

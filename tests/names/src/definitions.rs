@@ -476,6 +476,13 @@ fn checks_in(text: &str, start: &str, end: &str) -> Vec<usize> {
     before.map(number).collect()
 }
 
+/// The stages of judging a message, in order.
+pub fn stages(sources: &Sources) -> Vec<String> {
+    let list = value_of(sources.text(sources.home("stages")), "stages");
+    let names = list.split(" ∷ ").filter(|name| *name != "[]");
+    names.map(str::to_string).collect()
+}
+
 /// The checks of a stage, by its definition's name: it stands beside the list of all stages.
 pub fn stage_checks(sources: &Sources, name: &str) -> Vec<usize> {
     let text = sources.text(sources.home("stages"));

@@ -102,30 +102,34 @@ fn order(format: &Format, sources: &Sources) -> String {
     table(&head, rows.collect()) + &carried(&["allowed", "nextPhase"], sources.home("allowed"))
 }
 
-/// The stages of judging a message, each with its checks in order.
-fn stages(sources: &Sources) -> String {
-    let rows = [
-        ("front", "frontChecks", "before the id is looked at"),
-        (
+/// What is said of a stage: its name in words, and what it is about.
+fn stage_words(stage: &str) -> (&'static str, &'static str) {
+    match stage {
+        "front" => ("front", "before the id is looked at"),
+        "id" => (
             "id",
-            "idChecks",
             "2 where the id names no kind, else 12 where the kind may not come now",
         ),
-        (
-            "fixed part",
-            "fixedChecks",
-            "3, and then the kind's own checks, below",
+        "fixed" => ("fixed part", "3, and then the kind's own checks, below"),
+        "size" => ("size", "the whole message, by the sizes in its fixed part"),
+        "text" => (
+            "text",
+            "in the strict profile: the name, the text or the attributes",
         ),
-        (
-            "size",
-            "sizeChecks",
-            "the whole message, by the sizes in its fixed part",
-        ),
-    ];
-    let row = |(stage, name, of): (&str, &str, &str)| {
+        other => {
+            panic!("nothing is said of the stage {other}: say it in tests/names/src/tables.rs")
+        }
+    }
+}
+
+/// The stages of judging a message, each with its checks in order.
+fn stages(sources: &Sources) -> String {
+    let row = |stage: String| {
+        let (words, of) = stage_words(&stage);
+        let name = format!("{stage}Checks");
         vec![
-            stage.to_string(),
-            listed(&definitions::stage_checks(sources, name)),
+            words.to_string(),
+            listed(&definitions::stage_checks(sources, &name)),
             of.to_string(),
             format!("`{name}`"),
         ]
@@ -133,7 +137,7 @@ fn stages(sources: &Sources) -> String {
     let names = ["stages", "checksAs"];
     table(
         &["stage", "checks, in order", "", "definition"],
-        rows.into_iter().map(row).collect(),
+        definitions::stages(sources).into_iter().map(row).collect(),
     ) + &carried(&names, sources.home("stages"))
 }
 
@@ -220,7 +224,9 @@ fn points(number: usize) -> &'static str {
         13 => "record count, stream length",
         // 9 too: the writer does not give it.
         1 | 9 | 11 | 12 | 19 => "the message: its record number, its first byte",
-        2..=10 => "the message: its record number, its first byte; of the writer the number alone",
+        2..=10 | 21 => {
+            "the message: its record number, its first byte; of the writer the number alone"
+        }
         _ => "the number alone",
     }
 }

@@ -13,7 +13,7 @@ returns : tie.Need-returns
 unfolding judge
 returns c =
     let a = c .before .before .before .args in
-    ap sorted (sym (laws.front-stops _ (a .c) (now (a .t)) (sym (c .before .judge-front .ensures)) (c .if1 .taken)))
+    ap sorted (sym (laws.front-stops _ _ (a .c) (now (a .t)) (sym (c .before .judge-front .ensures)) (c .if1 .taken)))
 
 read-u16-requires : tie.Need-read-u16-requires
 read-u16-requires c κs =
@@ -28,7 +28,7 @@ returns-2 c =
     let test = id .before .before .before in
     let a = test .before .before .before .args in
     rw (ap (identified (a .rules)) (sym (id .before .before .read-u16 .ensures)) ∙ sym (id .before .of-id .ensures) ∙ known .identified .given .1)
-    (ap sorted (sym (laws.id-stops _ (a .c) (now (a .t)) (sym (test .before .judge-front .ensures) ∙ test .if1 .left)
+    (ap sorted (sym (laws.id-stops _ _ (a .c) (now (a .t)) (sym (test .before .judge-front .ensures) ∙ test .if1 .left)
     (sym (rw (known .identified .given .1) at (id .judge-id .ensures))) (c .if2 .taken))))
 
 judge-body-requires : tie.Need-judge-body-requires
@@ -45,7 +45,7 @@ returns-3 c =
     let test = id .before .before .before in
     let a = test .before .before .before .args in
     rw (ap (identified (a .rules)) (sym (id .before .before .read-u16 .ensures)) ∙ sym (id .before .of-id .ensures) ∙ known .identified .given .1)
-    (c .judge-body .ensures ∙ ap sorted (sym (laws.id-passed _ (a .c) (now (a .t)) (sym (test .before .judge-front .ensures) ∙ test .if1 .left)
+    (c .judge-body .ensures ∙ ap sorted (sym (laws.id-passed _ _ (a .c) (now (a .t)) (sym (test .before .judge-front .ensures) ∙ test .if1 .left)
     (sym (rw (known .identified .given .1) at (id .judge-id .ensures)) ∙ c .before .if2 .left))))
 
 returns-4 : tie.Need-returns-4
@@ -55,7 +55,7 @@ returns-4 c =
     let test = id .before .before .before in
     let a = test .before .before .before .args in
     rw (ap (identified (a .rules)) (sym (id .before .before .read-u16 .ensures)) ∙ sym (id .before .of-id .ensures) ∙ c .enum-told .given .1)
-    (ap sorted (sym (laws.unknown-stops (a .c) (now (a .t)) (sym (test .before .judge-front .ensures) ∙ test .if1 .left)
+    (ap sorted (sym (laws.unknown-stops _ (a .c) (now (a .t)) (sym (test .before .judge-front .ensures) ∙ test .if1 .left)
     (sym (rw (c .enum-told .given .1) at (id .judge-id .ensures))))))
 
 pub judge-spec : {M : Type 1} → statement M

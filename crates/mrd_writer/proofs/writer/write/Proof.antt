@@ -41,7 +41,7 @@ returns-3 c =
     write-known (start .args .rules) (start .args .id) _ (given start) (start .args .position) (now (start .args .out)) _ _
     (sym (c .before .before .before .before .before .before .before .before .of-id .ensures) ∙
     c .before .before .before .before .before .before .identified .given .1)
-    (refused-contents _ (given start) (start .args .position) (now (start .args .out))
+    (refused-contents (start .args .rules .profile) _ (given start) (start .args .position) (now (start .args .out))
     (sym (rw (c .before .before .before .before .body-lengths .ensures) at (c .before .before .before .judge .ensures)) ∙ ap
     judgedMeaning (c .before .judged2 .given .1)))
 

@@ -1,4 +1,4 @@
--- `mrd_judge::fixed_part` meets its contract: the part from byte 2 on is as long as the kind's fixed part.
+-- `mrd_message::fixed_part` meets its contract: the part from byte 2 on is as long as the kind's fixed part.
 -- Assumes nothing.
 use Prim.Native.Nat.{_+_, _-_}
 use native.Mathlib.Omega.{arith}
@@ -6,8 +6,8 @@ use mathlib.Core.Path.{_≡_}
 use borrow.Author.Needs.{needs}
 use Rattle.mrd_format.specs.Kinds.{fixedSize}
 use Rattle.mrd_format.specs.Message.{fixedPart}
-use Rattle.mrd_judge.proofs.stages.fixed_part.Statement.{statement}
-use Rattle.mrd_judge.proofs.stages.fixed_part.Tie as tie
+use Rattle.mrd_message.proofs.message.fixed_part.Statement.{statement}
+use Rattle.mrd_message.proofs.message.fixed_part.Tie as tie
 
 returns : tie.Need-returns
 unfolding fixedPart

@@ -38,7 +38,12 @@ pub fn asked_at(
     }
     let (starts, ids) = columns(case, read);
     let walked = |n| Ok(cursor_before(&stream, n));
-    let indexed = |n| Cursor::for_record(library_rules(case.rules), &starts, &ids, n as usize);
+    let under = |rules, n| Cursor::for_record(library_rules(rules), &starts, &ids, n as usize);
+    let indexed = |n| under(case.rules, n);
+    // The columns alone make the cursor: no text is looked at.
+    let other_profile = under(case.rules.with_other_profile(), n);
+    let question = || format!("cursor for record {n} in the other profile");
+    tally.same_value(question, other_profile, indexed(n))?;
     let none = GivenIndex::None;
     let by_number = second_view(case, none.second(), n, part);
     view_at(tally, case, walked(n), part, by_number)?;

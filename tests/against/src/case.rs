@@ -1,7 +1,7 @@
 //! A stream and the rules under which both readers are asked about it.
 
 use cotterleaf::{raw, Stream};
-use second_reader::{Layout, Rules};
+use second_reader::{Layout, Profile, Rules};
 
 #[derive(Clone, Copy)]
 pub struct Case<'a> {
@@ -15,6 +15,11 @@ impl<'a> Case<'a> {
         Stream::new(library_rules(self.rules), self.bytes)
     }
 
+    /// The same stream under other rules.
+    pub fn under(self, rules: Rules) -> Case<'a> {
+        Case { rules, ..self }
+    }
+
     /// Another stream under the same rules.
     pub fn with<'b>(self, bytes: &'b [u8]) -> Case<'b> {
         Case {
@@ -26,9 +31,13 @@ impl<'a> Case<'a> {
 
 /// The rules as the wrapper takes them.
 pub fn library_rules(rules: Rules) -> cotterleaf::Rules {
-    match rules.layout {
+    let plain = match rules.layout {
         Layout::Packed => cotterleaf::Rules::packed(),
         Layout::Aligned => cotterleaf::Rules::aligned(),
+    };
+    match rules.profile {
+        Profile::Plain => plain,
+        Profile::Strict => plain.strict(),
     }
 }
 
@@ -36,5 +45,6 @@ pub fn library_rules(rules: Rules) -> cotterleaf::Rules {
 pub fn raw_rules(rules: Rules) -> raw::mrd_rules {
     raw::mrd_rules {
         aligned_waveforms: rules.layout == Layout::Aligned,
+        strict_text: rules.profile == Profile::Strict,
     }
 }

@@ -1,10 +1,12 @@
-//! The lines of document 01 that are not marked P, both sides of check 9 and of a waveform's checks as document 02 has
-//! them, and the limits of 1,000,000 messages: on both readers, under both layouts, with the paper's answer.
+//! The lines of document 01 that are not marked P, both sides of check 9, of a waveform's checks and of check 21 as
+//! document 02 has them, and the limits of 1,000,000 messages: on both readers, under all rules, with the paper's
+//! answer.
 
 use crate::answers;
 use crate::case::{library_rules, Case};
 use crate::stream;
 use crate::tally::{Difference, Outcome, Tally};
+use crate::writer::given;
 use cotterleaf::Message;
 use second_reader::message::STATED_LENGTH;
 use second_reader::{self as second, Kind, Refusal, Refused, Rules};
@@ -21,7 +23,7 @@ fn refused(number: u32, record: u64, byte: u64) -> Result<u64, Refusal> {
     })
 }
 
-/// Both readers' check gives the paper's answer, under both layouts.
+/// Both readers' check gives the paper's answer, under all rules.
 fn paper(tally: &mut Tally, line: &str, bytes: &[u8], answer: Result<u64, Refusal>) -> Outcome {
     for rules in Rules::ALL {
         paper_under(tally, line, Case { rules, bytes }, answer)?;
@@ -29,7 +31,7 @@ fn paper(tally: &mut Tally, line: &str, bytes: &[u8], answer: Result<u64, Refusa
     Ok(())
 }
 
-/// The same under one layout.
+/// The same under these rules.
 fn paper_under(tally: &mut Tally, line: &str, case: Case, answer: Result<u64, Refusal>) -> Outcome {
     tally.rules = case.rules;
     let answer = answer.map_err(Refused::from);
@@ -48,7 +50,7 @@ fn set_text(bytes: &mut [u8], length: usize) -> &[u8] {
     &bytes[..8 + length]
 }
 
-/// Both writers refuse the message with this number, into an output without room, under both layouts: 14 says that
+/// Both writers refuse the message with this number, into an output without room, under all rules: 14 says that
 /// check 10 is passed.
 fn write_refused(tally: &mut Tally, line: &str, message: &Message, number: u32) -> Outcome {
     for rules in Rules::ALL {
@@ -57,7 +59,7 @@ fn write_refused(tally: &mut Tally, line: &str, message: &Message, number: u32) 
     Ok(())
 }
 
-/// The same under one layout.
+/// The same under these rules.
 fn write_refused_under(
     tally: &mut Tally,
     rules: Rules,
@@ -70,6 +72,7 @@ fn write_refused_under(
     let library = library.map_err(|refusal| refusal.number);
     let library = library.map(|end| end as u64);
     let parts = second::Parts {
+        name: message.name,
         text: message.text,
         attributes: message.attributes,
         waveform: message.waveform,
@@ -88,14 +91,41 @@ fn longest_text(tally: &mut Tally) -> Outcome {
     for (length, number) in [(LONGEST_TEXT, 14), (LONGEST_TEXT + 1, 10)] {
         let message = Message {
             id: 5,
-            text: &bytes[..length],
+            text: &bytes[6..][..length],
             ..Message::default()
         };
         let line = format!("text of {length} bytes");
         write_refused(tally, &line, &message, number)?;
     }
+    longest_text_not_utf8(tally, &mut bytes)?;
     let one_more = set_text(&mut bytes, LONGEST_TEXT + 1);
     paper(tally, "one more byte of text", one_more, refused(10, 0, 0))
+}
+
+/// Half a character as the last byte of the longest text, and a byte more than it may have.
+fn longest_text_not_utf8(tally: &mut Tally, bytes: &mut [u8]) -> Outcome {
+    bytes[6 + LONGEST_TEXT - 1..][..2].fill(0xC3);
+    let texts = [(LONGEST_TEXT, 21), (LONGEST_TEXT + 1, 10)];
+    let rules = Rules::PACKED.strict();
+    for (length, number) in texts {
+        let message = Message {
+            id: 5,
+            text: &bytes[6..][..length],
+            ..Message::default()
+        };
+        let line = format!("text of {length} bytes that ends in half a character");
+        write_refused_under(tally, rules, &line, &message, number)?;
+    }
+    let line = "half a character at the end of the longest text";
+    let case = Case {
+        rules,
+        bytes: set_text(bytes, LONGEST_TEXT),
+    };
+    paper_under(tally, line, case, refused(21, 0, 0))?;
+    paper_under(tally, line, case.under(rules.plain()), Ok(2))?;
+    // It is gone for what follows.
+    bytes[6 + LONGEST_TEXT - 1] = 0;
+    Ok(())
 }
 
 fn largest_image(tally: &mut Tally, rng: &mut Rng) -> Outcome {
@@ -163,7 +193,7 @@ fn attribute_lengths(tally: &mut Tally) -> Outcome {
 
 /// The writer goes by the given attributes alone: never 9, and 10 also where their length has a small low word.
 fn longest_attributes(tally: &mut Tally) -> Outcome {
-    // No reader looks into them, so that their pages are never touched.
+    // Nothing is written into them, and no reader looks into more than the longest, so that they take no memory.
     let attributes = vec![0; (1 << 32) + 5];
     let lengths: [(usize, u32); 4] = [
         (268_435_248, 14),
@@ -180,10 +210,106 @@ fn longest_attributes(tally: &mut Tally) -> Outcome {
                 ..Message::default()
             };
             let line = format!("{length} bytes of attributes of which the header says {stated}");
-            write_refused(tally, &line, &message, number)?;
+            for rules in Rules::PLAIN {
+                write_refused_under(tally, rules, &line, &message, number)?;
+            }
+            // The strict profile reads all of them, which once is enough for.
+            if stated == 0 {
+                write_refused_under(tally, Rules::PACKED.strict(), &line, &message, number)?;
+            }
         }
     }
     Ok(())
+}
+
+/// Texts that are UTF-8: the examples of RFC 3629, and the first and last number of each form around surrogates.
+const UTF8: [&[u8]; 15] = [
+    b"",
+    b"\x41\xE2\x89\xA2\xCE\x91\x2E",
+    b"\xED\x95\x9C\xEA\xB5\xAD\xEC\x96\xB4",
+    b"\xE6\x97\xA5\xE6\x9C\xAC\xE8\xAA\x9E",
+    b"\xEF\xBB\xBF\xF0\xA3\x8E\xB4",
+    b"\x01",
+    b"\x7F",
+    b"\xC2\x80",
+    b"\xDF\xBF",
+    b"\xE0\xA0\x80",
+    b"\xED\x9F\xBF",
+    b"\xEE\x80\x80",
+    b"\xEF\xBF\xBF",
+    b"\xF0\x90\x80\x80",
+    b"\xF4\x8F\xBF\xBF",
+];
+
+/// Texts that are not: the numbers next to those, and sequences that are cut, too long, or of no form.
+const NOT_UTF8: [&[u8]; 22] = [
+    b"\x80",
+    b"\xBF",
+    b"\xC0\x80",
+    b"\xC1\xBF",
+    b"\xC2",
+    b"\xC2\x7F",
+    b"\xC2\xC0",
+    b"\xDF\xBF\x80",
+    b"\xE0\x80\x80",
+    b"\xE0\x9F\xBF",
+    b"\xE0\xA0",
+    b"\xED\xA0\x80",
+    b"\xED\xBF\xBF",
+    b"\xED\xA0\xBD\xED\xB8\x80",
+    b"\xF0\x80\x80\x80",
+    b"\xF0\x8F\xBF\xBF",
+    b"\xF0\x90\x80",
+    b"\xF4\x90\x80\x80",
+    b"\xF5\x80\x80\x80",
+    b"\xF7\xBF\xBF\xBF",
+    b"\xF8\x88\x80\x80\x80",
+    b"\xFF",
+];
+
+/// Both sides of check 21, in each kind that has text.
+fn utf8_lines(tally: &mut Tally) -> Outcome {
+    let sides = UTF8.map(|text| (text, 0)).into_iter();
+    for (text, number) in sides.chain(NOT_UTF8.map(|text| (text, 21))) {
+        for kind in streams::TEXTED {
+            for rules in Rules::STRICT {
+                utf8_line(tally, rules, kind, text, number)?;
+                utf8_line(tally, rules.plain(), kind, text, 0)?;
+            }
+        }
+    }
+    Ok(())
+}
+
+/// One text of one kind, in a stream and given to the writer: 14 says that check 21 is passed.
+fn utf8_line(tally: &mut Tally, rules: Rules, kind: Kind, text: &[u8], number: u32) -> Outcome {
+    let mut message = streams::Message::empty(rules, kind.id());
+    if kind == Kind::Image {
+        message.header = header_saying(0);
+    }
+    message.set_own_text(text.to_vec());
+    let front: &[u8] = match kind.is_data() {
+        true => &[3, 0, 0, 0, 0, 0],
+        false => &[],
+    };
+    let bytes = [front, &message.bytes(), &[4, 0]].concat();
+    let line = format!("{kind:?} of {text:02X?}");
+    let record = u64::from(kind.is_data());
+    let answer = match number {
+        0 => Ok(2 + record),
+        _ => refused(number, record, front.len() as u64),
+    };
+    paper_under(
+        tally,
+        &line,
+        Case {
+            rules,
+            bytes: &bytes,
+        },
+        answer,
+    )?;
+    let number = if number == 0 { 14 } else { number };
+    write_refused_under(tally, rules, &line, &given(&message), number)
 }
 
 /// A waveform header of version 1 with this many samples and channels and filler that is not zero.
@@ -267,6 +393,7 @@ fn most_messages(tally: &mut Tally, rng: &mut Rng) -> Outcome {
 
     let over = refused(19, 1_000_000, 6_000_000);
     paper(tally, "one text more", &too_many(false), over)?;
+    last_text_not_utf8(tally)?;
     let mut bytes = too_many(true);
     paper(tally, "one close more", &bytes, over)?;
     for rules in Rules::ALL {
@@ -277,6 +404,31 @@ fn most_messages(tally: &mut Tally, rng: &mut Rng) -> Outcome {
     bytes.truncate(6_000_000);
     let unclosed = refused(13, 1_000_000, 6_000_000);
     paper(tally, "1,000,000 texts", &bytes, unclosed)
+}
+
+/// The last message that may begin is 21 in the strict profile, and the one after it 19, whatever it holds.
+fn last_text_not_utf8(tally: &mut Tally) -> Outcome {
+    let (text, bad) = ([5, 0, 0, 0, 0, 0], [5, 0, 1, 0, 0, 0, 0xFF]);
+    let cases = [
+        (999_999, refused(21, 999_999, 5_999_994)),
+        (1_000_000, refused(19, 1_000_000, 6_000_000)),
+    ];
+    for (count, answer) in cases {
+        let bytes = [&text.repeat(count), &bad[..]].concat();
+        for rules in Rules::STRICT {
+            let line = format!("text not UTF-8 after {count} messages");
+            paper_under(
+                tally,
+                &line,
+                Case {
+                    rules,
+                    bytes: &bytes,
+                },
+                answer,
+            )?;
+        }
+    }
+    Ok(())
 }
 
 fn ask_under(tally: &mut Tally, rng: &mut Rng, rules: Rules, bytes: &[u8]) -> Outcome {
@@ -290,6 +442,7 @@ pub fn limits(tally: &mut Tally, rng: &mut Rng) -> Result<(), (Vec<u8>, Differen
     largest_image(tally, rng).map_err(without_bytes)?;
     attribute_lengths(tally).map_err(without_bytes)?;
     longest_attributes(tally).map_err(without_bytes)?;
+    utf8_lines(tally).map_err(without_bytes)?;
     shortest_waveforms(tally).map_err(without_bytes)?;
     largest_waveforms(tally).map_err(without_bytes)?;
     most_messages(tally, rng).map_err(without_bytes)?;

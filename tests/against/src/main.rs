@@ -1,6 +1,6 @@
 //! Asks the library, through its Rust wrapper, and the second reader the same questions about many drawn streams
 //! and compares every answer and every output byte. Each stream is asked about under the layout of waveform headers
-//! that it was made for, and many also under the other one.
+//! and the profile of texts that it was made for, and many also under the other one of either.
 //!
 //!     against [count of streams] [seed] [first stream]
 //!
@@ -17,6 +17,7 @@ mod limits;
 mod plain;
 mod scalars;
 mod stream;
+mod strict;
 mod tally;
 mod walk;
 mod writer;
@@ -28,7 +29,7 @@ use std::process::ExitCode;
 use std::time::Instant;
 use streams::program::{number_argument, shown};
 use streams::{Rng, FOR_BOTH_LAYOUTS};
-use tally::{Difference, Outcome, Tally};
+use tally::{rules_name, Difference, Outcome, Tally};
 
 /// The numbers of one stream follow from the seed and its own number alone, so that it can be drawn again.
 fn rng_of(seed: u64, number: u64) -> Rng {
@@ -64,6 +65,10 @@ fn ask_all(tally: &mut Tally, rng: &mut Rng, number: u64, drawn: &Drawn) -> Outc
         stream::ask(tally, rng, case(rules.with_other_layout()))?;
         aligned::note_both(tally, *rules, bytes);
     }
+    if rng.one_in(4) {
+        stream::ask(tally, rng, case(rules.with_other_profile()))?;
+        strict::note_both(tally, *rules, bytes);
+    }
     writer::message_written(tally, rng, *rules, number)?;
     scalars::flags_and_counters(tally, rng)?;
     tally.streams += 1;
@@ -87,7 +92,7 @@ fn ask_about(seed: u64, numbers: impl Iterator<Item = u64>) -> Result<Tally, Fou
         if let Err(difference) = ask_all(&mut tally, &mut rng, number, &drawn) {
             return Err(Found {
                 number,
-                made_for: format!("{:?}, {}", drawn.rules.layout, drawn.what),
+                made_for: format!("{}, {}", rules_name(drawn.rules), drawn.what),
                 bytes: drawn.bytes,
                 difference,
             });

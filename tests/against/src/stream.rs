@@ -5,13 +5,13 @@ use crate::asked::{Asked, GivenIndex};
 use crate::case::Case;
 use crate::tally::{Family, Outcome, Tally};
 use crate::walk::{self, Read};
-use crate::{aligned, at_cursor, attribute_length, plain, written};
+use crate::{aligned, at_cursor, attribute_length, plain, strict, written};
 use cotterleaf::Part;
 use second_reader::{Detail, Kind, Layout, Table, Type};
 use streams::{counters, field_offset, given_columns, given_files, record_number};
 use streams::{GivenColumns, GivenFile, Rng};
 
-/// Asks both readers about one stream under one layout.
+/// Asks both readers about one stream under one layout and profile.
 pub fn ask(tally: &mut Tally, rng: &mut Rng, case: Case) -> Outcome {
     tally.rules = case.rules;
     let kept = case.bytes.to_vec();
@@ -23,10 +23,13 @@ pub fn ask(tally: &mut Tally, rng: &mut Rng, case: Case) -> Outcome {
             attribute_length::either_number(tally, rng, case, &read.records)?;
             aligned::any_filler(tally, rng, case, &read.records)?;
             aligned::note_accepted(tally, case, &read.records);
+            strict::one_fault(tally, rng, case, &read.records)?;
+            strict::note_accepted(tally, case, &read.records);
         }
         Err(refusal) => {
             attribute_length::note_refused(tally, case, refusal);
             aligned::note_refused(tally, case, refusal);
+            strict::note_refused(tally, case, refusal);
         }
     }
     walk::made_up_cursor(tally, rng, case, &read)?;

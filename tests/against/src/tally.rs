@@ -1,10 +1,11 @@
 //! What a run has met, the comparison that counts it, and the table that is printed at the end.
 
 use crate::answers::Answer;
-use second_reader::{Detail, Kind, Layout, Mask, Rules};
+use crate::strict::{self, ACCEPTED, FAULTS, NOT_UTF8, PLACES, TEXTS, WIDTHS};
+use second_reader::{Detail, Kind, Layout, Mask, Profile, Rules};
 use std::collections::BTreeMap;
 use std::fmt::Debug;
-use streams::{OF_OTHER_LAYOUT, WRITER_REFUSALS};
+use streams::{writer_refusals, OF_OTHER_LAYOUT};
 
 /// The calls by what they answer.
 #[derive(Clone, Copy, Debug, PartialEq, Eq, PartialOrd, Ord)]
@@ -56,13 +57,16 @@ impl Family {
         }
     }
 
-    /// Whether this number, 0 for an answer, is one that the rules let the family give.
-    fn may_give(self, number: u32) -> bool {
+    /// Whether this number, 0 for an answer, is one that these rules let the family give.
+    fn may_give(self, rules: Rules, number: u32) -> bool {
         if number == 0 {
             return true;
         }
         if self == Family::Write {
-            return WRITER_REFUSALS.contains(&number);
+            return writer_refusals(rules).contains(&number);
+        }
+        if number == 21 {
+            return rules.profile == Profile::Strict;
         }
         let own: &[u32] = match self {
             Family::Check | Family::Walk | Family::Write => &[],
@@ -84,6 +88,9 @@ pub struct Difference {
 }
 
 pub type Outcome = Result<(), Difference>;
+
+/// Every number that a call may give, 0 being an answer.
+const NUMBERS: std::ops::RangeInclusive<u32> = 0..=21;
 
 /// The views, by name.
 const VIEWS: &[&str] = &[
@@ -108,7 +115,7 @@ const UNDER_BOTH: &[&str] = &[
 ];
 
 /// Everything but answers that a run must meet, by group.
-const GROUPS: [(&str, &[&str]); 30] = [
+const GROUPS: &[(&str, &[&str])] = &[
     ("view shown", VIEWS),
     ("view where a walk stands", VIEWS),
     (
@@ -231,6 +238,66 @@ const GROUPS: [(&str, &[&str]); 30] = [
         &["place", "view", "field", "find", "columns"],
     ),
     ("room", &["exact", "short", "long"]),
+    ("not UTF-8 and accepted plain", TEXTS),
+    (NOT_UTF8[0][0], FAULTS),
+    (NOT_UTF8[1][0], FAULTS),
+    (NOT_UTF8[2][0], FAULTS),
+    (NOT_UTF8[3][0], FAULTS),
+    (NOT_UTF8[4][0], FAULTS),
+    (ACCEPTED[0], WIDTHS),
+    (ACCEPTED[1], WIDTHS),
+    (ACCEPTED[2], WIDTHS),
+    (ACCEPTED[3], WIDTHS),
+    (ACCEPTED[4], WIDTHS),
+    (
+        "character accepted",
+        &[
+            "U+0000", "U+07FF", "U+0800", "U+D7FF", "U+E000", "U+FEFF", "U+FFFF", "U+10000",
+            "U+10FFFF",
+        ],
+    ),
+    ("2 bytes at a place of 32", PLACES),
+    ("3 bytes at a place of 32", PLACES),
+    ("4 bytes at a place of 32", PLACES),
+    ("length over a multiple of 32", PLACES),
+    ("fault at a place of 32", PLACES),
+    ("filler of an accepted name", &["UTF-8", "not UTF-8"]),
+    (
+        "half a character and its rest",
+        &["in the next text", "in the pixels", "after a name's zero"],
+    ),
+    (
+        "earlier fault beside text not UTF-8",
+        &["3", "4", "5", "8", "9", "10", "11", "12"],
+    ),
+    ("plain stream under both profiles", strict::UNDER_BOTH),
+    ("strict stream under both profiles", strict::UNDER_BOTH),
+    (
+        "later fault behind text not UTF-8",
+        &[
+            "1", "2", "3", "4", "5", "6", "7", "8", "9", "10", "11", "12", "13",
+        ],
+    ),
+    ("not UTF-8 and written plain", TEXTS),
+    ("UTF-8 and written strict", TEXTS),
+    (NOT_UTF8[0][1], FAULTS),
+    (NOT_UTF8[1][1], FAULTS),
+    (NOT_UTF8[2][1], FAULTS),
+    (NOT_UTF8[3][1], FAULTS),
+    (NOT_UTF8[4][1], FAULTS),
+    (
+        strict::GIVEN_WITH,
+        &[
+            "3 before 21",
+            "4 before 21",
+            "5 before 21",
+            "8 before 21",
+            "10 before 21",
+            "18 before 21",
+            "21 alone",
+            "21 before 14",
+        ],
+    ),
 ];
 
 /// How often each thing was met where both readers agreed.
@@ -276,7 +343,7 @@ impl Tally {
             return Ok(());
         }
         Err(Difference {
-            question: format!("{}, {}", question(), layout_name(self.rules)),
+            question: format!("{}, {}", question(), rules_name(self.rules)),
             library: format!("{library:?}"),
             second: format!("{second:?}"),
         })
@@ -296,7 +363,7 @@ impl Tally {
                 question: format!(
                     "{}, {}, place {i} of the output",
                     question(),
-                    layout_name(self.rules)
+                    rules_name(self.rules)
                 ),
                 library: format!("{:?}", library.get(i)),
                 second: format!("{:?}", second.get(i)),
@@ -368,7 +435,7 @@ impl Tally {
         for rules in Rules::ALL {
             self.print_answers(rules);
         }
-        for (group, names) in GROUPS {
+        for &(group, names) in GROUPS {
             let counts: Vec<String> = names
                 .iter()
                 .map(|name| format!("{name} {}", self.times(group, name)))
@@ -377,18 +444,18 @@ impl Tally {
         }
     }
 
-    /// The table of one layout: a column for each family, a row for each number, and a line for each kind.
+    /// The table of one layout and profile: a column for each family, a row for each number, a line for each kind.
     fn print_answers(&self, rules: Rules) {
-        println!("waveform headers {}:", layout_name(rules));
+        println!("{}:", rules_name(rules));
         print!("{:>8}", "number");
         for family in Family::ALL {
             print!("{:>9}", family.name());
         }
         println!();
-        for number in 0..=20 {
+        for number in NUMBERS {
             print!("{number:>8}");
             for family in Family::ALL {
-                if family.may_give(number) {
+                if family.may_give(rules, number) {
                     print!("{:>9}", self.answers(rules, family, number));
                 } else {
                     print!("{:>9}", "-");
@@ -409,14 +476,14 @@ impl Tally {
             missing.extend(self.missing_answers(rules));
         }
         for (&(rules, family, number), times) in &self.answers {
-            if !family.may_give(number) {
-                let (family, layout) = (family.name(), layout_name(rules));
+            if !family.may_give(rules, number) {
+                let (family, rules) = (family.name(), rules_name(rules));
                 missing.push(format!(
-                    "a rule for {number} from {family}, {layout}, given {times} times"
+                    "a rule for {number} from {family}, {rules}, given {times} times"
                 ));
             }
         }
-        for (group, names) in GROUPS {
+        for &(group, names) in GROUPS {
             for name in names {
                 if self.times(group, name) == 0 {
                     missing.push(format!("{group}: {name}"));
@@ -428,27 +495,30 @@ impl Tally {
 
     /// The numbers and kinds that no call under these rules met.
     fn missing_answers(&self, rules: Rules) -> Vec<String> {
-        let layout = layout_name(rules);
+        let under = rules_name(rules);
         let mut missing = Vec::new();
         for family in Family::ALL {
-            for number in 0..=20 {
-                if family.may_give(number) && self.answers(rules, family, number) == 0 {
-                    missing.push(format!("{number} from {}, {layout}", family.name()));
+            for number in NUMBERS {
+                if family.may_give(rules, number) && self.answers(rules, family, number) == 0 {
+                    missing.push(format!("{number} from {}, {under}", family.name()));
                 }
             }
         }
         for kind in Kind::ALL {
             if self.kinds(rules, kind) == 0 {
-                missing.push(format!("kind {}, {layout}", kind.id()));
+                missing.push(format!("kind {}, {under}", kind.id()));
             }
         }
         missing
     }
 }
 
-fn layout_name(rules: Rules) -> &'static str {
-    match rules.layout {
-        Layout::Packed => "packed",
-        Layout::Aligned => "aligned",
+/// The layout, and the profile where it is not the plain one.
+pub fn rules_name(rules: Rules) -> &'static str {
+    match (rules.layout, rules.profile) {
+        (Layout::Packed, Profile::Plain) => "packed",
+        (Layout::Aligned, Profile::Plain) => "aligned",
+        (Layout::Packed, Profile::Strict) => "packed and strict",
+        (Layout::Aligned, Profile::Strict) => "aligned and strict",
     }
 }

@@ -2,13 +2,15 @@
 
 use crate::answers;
 use crate::case::{library_rules, Case};
+use crate::strict;
 use crate::tally::{Family, Outcome, Tally};
 use cotterleaf::{Part, Stream};
 use second_reader::message::STATED_LENGTH;
 use second_reader::{self as second, Kind, Layout, Refused, Rules};
-use streams::{writer_input, writer_input_refused, Message, Rng, WriterInput, WRITER_REFUSALS};
+use streams::{writer_input, writer_input_refused, writer_refusals, Message, Rng, WriterInput};
 
-fn given(message: &Message) -> cotterleaf::Message<'_> {
+/// A message as the wrapper takes it.
+pub fn given(message: &Message) -> cotterleaf::Message<'_> {
     cotterleaf::Message {
         id: message.id,
         header: &message.header,
@@ -25,8 +27,9 @@ fn given(message: &Message) -> cotterleaf::Message<'_> {
 /// One drawn message: accepted, or made for one of the writer's refusals in turn.
 pub fn message_written(tally: &mut Tally, rng: &mut Rng, rules: Rules, number: u64) -> Outcome {
     tally.rules = rules;
-    let turn = number as usize % (2 * WRITER_REFUSALS.len());
-    let input = match WRITER_REFUSALS.get(turn) {
+    let refusals = writer_refusals(rules);
+    let turn = number as usize % (2 * refusals.len());
+    let input = match refusals.get(turn) {
         Some(&refusal) => writer_input_refused(rules, rng, refusal),
         None => writer_input(rules, rng),
     };
@@ -37,19 +40,18 @@ pub fn message_written(tally: &mut Tally, rng: &mut Rng, rules: Rules, number: u
     } = input;
     let (mut library, mut second) = (output.clone(), output);
     let answer = given(&message).write(library_rules(rules), &mut library, position as usize);
-    let expected = second::write(
-        rules,
-        message.id,
-        &message.header,
-        &message.parts(),
-        &mut second,
-        position,
-    );
+    let by_second = |rules, output: &mut [u8]| {
+        let (id, header, parts) = (message.id, &message.header, message.parts());
+        second::write(rules, id, header, &parts, output, position)
+    };
+    let plain = by_second(rules.plain(), &mut second.clone());
+    let expected = by_second(rules, &mut second);
     let question = || format!("write at {position} of {} bytes: {message:?}", second.len());
     let expected = expected.map_err(Refused::Other);
     tally.same(Family::Write, question, answers::number(answer), expected)?;
     tally.same_buffer(question, &library, &second)?;
     note_waveform(tally, &message, expected);
+    strict::note_given(tally, &message, expected, plain);
     match expected {
         Ok(end) => {
             note_stated_length(tally, &message);

@@ -134,7 +134,10 @@ pub struct SecondReader(pub Layout);
 
 impl SecondReader {
     fn rules(&self) -> Rules {
-        Rules { layout: self.0 }
+        Rules {
+            layout: self.0,
+            ..Rules::default()
+        }
     }
 }
 

@@ -29,6 +29,13 @@ fn rules(layout: Layout) -> Rules {
     }
 }
 
+fn second_rules(layout: Layout) -> second_reader::Rules {
+    second_reader::Rules {
+        layout,
+        ..second_reader::Rules::default()
+    }
+}
+
 /// Whether the check passes, for a description that may not even be readable.
 fn passes(layout: Layout, stream: &[u8], text: &str) -> Result<(), String> {
     check_both(layout, stream, &Description::parse(text)?).map(|_| ())
@@ -36,7 +43,7 @@ fn passes(layout: Layout, stream: &[u8], text: &str) -> Result<(), String> {
 
 /// The bytes of the stream that are filler of waveform headers; none where these are packed.
 fn filler(layout: Layout, stream: &[u8]) -> Vec<usize> {
-    let records = second_reader::records(second_reader::Rules { layout }, stream).unwrap();
+    let records = second_reader::records(second_rules(layout), stream).unwrap();
     let waveforms = records
         .iter()
         .filter(|record| record.detail.kind() == second_reader::Kind::Waveform);
@@ -77,11 +84,30 @@ fn what_the_ismrmrd_library_holds(layout: Layout) {
 fn under_the_other_layout_the_first_waveform_is_too_large() {
     for layout in LAYOUTS {
         let (stream, text) = kept(layout);
-        let other = second_reader::Rules { layout }.with_other_layout().layout;
+        let other = second_rules(layout).with_other_layout().layout;
         let refusal = Stream::new(rules(other), &stream).check().unwrap_err();
         let place = refusal.place.unwrap();
         assert_eq!((refusal.number, place.record), (refused::TOO_LARGE, 46));
         assert!(passes(other, &stream, &text).is_err());
+    }
+}
+
+/// What that library writes as texts is UTF-8; one byte of its header text that is not is found by both readers.
+#[test]
+fn texts_are_utf8() {
+    for layout in LAYOUTS {
+        let (mut stream, _) = kept(layout);
+        let strict = rules(layout).strict();
+        let count = Stream::new(rules(layout), &stream).check();
+        assert_eq!(Stream::new(strict, &stream).check(), count);
+        let second = second_reader::check(second_rules(layout).strict(), &stream);
+        assert_eq!(second.unwrap() as usize, count.unwrap());
+        stream[20] = 0xFF;
+        assert_eq!(Stream::new(rules(layout), &stream).check(), count);
+        let refusal = Stream::new(strict, &stream).check().unwrap_err();
+        assert_eq!(refusal.number, refused::TEXT_NOT_UTF8);
+        let second = second_reader::check(second_rules(layout).strict(), &stream);
+        assert_eq!(second.unwrap_err().number, 21);
     }
 }
 

@@ -2,6 +2,7 @@
 
 use crate::program::Delivery;
 use second_reader::listing::MOST_INPUT;
+use second_reader::utf8::Fault;
 use second_reader::{Kind, Rules};
 use streams::*;
 
@@ -24,9 +25,10 @@ pub fn fixed(rng: &mut Rng) -> Vec<Case> {
     let mut cases = examples();
     cases.extend(shortest());
     cases.extend(around_the_limit());
-    for rules in Rules::ALL {
+    for rules in Rules::PLAIN {
         cases.extend(each_cut_and_flip(rng, rules));
     }
+    cases.extend(not_utf8(rng));
     cases.extend(wrapping_images(rng));
     cases
 }
@@ -170,6 +172,23 @@ pub fn drawn(rng: &mut Rng, number: u64) -> Case {
         input,
         delivery,
     }
+}
+
+/// Streams with a fault of UTF-8 in the text of each kind that has one: the program knows no strict profile.
+fn not_utf8(rng: &mut Rng) -> Vec<Case> {
+    let mut cases = Vec::new();
+    for kind in TEXTED {
+        for fault in Fault::ALL {
+            let mut message = messages::message(Rules::PACKED, rng, kind, 60);
+            let text = texts::bad(rng, fault, 40);
+            message.set_own_text(texts::without_zeros(text));
+            let header = Message::empty(Rules::PACKED, Kind::HeaderText.id());
+            let front = if kind.is_data() { vec![header] } else { vec![] };
+            let stream = [front, vec![message, close()]].concat();
+            cases.push(piped(format!("{kind:?}, {fault:?}"), joined(&stream)));
+        }
+    }
+    cases
 }
 
 /// Images whose size would be small if it wrapped at 64 bits.

@@ -15,7 +15,7 @@ use std::collections::BTreeMap;
 use std::path::PathBuf;
 use std::process::ExitCode;
 use streams::program::{number_argument, shown};
-use streams::{Rng, SHORT_REFUSALS};
+use streams::{short_refusals, text_at, Rng, TEXTED};
 
 /// What a mask says. Where it differs, the acquisition's line ends in it.
 const MASKS: [&str; 3] = ["not stated", "agreeing", "differing"];
@@ -38,11 +38,18 @@ struct Tally {
     kinds: BTreeMap<Kind, u64>,
     masks: BTreeMap<&'static str, u64>,
     layouts: BTreeMap<&'static str, u64>,
+    /// Kinds with a text that is not UTF-8, in accepted streams.
+    not_utf8: BTreeMap<Kind, u64>,
     ends: BTreeMap<i32, u64>,
 }
 
 /// What the program, which reads every stream as packed, does with one of aligned waveform headers.
 const LAYOUTS: [&str; 2] = ["listed as packed", "refused as packed"];
+
+/// The refusals that the program knows: it is packed and plain.
+fn refusals() -> &'static [u32] {
+    short_refusals(Rules::PACKED)
+}
 
 impl Tally {
     fn note(&mut self, input: &[u8]) {
@@ -55,6 +62,7 @@ impl Tally {
         match second_reader::records(Rules::PACKED, input) {
             Ok(records) => {
                 self.accepted += 1;
+                self.note_not_utf8(input);
                 for record in records {
                     *self.kinds.entry(record.detail.kind()).or_default() += 1;
                     if let Detail::Acquisition { mask, .. } = record.detail {
@@ -78,6 +86,14 @@ impl Tally {
         }
     }
 
+    /// Notes an accepted stream that the strict profile refuses, by the kind of the first text that is not UTF-8.
+    fn note_not_utf8(&mut self, input: &[u8]) {
+        if let Err(refusal) = second_reader::check(Rules::PACKED.strict(), input) {
+            let at = text_at(input, refusal).expect("21 is for texts");
+            *self.not_utf8.entry(at.kind).or_default() += 1;
+        }
+    }
+
     fn print(&self) {
         println!(
             "{} runs: {} accepted, {} refused, {} over the limit",
@@ -86,8 +102,8 @@ impl Tally {
             self.refusals.values().sum::<u64>(),
             self.over_the_limit
         );
-        for number in SHORT_REFUSALS {
-            let times = self.refusals.get(&number).unwrap_or(&0);
+        for number in refusals() {
+            let times = self.refusals.get(number).unwrap_or(&0);
             println!("refusal {number}: {times}");
         }
         for kind in Kind::ALL {
@@ -102,6 +118,13 @@ impl Tally {
             let times = self.layouts.get(layout).unwrap_or(&0);
             println!("stream with aligned waveforms {layout}: {times}");
         }
+        for kind in TEXTED {
+            let times = self.not_utf8.get(&kind).unwrap_or(&0);
+            println!(
+                "text of kind {} that is not UTF-8: {times} streams listed",
+                kind.id()
+            );
+        }
         for (code, times) in &self.ends {
             println!("exit code {code}: {times}");
         }
@@ -110,8 +133,8 @@ impl Tally {
     /// What a run over many streams must meet and did not.
     fn missing(&self) -> Vec<String> {
         let mut missing = Vec::new();
-        for number in SHORT_REFUSALS {
-            if !self.refusals.contains_key(&number) {
+        for number in refusals() {
+            if !self.refusals.contains_key(number) {
                 missing.push(format!("refusal {number}"));
             }
         }
@@ -128,6 +151,14 @@ impl Tally {
         for layout in LAYOUTS {
             if !self.layouts.contains_key(layout) {
                 missing.push(format!("a stream with aligned waveforms {layout}"));
+            }
+        }
+        for kind in TEXTED {
+            if !self.not_utf8.contains_key(&kind) {
+                missing.push(format!(
+                    "a listed text of kind {} that is not UTF-8",
+                    kind.id()
+                ));
             }
         }
         if self.over_the_limit == 0 {

@@ -123,7 +123,7 @@ mod tests {
     #[test]
     fn the_layout_is_that_of_waveform_headers_alone() {
         for kind in Kind::ALL {
-            let [packed, aligned] = Rules::ALL.map(|rules| kind.header_size(rules));
+            let [packed, aligned] = Rules::PLAIN.map(|rules| kind.header_size(rules));
             assert_eq!(packed == aligned, kind != Kind::Waveform);
         }
         for rules in Rules::ALL {

@@ -2,7 +2,7 @@
 //! clarity. It shares nothing with the proved code, so that a mistake in one of the two shows as
 //! a difference between them.
 //!
-//! Whatever depends on the layout of waveform headers takes the caller's [`Rules`] first.
+//! Whatever depends on the layout of waveform headers, or on what texts may hold, takes the caller's [`Rules`] first.
 //!
 //! Sizes are worked out in `u128`: the largest, an image's, is below 2^69.
 
@@ -18,6 +18,7 @@ pub mod questions;
 pub mod refusal;
 pub mod rules;
 pub mod stream;
+pub mod utf8;
 pub mod views;
 pub mod writer;
 
@@ -32,7 +33,7 @@ pub use questions::{
     counter_step, field, find, flag_cleared, flag_is_set, flag_set, kind_and_place,
 };
 pub use refusal::{Refusal, Refused};
-pub use rules::{Layout, Rules};
+pub use rules::{Layout, Profile, Rules};
 pub use stream::{check, contents, records, Content, Record};
 pub use views::{
     attributes, bytes_of, channel, name, pixels, place_of_view, text, trajectory, waveform, Part,

@@ -2,16 +2,17 @@
 
 use crate::mask::Mask;
 use crate::message::Detail;
-use crate::rules::{Layout, Rules};
+use crate::rules::{Layout, Profile, Rules};
 use crate::stream::records;
 use std::fmt::Write;
 
 /// The most bytes that the listing program reads from its standard input.
 pub const MOST_INPUT: usize = 65_536;
 
-/// The one layout that the listing program knows (document 02, E3).
+/// The one layout and the one profile that the listing program knows (document 02, E3 and E9).
 const LISTED: Rules = Rules {
     layout: Layout::Packed,
+    profile: Profile::Plain,
 };
 
 /// The whole standard output for this standard input; every line ends in one line feed.

@@ -1,10 +1,11 @@
-//! One message: its own numbers, the lengths of its parts, and checks 3 to 11.
+//! One message: its own numbers, the lengths of its parts, and checks 3 to 11 and 21.
 
 use crate::headers::{Table, IMAGE};
 use crate::kinds::Kind;
 use crate::mask::{mask, Mask};
 use crate::numbers;
-use crate::rules::Rules;
+use crate::rules::{Profile, Rules};
+use crate::utf8::is_well_formed;
 use crate::{LARGEST_MESSAGE, NAME_FIELD};
 
 /// A message's kind with that kind's own numbers.
@@ -143,6 +144,22 @@ impl Detail {
     }
 }
 
+/// The part of this kind that is text: what the strict profile wants to be UTF-8 (document 02, E9). A name is the
+/// bytes before its zero, so that what follows the zero is none of it.
+pub fn text_part(kind: Kind) -> Option<PartName> {
+    match kind {
+        Kind::ConfigurationName => Some(PartName::Name),
+        Kind::ConfigurationText | Kind::HeaderText | Kind::Text => Some(PartName::Text),
+        Kind::Image => Some(PartName::Attributes),
+        Kind::Close | Kind::Acquisition | Kind::Waveform => None,
+    }
+}
+
+/// Check 21 of a text, by itself.
+pub fn text_refused(rules: Rules, text: &[u8]) -> bool {
+    rules.profile == Profile::Strict && !is_well_formed(text)
+}
+
 /// The bytes of all pixels of an image whose data type passed check 8.
 fn pixels_length([x, y, z]: [u16; 3], channels: u16, data_type: u16) -> u128 {
     let element = element_size(data_type).expect("a data type that passed check 8");
@@ -253,7 +270,7 @@ pub fn name_length(field: &[u8]) -> Option<usize> {
     field[..NAME_FIELD].iter().position(|&byte| byte == 0)
 }
 
-/// Checks 3 to 11 of a message of known kind. `left` is what remains of the stream from the id on.
+/// Checks 3 to 11 and 21 of a message of known kind. `left` is what remains of the stream from the id on.
 pub fn judge(rules: Rules, kind: Kind, left: &[u8]) -> Result<Detail, u32> {
     let after_id = &left[2..];
     if after_id.len() < kind.fixed_size(rules) {
@@ -266,7 +283,19 @@ pub fn judge(rules: Rules, kind: Kind, left: &[u8]) -> Result<Detail, u32> {
     if detail.size(rules) > left.len() as u128 {
         return Err(11);
     }
+    if text_refused(rules, text_of(rules, &detail, left)) {
+        return Err(21);
+    }
     Ok(detail)
+}
+
+/// The text of a message that is all there; empty where its kind has none.
+fn text_of<'a>(rules: Rules, detail: &Detail, message: &'a [u8]) -> &'a [u8] {
+    let part = text_part(detail.kind()).and_then(|name| detail.part(rules, name));
+    match part {
+        Some((start, length)) => &message[start as usize..][..length as usize],
+        None => &[],
+    }
 }
 
 /// Checks 4 to 9, and the message's own numbers if it passes them.

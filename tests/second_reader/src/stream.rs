@@ -88,7 +88,7 @@ pub fn records(rules: Rules, stream: &[u8]) -> Result<Vec<Record>, Refusal> {
 }
 
 /// The checks at one message, in the paper's order: 12 after a close, 13, 19, 1, 2, 12, then
-/// 3 to 11.
+/// 3 to 11, then 21.
 fn next(rules: Rules, number: u64, left: &[u8], seen: Seen) -> Result<Detail, u32> {
     if seen.close {
         return Err(12);

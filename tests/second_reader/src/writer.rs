@@ -1,7 +1,7 @@
 //! The writer of one message. It judges one message, not the order of several.
 
 use crate::kinds::Kind;
-use crate::message::{header_detail, header_fault, text_detail};
+use crate::message::{header_detail, header_fault, text_detail, text_part, text_refused};
 use crate::message::{put_stated_length, Detail, PartName};
 use crate::numbers;
 use crate::rules::Rules;
@@ -34,7 +34,7 @@ impl<'a> Parts<'a> {
 }
 
 /// Puts one message into `output` from `position` on and gives the position after it. Refusals
-/// are 2 to 8 and 10 in order, then 18, then 14; a refusal writes no byte. There is no 9: what an
+/// are 2 to 8 and 10 in order, then 18, then 21, then 14; a refusal writes no byte. There is no 9: what an
 /// image header holds as attribute length is not looked at, and the true one is put there; nor is
 /// what any header holds as filler, and zeros are put there.
 pub fn write(
@@ -52,6 +52,10 @@ pub fn write(
     }
     if !parts_fit(rules, &detail, parts) {
         return Err(18);
+    }
+    let text = text_part(kind).map_or(&[][..], |name| parts.get(name));
+    if text_refused(rules, text) {
+        return Err(21);
     }
     let end = u128::from(position) + detail.size(rules);
     if end > output.len() as u128 {

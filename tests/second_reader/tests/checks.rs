@@ -12,11 +12,9 @@ fn number_under(rules: Rules, stream: &[u8]) -> u32 {
     }
 }
 
-/// The number under both layouts, which agree on streams without waveforms.
+/// The number under all rules, which agree on streams without waveforms whose texts are UTF-8.
 fn number(stream: &[u8]) -> u32 {
-    let [packed, aligned] = Rules::ALL.map(|rules| number_under(rules, stream));
-    assert_eq!(packed, aligned);
-    packed
+    one_answer(|rules| number_under(rules, stream))
 }
 
 #[test]
@@ -98,9 +96,7 @@ fn a_mask_is_not_stated_or_agrees_or_differs() {
             put64(&mut header, 40 + 8 * word, ones);
         }
         let stream = whole(&[&acquisition(&header)]);
-        let [packed, aligned] = Rules::ALL.map(|rules| records(rules, &stream));
-        assert_eq!(packed, aligned);
-        let records = packed.expect("no mask is refused");
+        let records = one_answer(|rules| records(rules, &stream)).expect("no mask is refused");
         match records[1].detail {
             Detail::Acquisition { mask, .. } => mask,
             other => panic!("no acquisition: {other:?}"),
@@ -384,11 +380,7 @@ fn the_first_faulty_message_decides() {
 #[test]
 fn check_19_among_its_neighbours() {
     let texts = |count: usize| text_message(5, b"").repeat(count);
-    let checked = |stream: &[u8]| {
-        let [packed, aligned] = Rules::ALL.map(|rules| check(rules, stream));
-        assert_eq!(packed, aligned);
-        packed
-    };
+    let checked = |stream: &[u8]| one_answer(|rules| check(rules, stream));
     let refused = |stream: &[u8]| {
         let refusal = checked(stream).unwrap_err();
         (refusal.number, refusal.record, refusal.byte)

@@ -6,11 +6,9 @@ mod common;
 use common::*;
 use second_reader::*;
 
-/// The check's answer under both layouts, which agree on streams without waveforms.
+/// The check's answer under all rules, which agree on streams without waveforms whose texts are UTF-8.
 fn checked(stream: &[u8]) -> Result<u64, Refusal> {
-    let [packed, aligned] = Rules::ALL.map(|rules| check(rules, stream));
-    assert_eq!(packed, aligned);
-    packed
+    one_answer(|rules| check(rules, stream))
 }
 
 fn refused(stream: &[u8]) -> (u32, u64, u64) {

@@ -5,7 +5,7 @@ mod common;
 use common::*;
 use second_reader::*;
 
-under_each_layout! {
+under_all_rules! {
     places_one_after_another
     kinds_with_their_own_numbers
     views_lie_where_the_paper_puts_them

@@ -5,7 +5,7 @@ mod common;
 use common::*;
 use second_reader::*;
 
-under_each_layout! {
+under_all_rules! {
     one_message_of_each_kind_without_a_header
     one_message_of_each_kind_with_a_header
     refusals_2_and_3

@@ -3,20 +3,32 @@
 use crate::either::accepted_by_both;
 use crate::messages::{self, message, Message};
 use crate::rng::Rng;
+use crate::split::split;
 use crate::stated;
+use crate::texts;
 use crate::well_formed::{joined, opening, well_formed};
-use crate::SHORT_REFUSALS;
+use crate::{short_refusals, TEXTED};
 use second_reader::message::STATED_LENGTH;
 use second_reader::{numbers, Kind, Layout, Rules};
 
 const DATA: [Kind; 3] = [Kind::Acquisition, Kind::Image, Kind::Waveform];
 
-/// What stands behind a faulty message: nothing, further messages, or any bytes. It never
+/// What stands behind a faulty message: nothing, further messages, another fault, or any bytes. It never
 /// changes the verdict, as the first faulty message decides.
 fn rest(rules: Rules, rng: &mut Rng) -> Vec<u8> {
-    match rng.below(3) {
+    match rng.below(4) {
         0 => vec![],
         1 => joined(&well_formed(rules, rng, 2_000)),
+        2 => {
+            let refusals = short_refusals(rules);
+            let number = loop {
+                let number = rng.pick(refusals);
+                if number != 12 {
+                    break number;
+                }
+            };
+            faulty(rules.plain(), rng, number, true)
+        }
         _ => {
             let length = rng.below(60) as usize;
             rng.bytes(length)
@@ -24,7 +36,7 @@ fn rest(rules: Rules, rng: &mut Rng) -> Vec<u8> {
     }
 }
 
-/// A stream of at most about 30,000 bytes that is refused with this number, one of 1 to 13.
+/// A stream of at most about 30,000 bytes that is refused with this number, one of `short_refusals`.
 pub fn refused_with(rules: Rules, rng: &mut Rng, number: u32) -> Vec<u8> {
     if number == 12 {
         return broken_order(rules, rng);
@@ -35,7 +47,8 @@ pub fn refused_with(rules: Rules, rng: &mut Rng, number: u32) -> Vec<u8> {
         _ => rng.one_in(2),
     };
     let mut stream = joined(&opening(rules, rng, headed));
-    stream.extend(faulty(rules, rng, number, headed));
+    // The faulty message may hold any text: 21 comes after all other checks of it.
+    stream.extend(faulty(rules.plain(), rng, number, headed));
     // Where too few bytes are left, or none, nothing may follow.
     if !matches!(number, 1 | 3 | 11 | 13) {
         stream.extend(rest(rules, rng));
@@ -61,6 +74,7 @@ fn faulty(rules: Rules, rng: &mut Rng, number: u32, headed: bool) -> Vec<u8> {
         10 => too_large(rules, rng, headed),
         11 => short_body(rules, rng, headed),
         13 => vec![],
+        21 => not_utf8(rules, rng, headed),
         _ => panic!("no short stream is refused with {number}"),
     }
 }
@@ -91,6 +105,33 @@ fn kind_allowed(rng: &mut Rng, headed: bool) -> Kind {
             Kind::ConfigurationText,
         ])
     }
+}
+
+/// A message whose text is not UTF-8: by a fault of any sort, or by half a character whose rest stands elsewhere.
+fn not_utf8(rules: Rules, rng: &mut Rng, headed: bool) -> Vec<u8> {
+    let kind = loop {
+        let kind = kind_allowed(rng, headed);
+        if TEXTED.contains(&kind) {
+            break kind;
+        }
+    };
+    if rng.one_in(3) {
+        let (message, next) = split(rules, rng, kind);
+        let next = next.map_or(vec![], |next| next.bytes());
+        return [message.bytes(), next].concat();
+    }
+    let mut message = message(rules, rng, kind, 200);
+    set_not_utf8(rng, &mut message);
+    message.bytes()
+}
+
+fn set_not_utf8(rng: &mut Rng, message: &mut Message) {
+    let length = texts::length(rng, 250);
+    let text = texts::any_bad(rng, length);
+    message.set_own_text(match message.kind() {
+        Some(Kind::ConfigurationName) => texts::without_zeros(text),
+        _ => text,
+    });
 }
 
 fn short_fixed_part(rules: Rules, rng: &mut Rng, headed: bool) -> Vec<u8> {
@@ -377,8 +418,8 @@ fn broken_order(rules: Rules, rng: &mut Rng) -> Vec<u8> {
         2 => (build(false, &[configuration]), second),
         _ => (build(true, &[Kind::Close]), any),
     };
-    // The order is judged before the message's own checks, even if only its id is there.
-    let faulty = message(rules, rng, last, 100).bytes();
+    // The order is judged before the message's own checks, even if only its id is there; so its text is any.
+    let faulty = message(rules.plain(), rng, last, 100).bytes();
     let length = match rng.below(3) {
         0 => 2,
         _ => faulty.len(),
@@ -459,7 +500,7 @@ fn wrapping_sizes(rng: &mut Rng, most: u64) -> ([u64; 4], u64) {
 }
 
 /// The kinds of damage that `damaged` does.
-pub const DAMAGES: [&str; 16] = [
+pub const DAMAGES: [&str; 19] = [
     "truncated",
     "one byte flipped",
     "header field at a boundary",
@@ -476,6 +517,9 @@ pub const DAMAGES: [&str; 16] = [
     "attribute lengths of an image",
     "a waveform of the other layout",
     "cut within a waveform header",
+    "text that is not UTF-8",
+    "half a character and its rest elsewhere",
+    "one byte of a text changed",
 ];
 
 /// A well-formed stream with the damage of that number in `DAMAGES`. Some damage leaves a stream
@@ -514,7 +558,35 @@ fn damage_messages(rules: Rules, rng: &mut Rng, damage: usize, messages: &mut Ve
         12 if rng.one_in(2) => set_boundaries(rng, messages, 2),
         12 => swap_or_repeat(rng, messages),
         14 => set_other_layout(rules, rng, messages),
+        16..=18 => damage_text(rules, rng, damage, messages),
         _ => {}
+    }
+}
+
+/// The damages that are done to the text of one message.
+fn damage_text(rules: Rules, rng: &mut Rng, damage: usize, messages: &mut Vec<Message>) {
+    let Some(at) = message_of(rng, messages, |kind| TEXTED.contains(&kind)) else {
+        return;
+    };
+    match damage {
+        16 => set_not_utf8(rng, &mut messages[at]),
+        17 => {
+            let kind = messages[at].kind().expect("a kind with text");
+            let (message, next) = split(rules, rng, kind);
+            messages[at] = message;
+            messages.splice(at + 1..at + 1, next);
+        }
+        _ => change_one_byte(rng, &mut messages[at]),
+    }
+}
+
+/// Puts another byte, which is no zero, in the place of one of a text.
+fn change_one_byte(rng: &mut Rng, message: &mut Message) {
+    let mut text = message.own_text().expect("a kind with text").to_vec();
+    if !text.is_empty() {
+        let byte = rng.below(text.len() as u64) as usize;
+        text[byte] = 1 + rng.below(255) as u8;
+        message.set_own_text(text);
     }
 }
 
@@ -537,13 +609,17 @@ pub const FOR_BOTH_LAYOUTS: &str = "for both layouts";
 pub fn drawn(rules: Rules, rng: &mut Rng, number: u64, limit: usize) -> (String, Vec<u8>) {
     let turn = (number / 10) as usize;
     match number % 20 {
-        0 => (FOR_BOTH_LAYOUTS.to_string(), accepted_by_both(rng)),
+        0 => {
+            let stream = accepted_by_both(rules.profile, rng);
+            (FOR_BOTH_LAYOUTS.to_string(), stream)
+        }
         1..=3 | 10..=13 => {
             let messages = well_formed(rules, rng, limit);
             ("well formed".to_string(), joined(&messages))
         }
         4..=6 | 14..=16 => {
-            let wanted = SHORT_REFUSALS[turn % SHORT_REFUSALS.len()];
+            let refusals = short_refusals(rules);
+            let wanted = refusals[turn % refusals.len()];
             let what = format!("made for refusal {wanted}");
             (what, refused_with(rules, rng, wanted))
         }

@@ -5,8 +5,9 @@
 
 use crate::messages::{message, Message};
 use crate::rng::Rng;
+use crate::texts;
 use crate::well_formed::joined;
-use second_reader::{numbers, Kind, Rules, Table};
+use second_reader::{numbers, Kind, Profile, Rules, Table};
 
 fn table(rules: Rules) -> &'static Table {
     Kind::Waveform
@@ -58,7 +59,7 @@ fn of_one_size(rng: &mut Rng) -> Vec<u8> {
     let count = rng.size(60);
     let length = front(Rules::ALIGNED) + 4 * count;
     let mut bytes = waveform_of(rng, length);
-    for rules in Rules::ALL {
+    for rules in Rules::PLAIN {
         put_count(rules, rng, &mut bytes, (length - front(rules)) / 4);
     }
     if rng.one_in(2) {
@@ -80,15 +81,20 @@ fn one_or_two(rng: &mut Rng, two: Rules) -> Vec<u8> {
     let mut bytes = waveform_of(rng, longer);
     numbers::put(&mut bytes, shorter as usize, 2, u64::from(Kind::Text.id()));
     numbers::put(&mut bytes, shorter as usize + 2, 4, text);
+    if two.profile == Profile::Strict {
+        let good = texts::good(rng, text as usize);
+        bytes[shorter as usize + 6..].copy_from_slice(&good);
+    }
     put_count(two, rng, &mut bytes, count);
     put_count(one, rng, &mut bytes, (longer - front(one)) / 4);
     bytes
 }
 
-/// A stream of some thousand bytes with one to four such waveforms, which both layouts accept.
-pub fn accepted_by_both(rng: &mut Rng) -> Vec<u8> {
+/// A stream of some thousand bytes with one to four such waveforms, which both layouts accept in this profile.
+pub fn accepted_by_both(profile: Profile, rng: &mut Rng) -> Vec<u8> {
+    let [packed, aligned] = Rules::PLAIN.map(|plain| Rules { profile, ..plain });
     // Without a waveform a message is the same in both.
-    let rules = Rules::PACKED;
+    let rules = packed;
     let mut stream = Vec::new();
     if rng.one_in(2) {
         let configuration = rng.pick(&[Kind::ConfigurationName, Kind::ConfigurationText]);
@@ -101,8 +107,8 @@ pub fn accepted_by_both(rng: &mut Rng) -> Vec<u8> {
             stream.extend(message(rules, rng, kind, 100).bytes());
         }
         let waveform = match rng.below(4) {
-            0 => one_or_two(rng, Rules::PACKED),
-            1 => one_or_two(rng, Rules::ALIGNED),
+            0 => one_or_two(rng, packed),
+            1 => one_or_two(rng, aligned),
             _ => of_one_size(rng),
         };
         stream.extend(waveform);

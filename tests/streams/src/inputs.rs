@@ -3,9 +3,11 @@
 use crate::damaged::unknown_id;
 use crate::messages::{self, message, Message};
 use crate::rng::Rng;
+use crate::{texts, TEXTED};
+use second_reader::message::text_part;
 use second_reader::message::STATED_LENGTH;
 use second_reader::questions::counters_of;
-use second_reader::{index_bytes, own_columns, records, Kind, PartName, Rules};
+use second_reader::{index_bytes, own_columns, records, Kind, PartName, Profile, Rules};
 
 /// What a writer is given: the message's id, header and parts, an output and a position in it.
 #[derive(Clone, Debug)]
@@ -15,8 +17,16 @@ pub struct WriterInput {
     pub position: u64,
 }
 
-/// The numbers a writer can refuse with; 9 is none of them.
-pub const WRITER_REFUSALS: [u32; 10] = [2, 3, 4, 5, 6, 7, 8, 10, 14, 18];
+/// The numbers a writer can refuse with; 9 is none of them. The last is the strict profile's.
+pub const WRITER_REFUSALS: [u32; 11] = [2, 3, 4, 5, 6, 7, 8, 10, 14, 18, 21];
+
+/// Those that these rules know.
+pub fn writer_refusals(rules: Rules) -> &'static [u32] {
+    match rules.profile {
+        Profile::Plain => &WRITER_REFUSALS[..10],
+        Profile::Strict => &WRITER_REFUSALS,
+    }
+}
 
 /// An output of random bytes that holds the message from the position on.
 fn with_room(rng: &mut Rng, message: Message) -> WriterInput {
@@ -54,20 +64,30 @@ pub fn writer_input(rules: Rules, rng: &mut Rng) -> WriterInput {
     with_room(rng, message)
 }
 
-/// Inputs that the writer refuses with this number, one of `WRITER_REFUSALS`. A text over the
+/// Inputs that the writer refuses with this number, one of `writer_refusals`. A text over the
 /// limit of check 10 is not among them, as it would take 256 MB.
 pub fn writer_input_refused(rules: Rules, rng: &mut Rng, number: u32) -> WriterInput {
-    let mut input = writer_input(rules, rng);
+    // 14 alone comes after 21: what is refused for another reason may hold any text.
+    let texts = match number {
+        14 => rules,
+        _ => rules.plain(),
+    };
+    let mut input = writer_input(texts, rng);
     match number {
         2 => input.message.id = unknown_id(rng),
         3 => wrong_header_length(rng, &mut input.message),
         14 => wrong_room(rng, &mut input),
         18 => wrong_part(rng, &mut input.message),
+        21 => {
+            let message = not_utf8(texts, rng);
+            input = with_room(rng, message);
+        }
         _ => {
-            let message = refused_message(rules, rng, number);
+            let message = refused_message(texts, rng, number);
             input = with_room(rng, message);
         }
     }
+    input.message.rules = rules;
     // A later refusal must not show: 14 is the last of all.
     if number != 14 && rng.one_in(3) {
         wrong_room(rng, &mut input);
@@ -113,26 +133,34 @@ fn wrong_room(rng: &mut Rng, input: &mut WriterInput) {
 fn wrong_part(rng: &mut Rng, message: &mut Message) {
     let kind = message.kind().expect("a known kind");
     // The kind's own name, text and attributes set its size, so they never fit badly.
-    let own: &[PartName] = match kind {
-        Kind::ConfigurationName => &[PartName::Name],
-        Kind::ConfigurationText | Kind::HeaderText | Kind::Text => &[PartName::Text],
-        Kind::Image => &[PartName::Attributes],
-        _ => &[],
-    };
+    let own = text_part(kind);
     let name = loop {
         let name = rng.pick(&PartName::ALL);
-        if !own.contains(&name) {
+        if Some(name) != own {
             break name;
         }
     };
     let part = message.part_mut(name);
     if part.is_empty() || rng.one_in(2) {
-        part.push(0);
+        part.push(rng.number() as u8);
     } else if rng.one_in(2) {
         part.pop();
     } else {
         part.clear();
     }
+}
+
+/// A message whose text is not UTF-8.
+fn not_utf8(rules: Rules, rng: &mut Rng) -> Message {
+    let kind = rng.pick(&TEXTED);
+    let mut message = given(rules, rng, kind, 400);
+    let length = texts::length(rng, 400);
+    let text = texts::any_bad(rng, length);
+    message.set_own_text(match kind {
+        Kind::ConfigurationName => texts::without_zeros(text),
+        _ => text,
+    });
+    message
 }
 
 /// A message whose header or name a writer refuses with this number, one of 4 to 8 and 10.

@@ -3,7 +3,8 @@
 use crate::filler;
 use crate::rng::Rng;
 use crate::stated;
-use second_reader::message::STATED_LENGTH;
+use crate::texts;
+use second_reader::message::{text_part, STATED_LENGTH};
 use second_reader::{numbers, Detail, Kind, Mask, PartName, Parts, Rules, Table};
 
 /// One message with its parts apart. Its bytes follow from them without any check, so that
@@ -135,6 +136,35 @@ impl Message {
         written.header
     }
 
+    /// The text of this message, if its kind has one: its name, text or attributes.
+    pub fn own_text(&self) -> Option<&[u8]> {
+        let name = self.kind().and_then(text_part)?;
+        Some(self.parts().get(name))
+    }
+
+    /// Puts another text in its place. A name's filler goes on as it was, and an image's header says what it said:
+    /// the length, 0 or another number.
+    pub fn set_own_text(&mut self, text: Vec<u8>) {
+        let kind = self.kind().expect("a known kind");
+        let name = text_part(kind).expect("a kind with text");
+        let (before, after) = (self.part_mut(name).len(), text.len());
+        *self.part_mut(name) = text;
+        match kind {
+            Kind::ConfigurationName => {
+                let filler = self.filler.iter().copied().cycle();
+                let length = 1_023_usize.saturating_sub(after);
+                self.filler = match self.filler.is_empty() {
+                    true => vec![0; length],
+                    false => filler.take(length).collect(),
+                };
+            }
+            Kind::Image if self.get(STATED_LENGTH, 0) == before as u64 && before > 0 => {
+                self.set(STATED_LENGTH, 0, after as u64);
+            }
+            _ => {}
+        }
+    }
+
     /// The `i`th element of a named header entry.
     pub fn get(&self, name: &str, i: usize) -> u64 {
         let table = self.table().expect("a kind with a header");
@@ -155,26 +185,29 @@ pub fn message(rules: Rules, rng: &mut Rng, kind: Kind, most: u64) -> Message {
     }
 }
 
-/// A name of any length from 0 to 1,023, with any filler after its zero.
+/// A name of any length from 0 to 1,023, with any filler after its zero, which is no text.
 pub fn name(rules: Rules, rng: &mut Rng) -> Message {
     let length = match rng.below(4) {
         0 => rng.pick(&[0, 1, 1_022, 1_023]),
         1 => rng.below(40),
+        2 => texts::length(rng, 1_023) as u64,
         _ => rng.below(1_024),
     } as usize;
     let mut message = Message::empty(rules, Kind::ConfigurationName.id());
-    message.name = rng.bytes(length).iter().map(|&byte| byte.max(1)).collect();
-    message.filler = match rng.below(3) {
-        0 => vec![0; 1_023 - length],
-        _ => rng.bytes(1_023 - length),
+    message.name = texts::accepted_name(rules, rng, length);
+    let room = 1_023 - message.name.len();
+    message.filler = match rng.below(4) {
+        0 => vec![0; room],
+        1 => texts::good(rng, room),
+        _ => rng.bytes(room),
     };
     message
 }
 
 pub fn text(rules: Rules, rng: &mut Rng, kind: Kind, most: u64) -> Message {
-    let length = rng.size(most) as usize;
+    let length = texts::length(rng, most);
     let mut message = Message::empty(rules, kind.id());
-    message.text = rng.bytes(length);
+    message.text = texts::accepted(rules, rng, length);
     message
 }
 
@@ -298,9 +331,9 @@ pub fn image(rules: Rules, rng: &mut Rng, most: u64) -> Message {
         message.set("matrix_size", i, size);
     }
     message.set("channels", 0, sizes[3]);
-    let attributes = rng.size(most.min(600));
-    message.attributes = rng.bytes(attributes as usize);
-    let stated = stated::sound(rng, attributes);
+    let attributes = texts::length(rng, most.min(600));
+    message.attributes = texts::accepted(rules, rng, attributes);
+    let stated = stated::sound(rng, message.attributes.len() as u64);
     message.set(STATED_LENGTH, 0, stated);
     fill_parts(rng, &mut message);
     message

@@ -3,8 +3,8 @@
 use second_reader::*;
 use streams::*;
 
-/// Each of these functions as a test under each layout.
-macro_rules! under_each_layout {
+/// Each of these functions as a test under each layout and profile.
+macro_rules! under_all_rules {
     ($($test:ident)*) => {
         mod packed {
             $(#[test] fn $test() { super::$test(second_reader::Rules::PACKED) })*
@@ -12,10 +12,16 @@ macro_rules! under_each_layout {
         mod aligned {
             $(#[test] fn $test() { super::$test(second_reader::Rules::ALIGNED) })*
         }
+        mod strict_packed {
+            $(#[test] fn $test() { super::$test(second_reader::Rules::PACKED.strict()) })*
+        }
+        mod strict_aligned {
+            $(#[test] fn $test() { super::$test(second_reader::Rules::ALIGNED.strict()) })*
+        }
     };
 }
 
-under_each_layout! {
+under_all_rules! {
     well_formed_streams_are_accepted_with_the_records_they_were_made_of
     image_headers_say_their_attribute_length_or_every_third_0
     attributes_past_32_bits_are_10_with_0_in_the_header_and_9_with_their_low_word
@@ -120,7 +126,7 @@ fn attributes_past_32_bits_are_10_with_0_in_the_header_and_9_with_their_low_word
 
 fn faulty_streams_get_the_number_they_are_made_for(rules: Rules) {
     let mut rng = Rng::new(2);
-    for number in SHORT_REFUSALS {
+    for &number in short_refusals(rules) {
         for _ in 0..150 {
             let stream = refused_with(rules, &mut rng, number);
             assert_eq!(refusal_of(rules, &stream), number);
@@ -131,14 +137,18 @@ fn faulty_streams_get_the_number_they_are_made_for(rules: Rules) {
 
 fn damage_meets_many_refusals(rules: Rules) {
     let mut rng = Rng::new(3);
-    let mut met = [0; 20];
+    let mut met = [0; 22];
     for round in 0..8_000 {
         let stream = damaged(rules, &mut rng, round % DAMAGES.len(), 6_000);
         met[refusal_of(rules, &stream) as usize] += 1;
     }
-    for number in [0, 1, 2, 3, 4, 5, 6, 7, 8, 9, 10, 11, 12, 13] {
-        assert!(met[number] > 0, "damage alone never gave {number}: {met:?}");
+    for &number in [0].iter().chain(short_refusals(rules)) {
+        assert!(
+            met[number as usize] > 0,
+            "damage alone never gave {number}: {met:?}"
+        );
     }
+    assert_eq!(met[21] > 0, rules.profile == Profile::Strict);
 }
 
 fn images_past_64_bits_are_10(rules: Rules) {
@@ -280,7 +290,7 @@ fn accepted_writer_inputs_are_written_whatever_an_image_header_says_of_its_lengt
 
 fn refused_writer_inputs_get_the_number_they_are_made_for(rules: Rules) {
     let mut rng = Rng::new(15);
-    for number in WRITER_REFUSALS {
+    for &number in writer_refusals(rules) {
         for _ in 0..150 {
             let input = writer_input_refused(rules, &mut rng, number);
             let mut output = input.output.clone();
@@ -306,7 +316,7 @@ fn given_indexes_are_right_or_wrong_as_said(rules: Rules) {
     for round in 0..400 {
         let stream = match round % 2 {
             0 => joined(&well_formed(rules, &mut rng, 3_000)),
-            _ => accepted_by_both(&mut rng),
+            _ => accepted_by_both(rules.profile, &mut rng),
         };
         let answer = |given: GivenIndex| agrees(rules, &stream, given);
         for file in given_files(rules, &mut rng, &stream) {

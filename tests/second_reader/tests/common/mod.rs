@@ -4,9 +4,9 @@
 
 use second_reader::{Layout, Rules};
 
-/// Each of these functions as a test under each layout.
+/// Each of these functions as a test under each layout and profile.
 #[macro_export]
-macro_rules! under_each_layout {
+macro_rules! under_all_rules {
     ($($test:ident)*) => {
         mod packed {
             $(#[test] fn $test() { super::$test(second_reader::Rules::PACKED) })*
@@ -14,7 +14,22 @@ macro_rules! under_each_layout {
         mod aligned {
             $(#[test] fn $test() { super::$test(second_reader::Rules::ALIGNED) })*
         }
+        mod strict_packed {
+            $(#[test] fn $test() { super::$test(second_reader::Rules::PACKED.strict()) })*
+        }
+        mod strict_aligned {
+            $(#[test] fn $test() { super::$test(second_reader::Rules::ALIGNED.strict()) })*
+        }
     };
+}
+
+/// What all rules answer alike.
+pub fn one_answer<T: PartialEq + std::fmt::Debug>(under: impl Fn(Rules) -> T) -> T {
+    let [packed, others @ ..] = Rules::ALL.map(under);
+    for other in others {
+        assert_eq!(other, packed);
+    }
+    packed
 }
 
 pub fn put16(bytes: &mut [u8], at: usize, number: u16) {

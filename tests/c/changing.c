@@ -41,7 +41,7 @@ enum {
     DATA_BYTES = 4 * EMPTY,
     LENGTH = DATA + DATA_BYTES + 2,
     FEW = 5, /* records, with all attributes and the whole text */
-    TURNS = 500000
+    TURNS = 2000000
 };
 
 static uint8_t stream[LENGTH];

@@ -2,7 +2,7 @@
 -- Assumes nothing.
 use Prim.Native.Nat.{ℕ, _+_, _≤_}
 use native.Mathlib.Omega.{arith}
-use mathlib.Core.Path.{_≡_, sym, ap, _∙_}
+use mathlib.Core.Path.{_≡_, refl, sym, ap, _∙_}
 use mathlib.Core.List.{List}
 use lib.ListN.{length}
 use Rattle.mrd_numbers.specs.Little.{num}
@@ -15,7 +15,7 @@ use Rattle.mrd_format.specs.MaskLaws.{checks-look-at}
 use Rattle.mrd_format.specs.Message.{idAt, fixedPart, ownChecks, bodySize, sizeOf}
 use Rattle.mrd_format.specs.WellFormed.{WellFormed}
 use Rattle.mrd_format.specs.MessageLaws.{num-fixed, well-least}
-use Rattle.mrd_format.specs.ProfileLaws.{acquisition-encoded}
+use Rattle.mrd_format.specs.ProfileLaws.{textless-encoded}
 use Rattle.mrd_stream.specs.Walk.{answer}
 use Rattle.mrd_stream.specs.Places.{Located, place}
 use Rattle.mrd_cut.specs.CutPlaces.{partAt}
@@ -73,7 +73,7 @@ module _ (m w : List ℕ) (size : length w ≡ 128) (long : 342 ≤ length m) wh
     sound = rw same-checks (rw e at (f .sound));
     small = rw same-size (rw e at (f .small));
     whole = rw same-size (rw e at (f .whole) ∙ sym other-long);
-    encoded = acquisition-encoded (rules .profile) other;
+    encoded = textless-encoded (rules .profile) Acquisition refl other;
   }
 
 -- an acquisition's message has an id and a header

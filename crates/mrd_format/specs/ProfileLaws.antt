@@ -2,7 +2,7 @@
 -- Assumes nothing.
 use Prim.Native.Nat.{ℕ}
 use mathlib.Core.Path.{_≡_, refl}
-use mathlib.Core.Bool.{true}
+use mathlib.Core.Bool.{Bool, true, false, false≢true}
 use mathlib.Core.Logic.{_↔_}
 use mathlib.Core.List.{List, [], _∷_}
 use Rattle.mrd_utf8.specs.Utf8.{Utf8}
@@ -10,7 +10,8 @@ use Rattle.mrd_utf8.specs.Fold.{utf8Of}
 use Rattle.mrd_utf8.specs.FoldLaws.{utf8-exactly, utf8-empty}
 use Rattle.mrd_logic.specs.Choice.{both}
 use Rattle.mrd_logic.specs.Every.{Every}
-use Rattle.mrd_format.specs.declared.kind.Kind.the-variants.{Acquisition}
+use Rattle.mrd_format.specs.declared.kind.Kind.{Kind}
+use Rattle.mrd_format.specs.declared.kind.Kind.the-variants.{ConfigurationName, ConfigurationText, HeaderText, Close, Text, Acquisition, Image, Waveform}
 use Rattle.mrd_format.specs.declared.rules.Profile.{Profile}
 use Rattle.mrd_format.specs.declared.rules.Profile.the-variants.{Plain, Strict}
 use Rattle.mrd_format.specs.Content.{extentOf, contentsOf, recordOf}
@@ -29,8 +30,29 @@ unfolding encoded
 encoded-exactly Plain ts = (λ e. tt, λ p. refl)
 encoded-exactly Strict ts = (all-utf8 ts, utf8-all ts)
 
--- an acquisition has no text
-pub acquisition-encoded : (f : Profile) (m : List ℕ) → Encoded f (textsIn (recordOf Acquisition m .parts))
+-- three empty texts
+no-texts : Every Utf8 ([] ∷ [] ∷ [] ∷ [])
+no-texts = let none = utf8-exactly [] .0 utf8-empty in (none, (none, (none, tt)))
+
+-- a kind without a text passes
+abbrev pub textless : Kind → Bool
+textless ConfigurationName = false
+textless ConfigurationText = false
+textless HeaderText = false
+textless Close = true
+textless Text = false
+textless Acquisition = true
+textless Image = false
+textless (Waveform l) = true
+
+pub textless-encoded : (f : Profile) (k : Kind) → textless k ≡ true → (m : List ℕ) → Encoded f (textsIn (recordOf k m .parts))
 unfolding recordOf contentsOf extentOf
-acquisition-encoded Plain m = tt
-acquisition-encoded Strict m = let none = utf8-exactly [] .0 utf8-empty in (none, (none, (none, tt)))
+textless-encoded Plain k e m = tt
+textless-encoded Strict ConfigurationName e m = absurd (false≢true e)
+textless-encoded Strict ConfigurationText e m = absurd (false≢true e)
+textless-encoded Strict HeaderText e m = absurd (false≢true e)
+textless-encoded Strict Close e m = no-texts
+textless-encoded Strict Text e m = absurd (false≢true e)
+textless-encoded Strict Acquisition e m = no-texts
+textless-encoded Strict Image e m = absurd (false≢true e)
+textless-encoded Strict (Waveform l) e m = no-texts

@@ -1,7 +1,7 @@
 // One message judged where a walk is: the order of checks, in five stages, each with its own function.
 //
 // In the plain profile a message is judged by its fixed part and by how many bytes there are: no payload byte is read.
-// In the strict one its texts are read too. Assumes nothing.
+// In the strict one its texts are read too, where all other checks passed. Assumes nothing.
 mod sort;
 mod stages;
 
@@ -13,3 +13,4 @@ pub use stages::judge_fixed;
 pub use stages::judge_front;
 pub use stages::judge_id;
 pub use stages::judge_size;
+pub use stages::judge_text;

@@ -2,10 +2,11 @@
 // Each stage answers the number of its first check that refuses, or 0.
 ghost use mathlib.Core.Path.{_≡_};
 ghost use Prim.Native.Nat.{_≤_, _<_};
-ghost use lib.ListN.{length};
+ghost use lib.ListN.{length, take};
 ghost use Rattle.mrd_logic.specs.Checks.{first};
-ghost use Rattle.mrd_judge.specs.Stages.{frontChecks, idChecks, fixedChecks, sizeChecks};
+ghost use Rattle.mrd_judge.specs.Stages.{frontChecks, idChecks, fixedChecks, sizeChecks, textChecks};
 ghost use Rattle.mrd_judge.specs.Judge.{judgementMeaning, sorted, judge, judgeBody};
+ghost use Rattle.mrd_texts.specs.Whole.{TakenWhole};
 use crate::sort::Sort;
 use mrd_cursor::Cursor;
 use mrd_format::Identified;
@@ -16,7 +17,7 @@ use mrd_format::refusal;
 use mrd_format::size::MAX_MESSAGE_SIZE;
 use mrd_message::fixed_part;
 use mrd_numbers::read_u16;
-use mrd_texts::message_encoded;
+use mrd_texts::message_is_utf8;
 
 // The most messages that a stream may have.
 pub const MAX_MESSAGES: usize = 1000000;
@@ -103,10 +104,11 @@ fn judge_body(profile: Profile, kind: Kind, t: &[u8]) -> Judgement
     if t.len() < end {
         return Judgement::Faulty(judge_size(end, t));
     }
-    if message_encoded(profile, kind, &t[0..end]) {
-        return Judgement::Whole(Sort::of(kind), end);
+    let text = judge_text(profile, kind, t, end);
+    if text != 0 {
+        return Judgement::Faulty(text);
     }
-    Judgement::Faulty(refusal::TEXT_NOT_UTF8)
+    Judgement::Whole(Sort::of(kind), end)
 }
 
 // The fixed part: 3 where it does not fit, else 4 to 9.
@@ -131,4 +133,43 @@ pub fn judge_size(size: usize, t: &[u8]) -> u8
         return refusal::MESSAGE_CUT;
     }
     0
+}
+
+// The texts of a message of this size, by the profile: 21. In the plain profile no byte is read.
+pub fn judge_text(profile: Profile, kind: Kind, t: &[u8], size: usize) -> u8
+    requires { ⌜ TakenWhole kind size (now t) ⌝ }
+    ensures { λ r. ⌜ r ≡ first (textChecks profile kind (take size (now (t .entry)))) ⌝ }
+{
+    match profile {
+        Profile::Plain => 0,
+        Profile::Strict => judge_strict(kind, t, size),
+    }
+}
+
+// The same in the strict profile. What reads the text is a function of its own, called for each kind that has one, so
+// that the compiler keeps it, and the registers that it saves, out of the plain profile's way.
+fn judge_strict(kind: Kind, t: &[u8], size: usize) -> u8
+    requires { ⌜ TakenWhole kind size (now t) ⌝ }
+    ensures { λ r. ⌜ r ≡ first (textChecks Profile.Strict kind (take size (now (t .entry)))) ⌝ }
+{
+    match kind {
+        Kind::ConfigurationName => read_texts(kind, t, size),
+        Kind::ConfigurationText => read_texts(kind, t, size),
+        Kind::HeaderText => read_texts(kind, t, size),
+        Kind::Close => 0,
+        Kind::Text => read_texts(kind, t, size),
+        Kind::Acquisition => 0,
+        Kind::Image => read_texts(kind, t, size),
+        Kind::Waveform(_) => 0,
+    }
+}
+
+fn read_texts(kind: Kind, t: &[u8], size: usize) -> u8
+    requires { ⌜ TakenWhole kind size (now t) ⌝ }
+    ensures { λ r. ⌜ r ≡ first (textChecks Profile.Strict kind (take size (now (t .entry)))) ⌝ }
+{
+    if message_is_utf8(kind, &t[0..size]) {
+        return 0;
+    }
+    refusal::TEXT_NOT_UTF8
 }

@@ -1,6 +1,7 @@
 // The parts of a record that a view can show, and where each lies in its message.
 ghost use mathlib.Core.Path.{_≡_};
-ghost use lib.ListN.{length};
+ghost use Prim.Native.Nat.{_+_, _≤_};
+ghost use lib.ListN.{length, take, drop};
 ghost use Rattle.mrd_format.specs.Kinds.{fixedSize};
 ghost use Rattle.mrd_format.specs.Parts.{lies, extent};
 ghost use Rattle.mrd_format.specs.Content.{extentOf};
@@ -132,4 +133,14 @@ fn in_waveform(layout: Layout, h: &[u8], size: usize, part: Part) -> Sought
         Part::Waveform => lies(after, size - after),
         _ => Sought::Lacks,
     }
+}
+
+// The bytes of s from start on, as many as size.
+pub fn spanned(s: &[u8], start: usize, size: usize) -> &[u8]
+    requires { ⌜ start + size ≤ length (now s) ⌝ }
+    ensures { λ r. ⌜ now r ≡ take size (drop start (now (s .entry))) ⌝ }
+    ensures { λ r. ⌜ (r .ptr .0 ≡ s .entry .ptr .0) × (r .ptr .1 ≡ s .entry .ptr .1 + start) ⌝ }
+{
+    let end = start + size;
+    &s[start..end]
 }

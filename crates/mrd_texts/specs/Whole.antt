@@ -4,7 +4,7 @@ use Prim.Native.Nat.{ℕ, _+_, _≤_}
 use native.Mathlib.Omega.{arith}
 use mathlib.Core.Path.{_≡_, refl}
 use mathlib.Core.List.{List}
-use lib.ListN.{length, drop, length-drop}
+use lib.ListN.{length, take, drop, length-drop}
 use lib.Seq.{length-take-le}
 use Rattle.mrd_format.specs.declared.kind.Kind.{Kind}
 use Rattle.mrd_format.specs.Kinds.{fixedSize}
@@ -19,6 +19,11 @@ use Rattle.mrd_parts.specs.Sought.{Sized}
 pub record Whole (k : Kind) (m : List ℕ) : Type 0 where
   pub size : length m ≡ sizeOf k (fixedPart k m)
   pub small : length m ≤ limit
+
+-- so it is with the first z bytes of t
+pub record TakenWhole (k : Kind) (z : ℕ) (t : List ℕ) : Type 0 where
+  pub fits : z ≤ length t
+  pub taken : Whole k (take z t)
 
 -- what lies there is in m
 abbrev pub Inside : Reach → List ℕ → Type 0

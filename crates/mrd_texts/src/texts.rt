@@ -1,9 +1,6 @@
 // Whether texts are what a profile asks: a name, a text and attributes, of which a kind has one or none.
 ghost use mathlib.Core.Path.{_≡_};
 ghost use mathlib.Core.List.{_∷_, []};
-ghost use Prim.Native.Nat.{_+_, _≤_};
-ghost use lib.ListN.{take, drop};
-ghost use lib.ListN.{length as List·length};
 ghost use Rattle.mrd_format.specs.Parts.{bytesIn};
 ghost use Rattle.mrd_format.specs.Content.{recordOf, partOf};
 ghost use Rattle.mrd_format.specs.Profiles.{textsIn, allUtf8, encoded};
@@ -14,21 +11,19 @@ use mrd_format::Profile;
 use mrd_message::fixed_part;
 use mrd_parts::Part;
 use mrd_parts::Sought;
+use mrd_parts::spanned;
 use mrd_utf8::is_utf8;
 
-// Whether the texts of the message m of this kind are what the profile asks.
-pub fn message_encoded(profile: Profile, kind: Kind, m: &[u8]) -> bool
+// Whether the texts of the message m of this kind are UTF-8, as the strict profile asks.
+pub fn message_is_utf8(kind: Kind, m: &[u8]) -> bool
     requires { ⌜ Whole kind (now m) ⌝ }
-    ensures { λ r. ⌜ r ≡ encoded profile (textsIn (recordOf kind (now (m .entry)) .parts)) ⌝ }
+    ensures { λ r. ⌜ r ≡ encoded Profile.Strict (textsIn (recordOf kind (now (m .entry)) .parts)) ⌝ }
 {
-    match profile {
-        Profile::Plain => true,
-        Profile::Strict => all_utf8(
-            text(kind, m, Part::Name),
-            text(kind, m, Part::Text),
-            text(kind, m, Part::Attributes),
-        ),
-    }
+    all_utf8(
+        text(kind, m, Part::Name),
+        text(kind, m, Part::Text),
+        text(kind, m, Part::Attributes),
+    )
 }
 
 // Whether these texts are what the profile asks.
@@ -72,13 +67,4 @@ fn bytes_in(sought: Sought, m: &[u8]) -> &[u8]
         Sought::Lies(place) => spanned(m, place.offset, place.size),
         Sought::Lacks => spanned(m, 0, 0),
     }
-}
-
-// The bytes of m from start on, as many as length.
-fn spanned(m: &[u8], start: usize, length: usize) -> &[u8]
-    requires { ⌜ start + length ≤ List·length (now m) ⌝ }
-    ensures { λ r. ⌜ now r ≡ take length (drop start (now (m .entry))) ⌝ }
-{
-    let end = start + length;
-    &m[start..end]
 }

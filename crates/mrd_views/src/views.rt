@@ -12,6 +12,7 @@ use mrd_format::Rules;
 use mrd_format::refusal;
 use mrd_parts::Part;
 use mrd_parts::Sought;
+use mrd_parts::spanned;
 use mrd_record::fixed_part;
 use mrd_stream::Placed;
 use mrd_stream::PlacedRecord;
@@ -73,16 +74,6 @@ pub(crate) fn viewed(place: ViewPlace, s: &[u8]) -> &[u8]
         ViewPlace::Stream(_) => spanned(s, 0, 0),
         ViewPlace::Refused(_) => spanned(s, 0, 0),
     }
-}
-
-// The bytes of s from start on, as many as length.
-fn spanned(s: &[u8], start: usize, length: usize) -> &[u8]
-    requires { ⌜ start + length ≤ List·length (now s) ⌝ }
-    ensures { λ r. ⌜ now r ≡ take length (drop start (now (s .entry))) ⌝ }
-    ensures { λ r. ⌜ (r .ptr .0 ≡ s .entry .ptr .0) × (r .ptr .1 ≡ s .entry .ptr .1 + start) ⌝ }
-{
-    let end = start + length;
-    &s[start..end]
 }
 
 // Where a part of a record that lies in s is.

@@ -1,16 +1,13 @@
 -- `mrd_judge::stages::judge_body` meets its contract: the stage that refuses decides, and where none does the message is whole.
 -- Assumes nothing.
-use native.Mathlib.Nat.{sub-zero}
-use mathlib.Core.Path.{_≡_, sym, ap, _∙_}
+use mathlib.Core.Path.{sym, ap, _∙_}
 use borrow.Author.Needs.{needs}
 use denote.Ref.{now}
-use lib.ListN.{length, take}
+use lib.ListN.{length}
 use Prim.Native.Nat.{ℕ}
 use mathlib.Core.List.{List}
 use Rattle.mrd_format.specs.Message.{sizeOf}
 use Rattle.mrd_format.specs.Sizes.{capped}
-use Rattle.mrd_format.specs.Content.{recordOf}
-use Rattle.mrd_format.specs.Profiles.{textsIn, encoded}
 use Rattle.mrd_judge.specs.Judge.{sorted}
 use Rattle.mrd_judge.specs.JudgeLaws as laws
 use Rattle.mrd_judge.proofs.stages.judge_body.Statement.{statement}
@@ -53,26 +50,23 @@ returns-3 c =
     (sized .size .ensures ∙ ap (λ (h : List ℕ). capped (sizeOf (a .kind) h)) (sized .before .fixed-part .ensures))
     (sym (c .judge-size2 .ensures)) (λ z. laws.size-short _ _ (short .if3 .taken) (sym (c .judge-size2 .ensures) ∙ z))))
 
-message-encoded-requires : tie.Need-message-encoded-requires
-message-encoded-requires c κs =
-    let sized = c .before .before .before in
+judge-text-requires : tie.Need-judge-text-requires
+judge-text-requires c κs =
+    let sized = c .before .before in
     let a = sized .before .before .before .before .before .args in
-    rw (sub-zero (sized .size .result)) (laws.taken-whole (a .kind) (sized .size .result) (now (a .t))
+    laws.taken-whole (a .kind) (sized .size .result) (now (a .t))
     (sized .size .ensures ∙ ap (λ (h : List ℕ). capped (sizeOf (a .kind) h)) (sized .before .fixed-part .ensures))
-    (laws.size-fits _ _ (c .before .before .if2 .left) (c .before .if3 .left)))
+    (laws.size-fits _ _ (c .before .if2 .left) (c .if3 .left))
 
 returns-4 : tie.Need-returns-4
 returns-4 c =
-    let whole = c .before .before .before .before in
+    let whole = c .before .before in
     let sized = whole .before .before in
     let test = sized .before .before in
     let a = test .before .before .before .args in
-    let texts : c .before .before .message-encoded .result ≡ encoded (a .profile) (textsIn (recordOf (a .kind) (take (sized .size .result) (now (a .t))) .parts)) =
-    rw (sub-zero (sized .size .result)) at (c .before .before .message-encoded .ensures) in
-    rw (c .of .ensures)
-    (ap sorted (sym (laws.text-passed (a .profile) (a .kind) (now (a .t)) (sym (test .before .judge-fixed .ensures) ∙ test .if1 .left)
+    ap sorted (sym (laws.text-stops (a .profile) (a .kind) (now (a .t)) (sym (test .before .judge-fixed .ensures) ∙ test .if1 .left)
     (sized .size .ensures ∙ ap (λ (h : List ℕ). capped (sizeOf (a .kind) h)) (sized .before .fixed-part .ensures))
-    (laws.size-fits _ _ (whole .before .if2 .left) (whole .if3 .left)) (sym texts ∙ c .before .if4 .taken))))
+    (laws.size-fits _ _ (whole .before .if2 .left) (whole .if3 .left)) (sym (c .before .judge-text .ensures)) (c .if4 .taken)))
 
 returns-5 : tie.Need-returns-5
 returns-5 c =
@@ -80,11 +74,10 @@ returns-5 c =
     let sized = whole .before .before in
     let test = sized .before .before in
     let a = test .before .before .before .args in
-    let texts : c .before .message-encoded .result ≡ encoded (a .profile) (textsIn (recordOf (a .kind) (take (sized .size .result) (now (a .t))) .parts)) =
-    rw (sub-zero (sized .size .result)) at (c .before .message-encoded .ensures) in
-    ap sorted (sym (laws.text-stops (a .profile) (a .kind) (now (a .t)) (sym (test .before .judge-fixed .ensures) ∙ test .if1 .left)
+    rw (c .of .ensures)
+    (ap sorted (sym (laws.text-passed (a .profile) (a .kind) (now (a .t)) (sym (test .before .judge-fixed .ensures) ∙ test .if1 .left)
     (sized .size .ensures ∙ ap (λ (h : List ℕ). capped (sizeOf (a .kind) h)) (sized .before .fixed-part .ensures))
-    (laws.size-fits _ _ (whole .before .if2 .left) (whole .if3 .left)) (sym texts ∙ c .if4 .left)))
+    (laws.size-fits _ _ (whole .before .if2 .left) (whole .if3 .left)) (sym (c .before .before .judge-text .ensures) ∙ c .before .if4 .left))))
 
 pub judge-body-spec : {M : Type 1} → statement M
 judge-body-spec =
@@ -98,10 +91,7 @@ judge-body-spec =
     returns-2
     (λ c κs. search needs)
     returns-3
-    (λ c. search needs)
-    (λ c. search needs)
-    (λ c. search needs)
-    message-encoded-requires
-    (λ c κs. search needs)
+    judge-text-requires
     returns-4
+    (λ c κs. search needs)
     returns-5)

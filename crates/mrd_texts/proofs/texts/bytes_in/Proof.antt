@@ -8,7 +8,7 @@ spanned-requires : tie.Need-spanned-requires
 spanned-requires c κs = rw (c .before .sought .given .1) at (c .before .before .before .before .pre)
 
 returns : tie.Need-returns
-returns c = rw (c .before .before .sought .given .1) (c .spanned .ensures)
+returns c = rw (c .before .before .sought .given .1) (c .spanned .ensures .0)
 
 pub bytes-in-spec : {M : Type 1} → statement M
 bytes-in-spec =

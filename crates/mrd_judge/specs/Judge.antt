@@ -40,7 +40,10 @@ unfoldable pub judgeAs : Profile → Identified → Cursor → List ℕ → Judg
 judgeAs f Unknown c t = faulty (first (checksAs f Unknown c t))
 judgeAs f (Known k) c t = unless (first (checksAs f (Known k) c t)) faulty (whole k (sizeOf k (fixedPart k t)))
 
--- the message at the front of t, which is not empty, judged where the walk is at c
+-- the message at the front of t, which is not empty, judged where the walk is at c: by this profile, and by that of the rules
+unfoldable pub judgeBy : Profile → Rules → Cursor → List ℕ → Judged
+judgeBy f rules c t = judgeAs f (identified rules (idAt t)) c t
+
 unfoldable pub judge : Rules → Cursor → List ℕ → Judged
 judge rules c t = judgeAs (rules .profile) (identified rules (idAt t)) c t
 

@@ -17,14 +17,12 @@ use Rattle.mrd_format.specs.declared.kind.Identified.the-variants.{Known, Unkno
 use Rattle.mrd_format.specs.Kinds.{fixedSize}
 use Rattle.mrd_format.specs.OwnCheckLaws.{own-numbered}
 use Rattle.mrd_format.specs.Message.{limit, fixedPart, sizeOf, messageAt}
-use Rattle.mrd_format.specs.MessageLaws.{size-least, fixed-take}
 use Rattle.mrd_format.specs.Sizes.{capped}
-use Rattle.mrd_texts.specs.Whole.{TakenWhole}
 use Rattle.mrd_format.specs.Content.{recordOf}
 use Rattle.mrd_format.specs.Profiles.{textsIn, encoded}
 use Rattle.mrd_format.specs.ProfileLaws.{textless, textless-encoded, encoded-exactly}
 use Rattle.mrd_logic.specs.Checks.{Check, first, unless}
-use Rattle.mrd_logic.specs.CheckLaws.{first-passed, first-stops, first-next, first-same, numbered, unless-refused, unless-stops}
+use Rattle.mrd_logic.specs.CheckLaws.{first-passed, first-stops, first-next, first-same, numbered, unless-stops}
 use Rattle.mrd_cursor.specs.declared.cursor.Cursor.{Cursor}
 use Rattle.mrd_judge.specs.Stages.{frontChecks, idChecks, fixedChecks, sizeChecks, textChecks, id, fixed, size, text, checksOf, checksAs}
 use Rattle.mrd_judge.specs.Judge.{Judged, faulty, whole, judgeAs, judgeBody}
@@ -135,17 +133,6 @@ size-true y z t sized q =
     let small : z ≤ limit = ltb-false limit z (passed .0) in
     (small, (ltb-false (length t) z (passed .1 .0), omega arith))
 
--- and so many bytes are a message of its kind's size
-pub taken-whole : (k : Kind) (z : ℕ) (t : List ℕ) → z ≡ capped (sizeOf k (fixedPart k t)) → first (sizeChecks z t) ≡ 0 → TakenWhole k z t
-taken-whole k z t sized q =
-    let true-size = size-true (sizeOf k (fixedPart k t)) z t sized q in
-    let least : 2 + fixedSize k ≤ z = omega (arith, size-least k (fixedPart k t), true-size .1 .1) in
-    let long : length (take z t) ≡ z = length-take-le z t (true-size .1 .0) in
-    record {
-      fits = true-size .1 .0;
-      taken = record { size = long ∙ rw (fixed-take k z t least (true-size .1 .0)) (sym (true-size .1 .1)); small = rw long (true-size .0) };
-    }
-
 -- a fixed part that passed is there
 pub fixed-fits : (k : Kind) (t : List ℕ) → first (fixedChecks k t) ≡ 0 → 2 + fixedSize k ≤ length t
 unfolding fixedChecks
@@ -177,16 +164,15 @@ module _ (p : Profile) (k : Kind) (t : List ℕ) where
         by-texts : judgeBody p k t ≡ unless (first (textChecks p k (take z t))) faulty (whole k z)
         by-texts = by-size ∙ rw (first-next (sizeChecks z t) (textChecks p k (messageAt k t)) (size-numbered z t) q, size-true _ z t sized q .1 .1)
 
-        pub text-stops : {f : ℕ} → first (textChecks p k (take z t)) ≡ f → (f ≡ 0 → ⊥) → judgeBody p k t ≡ faulty f
-        text-stops {f} x n = by-texts ∙ rw x (unless-refused f faulty (whole k z) n)
-
-        pub text-passed : first (textChecks p k (take z t)) ≡ 0 → judgeBody p k t ≡ whole k z
-        text-passed x = by-texts ∙ rw x
-
 -- the plain profile asks nothing
 pub plain-passes : (k : Kind) (m : List ℕ) → first (textChecks Plain k m) ≡ 0
 unfolding textChecks encoded
 plain-passes k m = refl
+
+-- so a message whose size passed is whole by it
+pub size-passed : (k : Kind) (t : List ℕ) → first (fixedChecks k t) ≡ 0 → {z : ℕ} → z ≡ capped (sizeOf k (fixedPart k t)) →
+    first (sizeChecks z t) ≡ 0 → judgeBody Plain k t ≡ whole k z
+size-passed k t e {z} sized q = by-texts Plain k t e sized q ∙ rw (plain-passes k (take z t))
 
 -- in the strict one the texts decide
 module _ (k : Kind) (m : List ℕ) where

@@ -3,3 +3,4 @@ pub mod Stages
 pub mod Judge
 pub mod WholeLaws
 pub mod JudgeLaws
+pub mod TextLaws

@@ -95,7 +95,7 @@ unfolding checksAs frontChecks idChecks
 unknown-refused p c t e = true≢false (first-passed (checksAs p Unknown c t) refl e .1 .1 .1 .0)
 
 -- a judgement is one or the other
-not-both : {f : ℕ} {k : Kind} {z : ℕ} → faulty f ≡ whole k z → ⊥
+pub not-both : {f : ℕ} {k : Kind} {z : ℕ} → faulty f ≡ whole k z → ⊥
 not-both e = let z : _≡_ {A = ℕ} 0 1 = cc in omega arith
 
 -- what is judged whole passes every check

@@ -5,7 +5,7 @@ ghost use Prim.Native.Nat.{_≤_, _<_};
 ghost use lib.ListN.{length, take};
 ghost use Rattle.mrd_logic.specs.Checks.{first};
 ghost use Rattle.mrd_judge.specs.Stages.{frontChecks, idChecks, fixedChecks, sizeChecks, textChecks};
-ghost use Rattle.mrd_judge.specs.Judge.{judgementMeaning, sorted, judge, judgeBody};
+ghost use Rattle.mrd_judge.specs.Judge.{judgementMeaning, sorted, judgeBy, judgeBody};
 ghost use Rattle.mrd_texts.specs.Whole.{TakenWhole};
 use crate::sort::Sort;
 use mrd_cursor::Cursor;
@@ -30,16 +30,17 @@ pub enum Judgement {
     Faulty(u8),
 }
 
-// The message at the front of t, which is not empty.
+// The message at the front of t, which is not empty, by every check but that of its texts (`judge_text`), which a walk
+// makes where the profile asks for it: this function then calls nothing and saves no register, and a check of millions
+// of small messages needs no more.
 pub fn judge(rules: Rules, c: Cursor, t: &[u8]) -> Judgement
     requires { ⌜ 0 < length (now t) ⌝ }
-    ensures { λ r. ⌜ judgementMeaning r ≡ sorted (judge rules c (now (t .entry))) ⌝ }
+    ensures { λ r. ⌜ judgementMeaning r ≡ sorted (judgeBy Profile.Plain rules c (now (t .entry))) ⌝ }
 {
     let front = judge_front(c, t);
     if front != 0 {
         return Judgement::Faulty(front);
     }
-    let profile = rules.profile;
     let identified = Kind::of_id(rules, read_u16(t, 0));
     let id = judge_id(c, identified);
     match identified {
@@ -47,7 +48,7 @@ pub fn judge(rules: Rules, c: Cursor, t: &[u8]) -> Judgement
             if id != 0 {
                 return Judgement::Faulty(id);
             }
-            judge_body(profile, kind, t)
+            judge_body(kind, t)
         }
         Identified::Unknown => Judgement::Faulty(id),
     }
@@ -86,12 +87,12 @@ pub fn judge_id(c: Cursor, identified: Identified) -> u8
     }
 }
 
-// A message of a known kind, by its last three stages. Whether its size passes is tested here, and the number is
+// A message of a known kind, by its fixed part and its size. Whether the last passes is tested here, and its number is
 // worked out only where it does not: nearly every message passes, and two tests are faster than a number compared
 // with 0.
-fn judge_body(profile: Profile, kind: Kind, t: &[u8]) -> Judgement
+fn judge_body(kind: Kind, t: &[u8]) -> Judgement
     requires { ⌜ 2 ≤ length (now t) ⌝ }
-    ensures { λ r. ⌜ judgementMeaning r ≡ sorted (judgeBody profile kind (now (t .entry))) ⌝ }
+    ensures { λ r. ⌜ judgementMeaning r ≡ sorted (judgeBody Profile.Plain kind (now (t .entry))) ⌝ }
 {
     let fixed = judge_fixed(kind, t);
     if fixed != 0 {
@@ -103,10 +104,6 @@ fn judge_body(profile: Profile, kind: Kind, t: &[u8]) -> Judgement
     }
     if t.len() < end {
         return Judgement::Faulty(judge_size(end, t));
-    }
-    let text = judge_text(profile, kind, t, end);
-    if text != 0 {
-        return Judgement::Faulty(text);
     }
     Judgement::Whole(Sort::of(kind), end)
 }
@@ -146,8 +143,7 @@ pub fn judge_text(profile: Profile, kind: Kind, t: &[u8], size: usize) -> u8
     }
 }
 
-// The same in the strict profile. What reads the text is a function of its own, called for each kind that has one, so
-// that the compiler keeps it, and the registers that it saves, out of the plain profile's way.
+// The same in the strict profile: a kind without a text has none to read.
 fn judge_strict(kind: Kind, t: &[u8], size: usize) -> u8
     requires { ⌜ TakenWhole kind size (now t) ⌝ }
     ensures { λ r. ⌜ r ≡ first (textChecks Profile.Strict kind (take size (now (t .entry)))) ⌝ }

@@ -121,6 +121,12 @@ first-decides cs ds {f = suc f} e n = first-stops cs ds e
 pub first-next : (cs ds : List Check) → numbered cs ≡ true → first cs ≡ 0 → first (cs ++ ds) ≡ first ds
 first-next cs ds n e = first-skip cs ds (first-passed cs n e)
 
+-- checks that pass decide nothing after others
+pub first-pads : (cs ds : List Check) → first ds ≡ 0 → first (cs ++ ds) ≡ first cs
+first-pads [] ds e = e
+first-pads ((f when true) ∷ cs) ds e = refl
+first-pads ((f when false) ∷ cs) ds e = first-pads cs ds e
+
 -- checks with the same first number decide alike among more
 pub first-same : (cs ds es : List Check) → numbered cs ≡ true → numbered ds ≡ true → first cs ≡ first ds → first (cs ++ es) ≡ first (ds ++ es)
 first-same cs ds es n m e = by (first cs) refl

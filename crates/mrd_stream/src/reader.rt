@@ -17,19 +17,22 @@ use crate::answer::Refusal;
 use crate::answer::Step;
 use mrd_cursor::Cursor;
 use mrd_format::Kind;
+use mrd_format::Profile;
 use mrd_format::Rules;
 use mrd_format::refusal;
 use mrd_judge::Judgement;
 use mrd_judge::judge;
+use mrd_judge::judge_text;
 use mrd_message::fixed_part;
 
 // One step over the stream s: the message that is due at c, with its place and kind and the cursor of
 // what follows, or the stream's answer. From Cursor::beginning() on, the steps hand out the stream's
 // messages in order and then its answer; any other cursor gets some answer too. A step reads the fixed
-// part of one message and none of its payload.
+// part of one message, and of its payload in the strict profile the text alone.
 pub fn next(rules: Rules, c: Cursor, s: &[u8]) -> Step
     ensures { λ r. ⌜ stepMeaning r ≡ step rules c (now (s .entry)) ⌝ }
 {
+    let profile = rules.profile;
     let start = c.start;
     if start >= s.len() {
         return Step::End(ended(c));
@@ -38,6 +41,10 @@ pub fn next(rules: Rules, c: Cursor, s: &[u8]) -> Step
     match judgement {
         Judgement::Whole(sort, size) => {
             let kind = sort.kind(rules);
+            let text = judge_text(profile, kind, &s[start..], size);
+            if text != 0 {
+                return Step::End(refused(c, text));
+            }
             yields(c, kind, fixed_part(kind, &s[start..]), size)
         }
         Judgement::Faulty(number) => Step::End(refused(c, number)),
@@ -94,6 +101,36 @@ pub fn check(rules: Rules, s: &[u8]) -> Checked
 // Checks what a walk still has before it: the answer that its steps from c on end in. Where c comes
 // from a walk over s, that is the stream's answer; any other cursor gets some answer too.
 pub fn check_from(rules: Rules, c: Cursor, s: &[u8]) -> Checked
+    ensures { λ r. ⌜ checkedMeaning r ≡ verdict (from rules c (now (s .entry))) ⌝ }
+{
+    let profile = rules.profile;
+    match profile {
+        Profile::Plain => check_plain(rules, c, s),
+        Profile::Strict => check_strict(rules, c, s),
+    }
+}
+
+// The same by steps, whatever the profile.
+fn check_strict(rules: Rules, c: Cursor, s: &[u8]) -> Checked
+    ensures { λ r. ⌜ checkedMeaning r ≡ verdict (from rules c (now (s .entry))) ⌝ }
+{
+    let mut c = c;
+    loop {
+        let step = next(rules, c, s);
+        match step {
+            Step::Message(_, after) => {
+                c = after;
+            }
+            Step::End(answer) => {
+                return answer;
+            }
+        }
+    }
+}
+
+// The same in the plain profile, with no record made and no text looked at.
+fn check_plain(rules: Rules, c: Cursor, s: &[u8]) -> Checked
+    requires { ⌜ rules .profile ≡ Profile.Plain ⌝ }
     ensures { λ r. ⌜ checkedMeaning r ≡ verdict (from rules c (now (s .entry))) ⌝ }
 {
     let mut c = c;

@@ -4,13 +4,13 @@ use mathlib.Core.Path.{sym, ap, _∙_}
 use borrow.Author.Needs.{needs}
 use denote.Ref.{now}
 use Rattle.mrd_format.specs.Kinds.{identified}
-use Rattle.mrd_judge.specs.Judge.{judge, sorted}
+use Rattle.mrd_judge.specs.Judge.{judgeBy, sorted}
 use Rattle.mrd_judge.specs.JudgeLaws as laws
 use Rattle.mrd_judge.proofs.stages.judge.Statement.{statement}
 use Rattle.mrd_judge.proofs.stages.judge.Tie as tie
 
 returns : tie.Need-returns
-unfolding judge
+unfolding judgeBy
 returns c =
     let a = c .before .before .before .args in
     ap sorted (sym (laws.front-stops _ _ (a .c) (now (a .t)) (sym (c .before .judge-front .ensures)) (c .if1 .taken)))
@@ -21,7 +21,7 @@ read-u16-requires c κs =
     laws.front-two (start .args .c) (now (start .args .t)) (start .pre) (sym (c .before .judge-front .ensures) ∙ c .if1 .left)
 
 returns-2 : tie.Need-returns-2
-unfolding judge
+unfolding judgeBy
 returns-2 c =
     let known = c .before .before in
     let id = known .before .before in
@@ -38,7 +38,7 @@ judge-body-requires c κs =
     laws.front-two (start .args .c) (now (start .args .t)) (start .pre) (sym (test .before .judge-front .ensures) ∙ test .if1 .left)
 
 returns-3 : tie.Need-returns-3
-unfolding judge
+unfolding judgeBy
 returns-3 c =
     let known = c .before .before .before in
     let id = known .before .before in
@@ -49,7 +49,7 @@ returns-3 c =
     (sym (rw (known .identified .given .1) at (id .judge-id .ensures)) ∙ c .before .if2 .left))))
 
 returns-4 : tie.Need-returns-4
-unfolding judge
+unfolding judgeBy
 returns-4 c =
     let id = c .before .before in
     let test = id .before .before .before in

@@ -8,6 +8,7 @@ use Prim.Native.Nat.{ℕ}
 use mathlib.Core.List.{List}
 use Rattle.mrd_format.specs.Message.{sizeOf}
 use Rattle.mrd_format.specs.Sizes.{capped}
+use Rattle.mrd_format.specs.declared.rules.Profile.the-variants.{Plain}
 use Rattle.mrd_judge.specs.Judge.{sorted}
 use Rattle.mrd_judge.specs.JudgeLaws as laws
 use Rattle.mrd_judge.proofs.stages.judge_body.Statement.{statement}
@@ -16,7 +17,7 @@ use Rattle.mrd_judge.proofs.stages.judge_body.Tie as tie
 returns : tie.Need-returns
 returns c =
     let a = c .before .before .before .args in
-    ap sorted (sym (laws.fixed-stops (a .profile) (a .kind) (now (a .t)) (sym (c .before .judge-fixed .ensures)) (c .if1 .taken)))
+    ap sorted (sym (laws.fixed-stops Plain (a .kind) (now (a .t)) (sym (c .before .judge-fixed .ensures)) (c .if1 .taken)))
 
 fixed-part-requires : tie.Need-fixed-part-requires
 fixed-part-requires c κs =
@@ -36,7 +37,7 @@ returns-2 c =
     let sized = large .before in
     let test = sized .before .before in
     let a = test .before .before .before .args in
-    ap sorted (sym (laws.size-stops (a .profile) (a .kind) (now (a .t)) (sym (test .before .judge-fixed .ensures) ∙ test .if1 .left)
+    ap sorted (sym (laws.size-stops Plain (a .kind) (now (a .t)) (sym (test .before .judge-fixed .ensures) ∙ test .if1 .left)
     (sized .size .ensures ∙ ap (λ (h : List ℕ). capped (sizeOf (a .kind) h)) (sized .before .fixed-part .ensures))
     (sym (c .judge-size .ensures)) (λ z. laws.size-large _ _ (large .if2 .taken) (sym (c .judge-size .ensures) ∙ z))))
 
@@ -46,38 +47,19 @@ returns-3 c =
     let sized = short .before .before in
     let test = sized .before .before in
     let a = test .before .before .before .args in
-    ap sorted (sym (laws.size-stops (a .profile) (a .kind) (now (a .t)) (sym (test .before .judge-fixed .ensures) ∙ test .if1 .left)
+    ap sorted (sym (laws.size-stops Plain (a .kind) (now (a .t)) (sym (test .before .judge-fixed .ensures) ∙ test .if1 .left)
     (sized .size .ensures ∙ ap (λ (h : List ℕ). capped (sizeOf (a .kind) h)) (sized .before .fixed-part .ensures))
     (sym (c .judge-size2 .ensures)) (λ z. laws.size-short _ _ (short .if3 .taken) (sym (c .judge-size2 .ensures) ∙ z))))
 
-judge-text-requires : tie.Need-judge-text-requires
-judge-text-requires c κs =
-    let sized = c .before .before in
-    let a = sized .before .before .before .before .before .args in
-    laws.taken-whole (a .kind) (sized .size .result) (now (a .t))
-    (sized .size .ensures ∙ ap (λ (h : List ℕ). capped (sizeOf (a .kind) h)) (sized .before .fixed-part .ensures))
-    (laws.size-fits _ _ (c .before .if2 .left) (c .if3 .left))
-
 returns-4 : tie.Need-returns-4
 returns-4 c =
-    let whole = c .before .before in
-    let sized = whole .before .before in
-    let test = sized .before .before in
-    let a = test .before .before .before .args in
-    ap sorted (sym (laws.text-stops (a .profile) (a .kind) (now (a .t)) (sym (test .before .judge-fixed .ensures) ∙ test .if1 .left)
-    (sized .size .ensures ∙ ap (λ (h : List ℕ). capped (sizeOf (a .kind) h)) (sized .before .fixed-part .ensures))
-    (laws.size-fits _ _ (whole .before .if2 .left) (whole .if3 .left)) (sym (c .before .judge-text .ensures)) (c .if4 .taken)))
-
-returns-5 : tie.Need-returns-5
-returns-5 c =
-    let whole = c .before .before .before in
-    let sized = whole .before .before in
+    let sized = c .before .before .before in
     let test = sized .before .before in
     let a = test .before .before .before .args in
     rw (c .of .ensures)
-    (ap sorted (sym (laws.text-passed (a .profile) (a .kind) (now (a .t)) (sym (test .before .judge-fixed .ensures) ∙ test .if1 .left)
+    (ap sorted (sym (laws.size-passed (a .kind) (now (a .t)) (sym (test .before .judge-fixed .ensures) ∙ test .if1 .left)
     (sized .size .ensures ∙ ap (λ (h : List ℕ). capped (sizeOf (a .kind) h)) (sized .before .fixed-part .ensures))
-    (laws.size-fits _ _ (whole .before .if2 .left) (whole .if3 .left)) (sym (c .before .before .judge-text .ensures) ∙ c .before .if4 .left))))
+    (laws.size-fits _ _ (c .before .before .if2 .left) (c .before .if3 .left)))))
 
 pub judge-body-spec : {M : Type 1} → statement M
 judge-body-spec =
@@ -91,7 +73,5 @@ judge-body-spec =
     returns-2
     (λ c κs. search needs)
     returns-3
-    judge-text-requires
-    returns-4
     (λ c κs. search needs)
-    returns-5)
+    returns-4)

@@ -1,14 +1,16 @@
 -- `mrd_normal::messages::put_messages` meets its contract. The loop's invariant: out holds the normal form of the messages that were passed, and
 -- then what was there before. The measure is the bytes of the stream left.
 -- Assumes nothing.
-use Prim.Native.Nat.{_+_, _-_, _≤_}
+use Prim.Native.Nat.{ℕ, _+_, _-_, _≤_}
 use native.Mathlib.Omega.{arith}
+use mathlib.Core.Path.{_≡_}
 use borrow.Author.Needs.{needs}
 use denote.Ref.{now}
 use lib.ListN.{length, take, drop}
 use Rattle.mrd_numbers.specs.Stored.{part-from}
 use Rattle.mrd_cursor.specs.Cursors.{after}
-use Rattle.mrd_judge.specs.WholeLaws as judged
+use Rattle.mrd_judge.specs.Judge.{judge, faulty}
+use Rattle.mrd_judge.specs.TextLaws.{faulty-too, never-faulty}
 use Rattle.mrd_stream.specs.NextLaws as laws
 use Rattle.mrd_stream.specs.StepLaws.{Passes, step-yields, on-less}
 use Rattle.mrd_stream.specs.Places.{located}
@@ -46,7 +48,9 @@ passes c =
     let a = test .before .before .before .before .before .args in
     let s = now (a .s) in
     let told = rw part-from at (rw (c .before .before .judgement .given .1) at (c .before .before .before .before .judge .ensures)) in
-    let due = rw (← c .kind .ensures) at (judged.found-whole (a .rules) (loop .c) (drop (loop .c .start) s) told) in
+    let accepted : (f : ℕ) → judge (a .rules) (loop .c) (drop (loop .c .start) s) ≡ faulty f → ⊥ =
+    λ f e. never-refused (loop .inv) (laws.step-faulty (a .rules) (loop .c) s (test .if1 .left) e) in
+    let due = rw (← c .kind .ensures) at (never-faulty (a .rules) (loop .c) (drop (loop .c .start) s) told accepted) in
     step-yields (a .rules) (loop .c) s (laws.step-whole (a .rules) (loop .c) s (test .if1 .left) due)
 
 -- it ends in the stream, and so in the output
@@ -104,7 +108,7 @@ never c =
     let rules = test .before .before .before .before .before .args .rules in
     let s = now (test .before .before .before .before .before .args .s) in
     let told = rw part-from at (rw (c .enum-told .given .1) at (c .before .before .judge .ensures)) in
-    let due = judged.found-faulty rules (loop .c) (drop (loop .c .start) s) told in
+    let due = faulty-too rules (loop .c) (drop (loop .c .start) s) told in
     never-refused (loop .inv) (laws.step-faulty rules (loop .c) s (test .if1 .left) due)
 
 same-length-2 : tie.Need-same-length-2 Inv-loop μ-loop

@@ -20,12 +20,12 @@
  * data are little-endian too. A view starts at any byte, so it may not be aligned: a cast to float * is undefined.
  * mrd_load_complex and mrd_load_float read from any address.
  *
- * Cost: a question by record number (mrd_place, mrd_view, mrd_field, mrd_find) first walks the whole stream, and an
- * index that is given is compared with all of it: it shows that stream and index belong together, and makes no
- * question faster. For many records walk once: mrd_next, mrd_view_at and mrd_field_at take time that does not grow
- * with the stream. For many records in any order have mrd_columns_match compare columns once; mrd_cursor_for then
- * makes the cursor of each. In the strict profile each message that is walked, or stood at, has its text or attributes
- * read whole, and a name; in the plain one no text and no attributes are read.
+ * Cost: a question by record number (mrd_place, mrd_view, mrd_field, mrd_find) or by a byte's (mrd_part_at) first
+ * walks the whole stream, and an index that is given is compared with all of it: it shows that stream and index belong
+ * together, and makes no question faster. For many records walk once: mrd_next, mrd_view_at and mrd_field_at take time
+ * that does not grow with the stream. For many records in any order have mrd_columns_match compare columns once;
+ * mrd_cursor_for then makes the cursor of each. In the strict profile each message that is walked, or stood at, has its
+ * text or attributes read whole, and a name; in the plain one no text and no attributes are read.
  *
  * The library is for x86-64 and its usual calling convention (System V) alone. */
 #ifndef COTTERLEAF_H
@@ -123,7 +123,7 @@ mrd_checked mrd_check_from(mrd_rules rules, const uint8_t *stream, size_t stream
 
 /* ---- What does a record hold? ---- */
 
-/* A part of a record. Any other number is a part that no record has. */
+/* A part of a record that a view shows. In a question any other number is a part that no record has. */
 enum {
     MRD_PART_NAME = 1,
     MRD_PART_TEXT = 2,
@@ -188,6 +188,32 @@ typedef struct {
 
 mrd_cursor_answer mrd_cursor_for(mrd_rules rules, const uint64_t *starts, size_t starts_length,
                                  const uint16_t *ids, size_t ids_length, size_t n);
+
+/* ---- Which record and part does a byte belong to? ---- */
+
+/* The parts that no view shows. With those of a view they are all: every byte of an accepted stream belongs to exactly
+ * one part of exactly one record. An empty part holds no byte. */
+enum {
+    MRD_PART_ID = 8,
+    MRD_PART_LENGTH = 9,    /* a text's length, or the 8-byte length of an image's attributes */
+    MRD_PART_HEADER = 10,   /* whole, its own attribute length and filler included */
+    MRD_PART_NAME_REST = 11 /* what follows a name in its 1,024 bytes, from its zero on */
+};
+
+/* The record and the part that a byte belongs to, by its number from 0 in the stream; 16 where the stream has no such
+ * byte. On a refusal `place` carries the same refusal, record and byte. mrd_element_name has the name of an element. */
+typedef struct {
+    mrd_refusal refusal;
+    size_t record, byte;
+    mrd_placed place;      /* the record */
+    uint32_t part;         /* MRD_PART_.., of a view or not */
+    size_t channel;        /* of MRD_PART_CHANNEL */
+    size_t start, length;  /* the part is stream + start, `length` bytes */
+    size_t element_offset; /* of MRD_PART_HEADER: the element that has the byte, by its offset as mrd_field takes it, */
+    size_t element_size;   /* and its size; both 0 where the byte is filler */
+} mrd_part_answer;
+
+mrd_part_answer mrd_part_at(mrd_rules rules, const uint8_t *stream, size_t stream_length, size_t byte);
 
 /* ---- The same questions with an index given: 15 where it is not the stream's own ---- */
 

@@ -3,12 +3,14 @@
 #ifndef COTTERLEAF_NAMES_H
 #define COTTERLEAF_NAMES_H
 
+#include <stdbool.h>
+#include <stddef.h>
 #include <stdint.h>
 
 #define COTTERLEAF_VERSION_MAJOR 0
-#define COTTERLEAF_VERSION_MINOR 4
+#define COTTERLEAF_VERSION_MINOR 5
 #define COTTERLEAF_VERSION_PATCH 0
-#define COTTERLEAF_VERSION "0.4.0"
+#define COTTERLEAF_VERSION "0.5.0"
 
 /* The numbers of refusal, and 0 where nothing is refused. mrd_refusal_text says what to do about each. */
 typedef enum mrd_refusal {
@@ -56,7 +58,7 @@ static inline const char *mrd_refusal_text(uint32_t refusal)
         "the stream ends without a close; wait for the rest, or add a close (04 00) if the recording is over",
         "the output is too short, or the position is past its end; give a longer output",
         "the index that was given is not the one that this stream yields; write the index again, or ask without one",
-        "there is no such record; ask for a record number below the count, or for counters that an acquisition has",
+        "there is no such record, or no such byte; ask for a record number below the count, for counters that an acquisition has, or for a byte below the stream's length",
         "the record has no such part or channel; ask for a part of the record's kind, or a channel below its number of active channels",
         "a part to be written has another length than its header says, or its kind lacks it; give the kind's own parts in their lengths, and leave the others empty",
         "a message begins after 1,000,000 messages; close the stream before it, and begin another",
@@ -200,6 +202,143 @@ enum {
     MRD_COUNTER_USER_7 = 16,
     MRD_COUNTERS = 17                     /* how many there are */
 };
+
+/* Elements by the offset at which they start, for mrd_element_name. */
+typedef struct {
+    size_t offset;
+    const char *name;
+} mrd_element;
+
+static inline const char *mrd_element_in(const mrd_element *elements, size_t count, size_t offset)
+{
+    for (size_t i = 0; i < count; i++)
+        if (elements[i].offset == offset)
+            return elements[i].name;
+    return NULL;
+}
+
+static inline const char *mrd_acquisition_element_name(size_t offset)
+{
+    static const mrd_element elements[] = {
+        {0, "version"},
+        {2, "flags"},
+        {10, "measurement_uid"},
+        {14, "scan_counter"},
+        {18, "acquisition_time_stamp"},
+        {22, "physiology_time_stamp[0]"}, {26, "physiology_time_stamp[1]"}, {30, "physiology_time_stamp[2]"},
+        {34, "number_of_samples"},
+        {36, "available_channels"},
+        {38, "active_channels"},
+        {40, "channel_mask[0]"}, {48, "channel_mask[1]"}, {56, "channel_mask[2]"}, {64, "channel_mask[3]"},
+        {72, "channel_mask[4]"}, {80, "channel_mask[5]"}, {88, "channel_mask[6]"}, {96, "channel_mask[7]"},
+        {104, "channel_mask[8]"}, {112, "channel_mask[9]"}, {120, "channel_mask[10]"}, {128, "channel_mask[11]"},
+        {136, "channel_mask[12]"}, {144, "channel_mask[13]"}, {152, "channel_mask[14]"}, {160, "channel_mask[15]"},
+        {168, "discard_pre"},
+        {170, "discard_post"},
+        {172, "center_sample"},
+        {174, "encoding_space_ref"},
+        {176, "trajectory_dimensions"},
+        {178, "sample_time_us"},
+        {182, "position[0]"}, {186, "position[1]"}, {190, "position[2]"},
+        {194, "read_dir[0]"}, {198, "read_dir[1]"}, {202, "read_dir[2]"},
+        {206, "phase_dir[0]"}, {210, "phase_dir[1]"}, {214, "phase_dir[2]"},
+        {218, "slice_dir[0]"}, {222, "slice_dir[1]"}, {226, "slice_dir[2]"},
+        {230, "patient_table_position[0]"}, {234, "patient_table_position[1]"}, {238, "patient_table_position[2]"},
+        {242, "counters.kspace_encode_step_1"}, {244, "counters.kspace_encode_step_2"}, {246, "counters.average"},
+        {248, "counters.slice"}, {250, "counters.contrast"}, {252, "counters.phase"}, {254, "counters.repetition"},
+        {256, "counters.set"}, {258, "counters.segment"}, {260, "counters.user[0]"}, {262, "counters.user[1]"},
+        {264, "counters.user[2]"}, {266, "counters.user[3]"}, {268, "counters.user[4]"}, {270, "counters.user[5]"},
+        {272, "counters.user[6]"}, {274, "counters.user[7]"},
+        {276, "user_int[0]"}, {280, "user_int[1]"}, {284, "user_int[2]"}, {288, "user_int[3]"},
+        {292, "user_int[4]"}, {296, "user_int[5]"}, {300, "user_int[6]"}, {304, "user_int[7]"},
+        {308, "user_float[0]"}, {312, "user_float[1]"}, {316, "user_float[2]"}, {320, "user_float[3]"},
+        {324, "user_float[4]"}, {328, "user_float[5]"}, {332, "user_float[6]"}, {336, "user_float[7]"}
+    };
+    return mrd_element_in(elements, sizeof elements / sizeof elements[0], offset);
+}
+
+static inline const char *mrd_image_element_name(size_t offset)
+{
+    static const mrd_element elements[] = {
+        {0, "version"},
+        {2, "data_type"},
+        {4, "flags"},
+        {12, "measurement_uid"},
+        {16, "matrix_size[0]"}, {18, "matrix_size[1]"}, {20, "matrix_size[2]"},
+        {22, "field_of_view[0]"}, {26, "field_of_view[1]"}, {30, "field_of_view[2]"},
+        {34, "channels"},
+        {36, "position[0]"}, {40, "position[1]"}, {44, "position[2]"},
+        {48, "read_dir[0]"}, {52, "read_dir[1]"}, {56, "read_dir[2]"},
+        {60, "phase_dir[0]"}, {64, "phase_dir[1]"}, {68, "phase_dir[2]"},
+        {72, "slice_dir[0]"}, {76, "slice_dir[1]"}, {80, "slice_dir[2]"},
+        {84, "patient_table_position[0]"}, {88, "patient_table_position[1]"}, {92, "patient_table_position[2]"},
+        {96, "average"},
+        {98, "slice"},
+        {100, "contrast"},
+        {102, "phase"},
+        {104, "repetition"},
+        {106, "set"},
+        {108, "acquisition_time_stamp"},
+        {112, "physiology_time_stamp[0]"}, {116, "physiology_time_stamp[1]"}, {120, "physiology_time_stamp[2]"},
+        {124, "image_type"},
+        {126, "image_index"},
+        {128, "image_series_index"},
+        {130, "user_int[0]"}, {134, "user_int[1]"}, {138, "user_int[2]"}, {142, "user_int[3]"},
+        {146, "user_int[4]"}, {150, "user_int[5]"}, {154, "user_int[6]"}, {158, "user_int[7]"},
+        {162, "user_float[0]"}, {166, "user_float[1]"}, {170, "user_float[2]"}, {174, "user_float[3]"},
+        {178, "user_float[4]"}, {182, "user_float[5]"}, {186, "user_float[6]"}, {190, "user_float[7]"},
+        {194, "attribute_string_len"}
+    };
+    return mrd_element_in(elements, sizeof elements / sizeof elements[0], offset);
+}
+
+static inline const char *mrd_waveform_element_name(size_t offset)
+{
+    static const mrd_element elements[] = {
+        {0, "version"},
+        {2, "flags"},
+        {10, "measurement_uid"},
+        {14, "scan_counter"},
+        {18, "time_stamp"},
+        {22, "number_of_samples"},
+        {24, "channels"},
+        {26, "sample_time_us"},
+        {30, "waveform_id"}
+    };
+    return mrd_element_in(elements, sizeof elements / sizeof elements[0], offset);
+}
+
+static inline const char *mrd_aligned_waveform_element_name(size_t offset)
+{
+    static const mrd_element elements[] = {
+        {0, "version"},
+        {8, "flags"},
+        {16, "measurement_uid"},
+        {20, "scan_counter"},
+        {24, "time_stamp"},
+        {28, "number_of_samples"},
+        {30, "channels"},
+        {32, "sample_time_us"},
+        {36, "waveform_id"}
+    };
+    return mrd_element_in(elements, sizeof elements / sizeof elements[0], offset);
+}
+
+/* The name of the header element that starts at an offset, as ISMRMRD spells it: "flags", "user_int[3]", of a
+ * counter "counters.slice". NULL where none starts there, and for a kind without a header. */
+static inline const char *mrd_element_name(uint16_t id, bool aligned_waveforms, size_t offset)
+{
+    switch (id) {
+    case MRD_ID_ACQUISITION:
+        return mrd_acquisition_element_name(offset);
+    case MRD_ID_IMAGE:
+        return mrd_image_element_name(offset);
+    case MRD_ID_WAVEFORM:
+        return aligned_waveforms ? mrd_aligned_waveform_element_name(offset) : mrd_waveform_element_name(offset);
+    default:
+        return NULL;
+    }
+}
 
 /* The acquisition flags, for mrd_flag_test and its like. Flag n is bit n - 1. */
 enum {

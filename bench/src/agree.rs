@@ -3,7 +3,7 @@
 
 use crate::baseline::reader::{self, Met};
 use crate::baseline::strict::{self, NOT_UTF8};
-use crate::baseline::{index, normal, questions, writer::Message};
+use crate::baseline::{index, normal, parts, questions, writer::Message};
 use crate::library;
 use crate::texts::{self, Script};
 use second_reader::Rules;
@@ -26,6 +26,7 @@ pub fn on_drawn_streams(count: usize, seed: u64) {
         let stream = streams::joined(&messages);
         on_stream(&mut rng, &stream).expect("a well-formed stream");
         on_every_offset(&stream, round % messages.len());
+        on_every_byte(&stream);
         let damage = round % streams::DAMAGES.len();
         let damaged = streams::damaged(RULES, &mut rng, damage, 6_000);
         let _ = on_stream(&mut rng, &damaged);
@@ -96,6 +97,8 @@ fn on_stream(rng: &mut Rng, stream: &[u8]) -> Result<usize, crate::baseline::Ref
             questions::find(stream, n, &asked)
         );
     }
+    let byte = rng.below(stream.len() as u64 + 2) as usize;
+    assert_eq!(library::part_at(stream, byte), parts::part_at(stream, byte));
     on_normal_form(stream);
     on_index(rng, stream);
     answer
@@ -106,6 +109,15 @@ fn on_every_offset(stream: &[u8], n: usize) {
     for offset in 0..=342 {
         let answer = library::field(stream, n, offset);
         assert_eq!(questions::field(stream, n, offset), answer);
+    }
+}
+
+/// The part of each byte, and that there is none past the end.
+fn on_every_byte(stream: &[u8]) {
+    for byte in 0..=stream.len() {
+        let answer = library::part_at(stream, byte);
+        assert_eq!(parts::part_at(stream, byte), answer);
+        assert_eq!(answer.is_ok(), byte < stream.len());
     }
 }
 

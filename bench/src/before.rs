@@ -1,6 +1,6 @@
 //! Check and walk beside those of an older library, on the same bytes in the same run. The functions are declared as that
-//! library has them: before request E9 the rules had the layout alone, and texts might hold any bytes. So the present
-//! library is asked by the plain profile, and both with packed waveform headers.
+//! library has them: before request E12, in version 0.4.0, the rules are those of today. Both libraries are asked by the
+//! plain profile and with packed waveform headers.
 
 use crate::library::{self, Cursor};
 use crate::operations::{library_walk, taken, walked_by, Measured};
@@ -14,10 +14,12 @@ use std::hint::black_box;
 #[derive(Clone, Copy)]
 struct Rules {
     aligned_waveforms: bool,
+    strict_text: bool,
 }
 
 const PACKED: Rules = Rules {
     aligned_waveforms: false,
+    strict_text: false,
 };
 
 extern "C" {

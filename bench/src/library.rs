@@ -1,6 +1,7 @@
 //! The proved library by its C functions, answering in the baseline's types so that the two can be compared. Waveform
 //! headers are packed, as the baseline has them, and texts may hold any bytes where nothing else is said.
 
+use crate::baseline::parts::Belongs;
 use crate::baseline::questions::Field;
 use crate::baseline::reader::Met;
 use crate::baseline::writer::Message;
@@ -110,6 +111,19 @@ fn field_of(a: raw::mrd_field_answer) -> Result<Field, Refusal> {
 pub fn find(stream: &[u8], n: usize, counters: &[u16; 17]) -> Result<usize, Refusal> {
     let a = raw::find(PACKED, stream, n, counters);
     answer(a.refusal, a.record, a.byte, a.number)
+}
+
+pub fn part_at(stream: &[u8], byte: usize) -> Result<Belongs, Refusal> {
+    let a = raw::part_at(PACKED, stream, byte);
+    let belongs = Belongs {
+        record: a.place.number,
+        part: a.part,
+        channel: a.channel,
+        start: a.start,
+        length: a.length,
+        element: (a.element_offset, a.element_size),
+    };
+    answer(a.refusal, a.record, a.byte, belongs)
 }
 
 pub fn normal_form(stream: &[u8], out: &mut [u8]) -> Result<usize, Refusal> {

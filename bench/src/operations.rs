@@ -2,7 +2,7 @@
 //! answer or write the same bytes, then times both.
 
 use crate::baseline::reader::{self, Met};
-use crate::baseline::{index, normal, questions, strict, writer::Message};
+use crate::baseline::{index, normal, parts, questions, strict, writer::Message};
 use crate::library::{self, Cursor};
 use crate::made;
 use crate::table::{Row, Unit};
@@ -41,6 +41,8 @@ impl Measured<'_> {
             self.field(),
             self.field_at(),
             self.find(),
+            self.part_at("part at a byte, middle", self.stream.len() / 2),
+            self.part_at("part at a byte, last", self.stream.len() - 1),
             self.normal_form(out),
             self.normal_form_against_copy(out),
             self.write(out),
@@ -139,6 +141,19 @@ impl Measured<'_> {
             &mut || taken(questions::find(black_box(s), 0, &asked)),
         );
         self.row("find", Unit::PerMessage, times)
+    }
+
+    fn part_at(&self, operation: &'static str, byte: usize) -> Row {
+        let s = self.stream;
+        let answer = parts::part_at(s, byte);
+        assert!(answer.is_ok());
+        assert_eq!(library::part_at(s, byte), answer);
+        let times = alternately(
+            self.effort,
+            &mut || taken(library::part_at(black_box(s), byte)),
+            &mut || taken(parts::part_at(black_box(s), byte)),
+        );
+        self.row(operation, Unit::PerMessage, times)
     }
 
     fn normal_form(&self, out: &mut [u8]) -> Row {

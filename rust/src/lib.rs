@@ -37,8 +37,9 @@
 //! ```
 //!
 //! A question by record number ([`Stream::place`], [`Stream::view`], [`Stream::field`], [`Stream::find`]) first walks
-//! the whole stream, and an index that is given is compared with all of it. Any calls may run at the same time: the
-//! library keeps nothing between them.
+//! the whole stream, and an index that is given is compared with all of it; so does one by a byte's number
+//! ([`Stream::part_at`]), which looks at no index. Any calls may run at the same time: the library keeps nothing between
+//! them.
 //!
 //! docs/FORMAT.md of the repository describes the stream and every refusal.
 
@@ -51,6 +52,7 @@ mod headers;
 mod index;
 mod message;
 mod names;
+mod part_at;
 // The C interface as it is, for tests and benchmarks.
 #[doc(hidden)]
 #[allow(unsafe_code, missing_docs)]
@@ -66,8 +68,10 @@ pub use flags::{counter_step, flag_clear, flag_set, flag_test};
 pub use headers::{AcquisitionHeader, ImageHeader, WaveformHeader};
 pub use index::Index;
 pub use message::Message;
+pub use names::element_name;
 pub use names::{acquisition_flag, counter, data_type, id, image_type, offset, refused};
 pub use names::{MAX_MESSAGES, MAX_MESSAGE_SIZE};
+pub use part_at::{HeaderPiece, MessagePart, PartAt};
 pub use record::{Field, Kind, Mask, Part, Record};
 pub use refusal::{Fault, Refusal};
 pub use rules::{Layout, Profile, Rules};

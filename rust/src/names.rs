@@ -1,6 +1,8 @@
 //! Names and numbers of MRD message streams.
 //! Written by tests/names from the definitions in crates/: change those, not this file.
 
+use crate::rules::Layout;
+
 /// The numbers of refusal.
 pub mod refused {
     /// One byte remains where an id is due.
@@ -110,8 +112,8 @@ pub(crate) const SENTENCES: [(&str, &str); 21] = [
         "write the index again, or ask without one",
     ),
     (
-        "there is no such record",
-        "ask for a record number below the count, or for counters that an acquisition has",
+        "there is no such record, or no such byte",
+        "ask for a record number below the count, for counters that an acquisition has, or for a byte below the stream's length",
     ),
     (
         "the record has no such part or channel",
@@ -349,6 +351,191 @@ pub mod counter {
     pub const USER_6: usize = 15;
     /// `user_7`.
     pub const USER_7: usize = 16;
+}
+
+/// The elements of the acquisition header.
+const ACQUISITION_ELEMENTS: [(usize, &str); 81] = [
+    (0, "version"),
+    (2, "flags"),
+    (10, "measurement_uid"),
+    (14, "scan_counter"),
+    (18, "acquisition_time_stamp"),
+    (22, "physiology_time_stamp[0]"),
+    (26, "physiology_time_stamp[1]"),
+    (30, "physiology_time_stamp[2]"),
+    (34, "number_of_samples"),
+    (36, "available_channels"),
+    (38, "active_channels"),
+    (40, "channel_mask[0]"),
+    (48, "channel_mask[1]"),
+    (56, "channel_mask[2]"),
+    (64, "channel_mask[3]"),
+    (72, "channel_mask[4]"),
+    (80, "channel_mask[5]"),
+    (88, "channel_mask[6]"),
+    (96, "channel_mask[7]"),
+    (104, "channel_mask[8]"),
+    (112, "channel_mask[9]"),
+    (120, "channel_mask[10]"),
+    (128, "channel_mask[11]"),
+    (136, "channel_mask[12]"),
+    (144, "channel_mask[13]"),
+    (152, "channel_mask[14]"),
+    (160, "channel_mask[15]"),
+    (168, "discard_pre"),
+    (170, "discard_post"),
+    (172, "center_sample"),
+    (174, "encoding_space_ref"),
+    (176, "trajectory_dimensions"),
+    (178, "sample_time_us"),
+    (182, "position[0]"),
+    (186, "position[1]"),
+    (190, "position[2]"),
+    (194, "read_dir[0]"),
+    (198, "read_dir[1]"),
+    (202, "read_dir[2]"),
+    (206, "phase_dir[0]"),
+    (210, "phase_dir[1]"),
+    (214, "phase_dir[2]"),
+    (218, "slice_dir[0]"),
+    (222, "slice_dir[1]"),
+    (226, "slice_dir[2]"),
+    (230, "patient_table_position[0]"),
+    (234, "patient_table_position[1]"),
+    (238, "patient_table_position[2]"),
+    (242, "counters.kspace_encode_step_1"),
+    (244, "counters.kspace_encode_step_2"),
+    (246, "counters.average"),
+    (248, "counters.slice"),
+    (250, "counters.contrast"),
+    (252, "counters.phase"),
+    (254, "counters.repetition"),
+    (256, "counters.set"),
+    (258, "counters.segment"),
+    (260, "counters.user[0]"),
+    (262, "counters.user[1]"),
+    (264, "counters.user[2]"),
+    (266, "counters.user[3]"),
+    (268, "counters.user[4]"),
+    (270, "counters.user[5]"),
+    (272, "counters.user[6]"),
+    (274, "counters.user[7]"),
+    (276, "user_int[0]"),
+    (280, "user_int[1]"),
+    (284, "user_int[2]"),
+    (288, "user_int[3]"),
+    (292, "user_int[4]"),
+    (296, "user_int[5]"),
+    (300, "user_int[6]"),
+    (304, "user_int[7]"),
+    (308, "user_float[0]"),
+    (312, "user_float[1]"),
+    (316, "user_float[2]"),
+    (320, "user_float[3]"),
+    (324, "user_float[4]"),
+    (328, "user_float[5]"),
+    (332, "user_float[6]"),
+    (336, "user_float[7]"),
+];
+
+/// The elements of the image header.
+const IMAGE_ELEMENTS: [(usize, &str); 56] = [
+    (0, "version"),
+    (2, "data_type"),
+    (4, "flags"),
+    (12, "measurement_uid"),
+    (16, "matrix_size[0]"),
+    (18, "matrix_size[1]"),
+    (20, "matrix_size[2]"),
+    (22, "field_of_view[0]"),
+    (26, "field_of_view[1]"),
+    (30, "field_of_view[2]"),
+    (34, "channels"),
+    (36, "position[0]"),
+    (40, "position[1]"),
+    (44, "position[2]"),
+    (48, "read_dir[0]"),
+    (52, "read_dir[1]"),
+    (56, "read_dir[2]"),
+    (60, "phase_dir[0]"),
+    (64, "phase_dir[1]"),
+    (68, "phase_dir[2]"),
+    (72, "slice_dir[0]"),
+    (76, "slice_dir[1]"),
+    (80, "slice_dir[2]"),
+    (84, "patient_table_position[0]"),
+    (88, "patient_table_position[1]"),
+    (92, "patient_table_position[2]"),
+    (96, "average"),
+    (98, "slice"),
+    (100, "contrast"),
+    (102, "phase"),
+    (104, "repetition"),
+    (106, "set"),
+    (108, "acquisition_time_stamp"),
+    (112, "physiology_time_stamp[0]"),
+    (116, "physiology_time_stamp[1]"),
+    (120, "physiology_time_stamp[2]"),
+    (124, "image_type"),
+    (126, "image_index"),
+    (128, "image_series_index"),
+    (130, "user_int[0]"),
+    (134, "user_int[1]"),
+    (138, "user_int[2]"),
+    (142, "user_int[3]"),
+    (146, "user_int[4]"),
+    (150, "user_int[5]"),
+    (154, "user_int[6]"),
+    (158, "user_int[7]"),
+    (162, "user_float[0]"),
+    (166, "user_float[1]"),
+    (170, "user_float[2]"),
+    (174, "user_float[3]"),
+    (178, "user_float[4]"),
+    (182, "user_float[5]"),
+    (186, "user_float[6]"),
+    (190, "user_float[7]"),
+    (194, "attribute_string_len"),
+];
+
+/// The elements of the waveform header.
+const WAVEFORM_ELEMENTS: [(usize, &str); 9] = [
+    (0, "version"),
+    (2, "flags"),
+    (10, "measurement_uid"),
+    (14, "scan_counter"),
+    (18, "time_stamp"),
+    (22, "number_of_samples"),
+    (24, "channels"),
+    (26, "sample_time_us"),
+    (30, "waveform_id"),
+];
+
+/// The elements of the aligned waveform header.
+const ALIGNED_WAVEFORM_ELEMENTS: [(usize, &str); 9] = [
+    (0, "version"),
+    (8, "flags"),
+    (16, "measurement_uid"),
+    (20, "scan_counter"),
+    (24, "time_stamp"),
+    (28, "number_of_samples"),
+    (30, "channels"),
+    (32, "sample_time_us"),
+    (36, "waveform_id"),
+];
+
+/// The name of the header element that starts at an offset, as ISMRMRD spells it: `flags`, `user_int[3]`, of a
+/// counter `counters.slice`. None where none starts there, and for a kind without a header.
+pub fn element_name(id: u16, layout: Layout, offset: usize) -> Option<&'static str> {
+    let elements: &[(usize, &str)] = match (id, layout) {
+        (id::ACQUISITION, _) => &ACQUISITION_ELEMENTS,
+        (id::IMAGE, _) => &IMAGE_ELEMENTS,
+        (id::WAVEFORM, Layout::Packed) => &WAVEFORM_ELEMENTS,
+        (id::WAVEFORM, Layout::Aligned) => &ALIGNED_WAVEFORM_ELEMENTS,
+        _ => return None,
+    };
+    let found = elements.binary_search_by_key(&offset, |(start, _)| *start);
+    found.ok().map(|i| elements[i].1)
 }
 
 /// The acquisition flags by name, for [`flag_test`](crate::flag_test) and its like. Numbers that are not here have none.

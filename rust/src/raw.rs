@@ -101,6 +101,21 @@ pub struct mrd_found {
 
 #[repr(C)]
 #[derive(Clone, Copy, Debug, Default, PartialEq, Eq)]
+pub struct mrd_part_answer {
+    pub refusal: u32,
+    pub record: usize,
+    pub byte: usize,
+    pub place: mrd_placed,
+    pub part: u32,
+    pub channel: usize,
+    pub start: usize,
+    pub length: usize,
+    pub element_offset: usize,
+    pub element_size: usize,
+}
+
+#[repr(C)]
+#[derive(Clone, Copy, Debug, Default, PartialEq, Eq)]
 pub struct mrd_question {
     pub what: u32,
     pub part: u32,
@@ -157,7 +172,20 @@ pub const MRD_MASK_NOT_STATED: u16 = 1;
 pub const MRD_MASK_AGREES: u16 = 2;
 pub const MRD_MASK_DIFFERS: u16 = 3;
 
-/// The numbers of `mrd_field_answer::type`.
+/// The parts of a record: those that a view shows, and those that none does.
+pub const MRD_PART_NAME: u32 = 1;
+pub const MRD_PART_TEXT: u32 = 2;
+pub const MRD_PART_ATTRIBUTES: u32 = 3;
+pub const MRD_PART_TRAJECTORY: u32 = 4;
+pub const MRD_PART_CHANNEL: u32 = 5;
+pub const MRD_PART_PIXELS: u32 = 6;
+pub const MRD_PART_WAVEFORM: u32 = 7;
+pub const MRD_PART_ID: u32 = 8;
+pub const MRD_PART_LENGTH: u32 = 9;
+pub const MRD_PART_HEADER: u32 = 10;
+pub const MRD_PART_NAME_REST: u32 = 11;
+
+/// The numbers of `mrd_field_answer::value_type`.
 pub const MRD_WHOLE: u32 = 1;
 pub const MRD_SIGNED: u32 = 2;
 pub const MRD_FLOAT: u32 = 3;
@@ -224,6 +252,12 @@ extern "C" {
         n: usize,
         counters: *const u16,
     ) -> mrd_found;
+    fn mrd_part_at(
+        rules: mrd_rules,
+        stream: *const u8,
+        stream_length: usize,
+        byte: usize,
+    ) -> mrd_part_answer;
 
     fn mrd_ask_with_file(
         rules: mrd_rules,
@@ -398,6 +432,11 @@ pub fn field(rules: mrd_rules, stream: &[u8], n: usize, offset: usize) -> mrd_fi
 pub fn find(rules: mrd_rules, stream: &[u8], n: usize, counters: &[u16; 17]) -> mrd_found {
     // SAFETY: the slice is borrowed for the call, and the array has the seventeen numbers that are read.
     unsafe { mrd_find(rules, stream.as_ptr(), stream.len(), n, counters.as_ptr()) }
+}
+
+pub fn part_at(rules: mrd_rules, stream: &[u8], byte: usize) -> mrd_part_answer {
+    // SAFETY: the pointer and length are those of a slice that is borrowed for the call.
+    unsafe { mrd_part_at(rules, stream.as_ptr(), stream.len(), byte) }
 }
 
 pub fn ask_with_file(

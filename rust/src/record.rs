@@ -3,6 +3,7 @@
 use crate::names::id;
 use crate::raw;
 use crate::refusal::Refusal;
+use std::fmt;
 
 /// A record's place and kind.
 #[derive(Clone, Copy, Debug, PartialEq, Eq, Hash)]
@@ -196,13 +197,42 @@ impl Part {
     /// The number that the library knows the part by, and the channel.
     pub(crate) fn numbers(self) -> (u32, usize) {
         match self {
-            Part::Name => (1, 0),
-            Part::Text => (2, 0),
-            Part::Attributes => (3, 0),
-            Part::Trajectory => (4, 0),
-            Part::Channel(channel) => (5, channel),
-            Part::Pixels => (6, 0),
-            Part::Waveform => (7, 0),
+            Part::Name => (raw::MRD_PART_NAME, 0),
+            Part::Text => (raw::MRD_PART_TEXT, 0),
+            Part::Attributes => (raw::MRD_PART_ATTRIBUTES, 0),
+            Part::Trajectory => (raw::MRD_PART_TRAJECTORY, 0),
+            Part::Channel(channel) => (raw::MRD_PART_CHANNEL, channel),
+            Part::Pixels => (raw::MRD_PART_PIXELS, 0),
+            Part::Waveform => (raw::MRD_PART_WAVEFORM, 0),
+        }
+    }
+
+    /// The part that the library knows by this number; none where no view shows it.
+    pub(crate) fn numbered(number: u32, channel: usize) -> Option<Part> {
+        Some(match number {
+            raw::MRD_PART_NAME => Part::Name,
+            raw::MRD_PART_TEXT => Part::Text,
+            raw::MRD_PART_ATTRIBUTES => Part::Attributes,
+            raw::MRD_PART_TRAJECTORY => Part::Trajectory,
+            raw::MRD_PART_CHANNEL => Part::Channel(channel),
+            raw::MRD_PART_PIXELS => Part::Pixels,
+            raw::MRD_PART_WAVEFORM => Part::Waveform,
+            _ => return None,
+        })
+    }
+}
+
+/// The part in words, such as `channel 3`.
+impl fmt::Display for Part {
+    fn fmt(&self, f: &mut fmt::Formatter<'_>) -> fmt::Result {
+        match self {
+            Part::Name => f.write_str("name"),
+            Part::Text => f.write_str("text"),
+            Part::Attributes => f.write_str("attributes"),
+            Part::Trajectory => f.write_str("trajectory"),
+            Part::Channel(channel) => write!(f, "channel {channel}"),
+            Part::Pixels => f.write_str("pixels"),
+            Part::Waveform => f.write_str("waveform data"),
         }
     }
 }

@@ -14,7 +14,7 @@ pub struct Fault {
 }
 
 /// A refusal: its number, 1 to 21, and where, if the stream itself is refused (1 to 13, 19 and 21). What is
-/// refused about a writer's message, an index, a record number, a part or an output has no place.
+/// refused about a writer's message, an index, a record's or byte's number, a part or an output has no place.
 #[derive(Clone, Copy, Debug, PartialEq, Eq, Hash)]
 pub struct Refusal {
     /// The number of refusal: one of [`refused`](crate::refused).

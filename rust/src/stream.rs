@@ -12,7 +12,8 @@ use std::ops::Range;
 ///
 /// Each question gives the stream's refusal first. [`place`](Stream::place), [`view`](Stream::view),
 /// [`view_place`](Stream::view_place), [`field`](Stream::field) and [`find`](Stream::find) then give 15 where
-/// an index is given that is not the stream's own; the other calls do not look at it.
+/// an index is given that is not the stream's own; the other calls, [`part_at`](Stream::part_at) among them, do not look
+/// at it.
 #[derive(Clone, Copy, Debug, PartialEq, Eq)]
 pub struct Stream<'a> {
     rules: Rules,

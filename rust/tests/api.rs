@@ -707,6 +707,9 @@ fn all_answers(stream: &Stream, kept: &Kept) -> Vec<String> {
         }
         answers.push(format!("{:?}", stream.field_at(cursor, 14)));
         answers.push(format!("{:?}", stream.check_from(cursor)));
+        for byte in [record.start, record.start + record.size - 1] {
+            answers.push(format!("{:?}", stream.part_at(byte)));
+        }
         cursor = next;
     }
     answers.extend(
@@ -774,6 +777,8 @@ fn all_refusals(stream: &Stream, cursor: Cursor, kept: &Kept) -> Vec<Refusal> {
         stream.check_from(cursor).map(drop),
         stream.view_at(cursor, Part::Text).map(drop),
         stream.field_at(cursor, 0).map(drop),
+        stream.part_at(0).map(drop),
+        stream.part_at(usize::MAX).map(drop),
         stream.normal_form(&mut out).map(drop),
         stream.write_index(&mut out).map(drop),
         stream
@@ -1004,6 +1009,174 @@ fn strict_texts_are_strings() {
         (texts[0], texts[2]),
         ("default.xml", "three radial readouts follow\n")
     );
+}
+
+/// The part that a byte belongs to, and where that part lies.
+fn part_of(stream: &Stream, byte: usize) -> (usize, MessagePart, std::ops::Range<usize>) {
+    let found = stream.part_at(byte).expect("a byte of the stream");
+    assert_eq!(stream.place(found.record.number), Ok(found.record));
+    assert!(found.range.contains(&byte));
+    (found.record.number, found.part, found.range)
+}
+
+/// The parts of the sample, in order, from their sizes in document 01. Its three acquisitions have 32 samples of 2
+/// channels and 2 dimensions.
+fn sample_parts() -> Vec<(usize, MessagePart, usize)> {
+    use MessagePart::{Header, Id, Length, NameRest, Shown};
+    let header = Header(HeaderPiece::Filler); // of any piece: a part is a whole header
+    let text = |n, length| vec![(n, Id, 2), (n, Length, 4), (n, Shown(Part::Text), length)];
+    let acquisition = |n| {
+        let channel = |c| (n, Shown(Part::Channel(c)), 32 * 8);
+        let trajectory = (n, Shown(Part::Trajectory), 32 * 2 * 4);
+        vec![
+            (n, Id, 2),
+            (n, header, 340),
+            trajectory,
+            channel(0),
+            channel(1),
+        ]
+    };
+    let mut parts = vec![(0, Id, 2), (0, Shown(Part::Name), 11), (0, NameRest, 1_013)];
+    parts.extend([text(1, 350), text(2, 29)].concat());
+    parts.extend([acquisition(3), acquisition(4), acquisition(5)].concat());
+    parts.extend([(6, Id, 2), (6, header, 198), (6, Length, 8)]);
+    parts.extend([
+        (6, Shown(Part::Attributes), 134),
+        (6, Shown(Part::Pixels), 1_024),
+    ]);
+    parts.extend([(7, Id, 2), (7, header, 32), (7, Shown(Part::Waveform), 160)]);
+    parts.push((8, Id, 2));
+    parts
+}
+
+/// The same part, whatever piece of a header it is asked by.
+fn same_part(a: MessagePart, b: MessagePart) -> bool {
+    let headers = matches!((a, b), (MessagePart::Header(_), MessagePart::Header(_)));
+    headers || a == b
+}
+
+#[test]
+fn every_byte_belongs_to_one_part() {
+    let streams = [packed(ALL_KINDS), strictly(&packed(ALL_KINDS))];
+    for stream in streams {
+        let mut end = 0;
+        for (n, part, length) in sample_parts() {
+            let range = end..end + length;
+            for byte in range.clone() {
+                let (number, found, at) = part_of(&stream, byte);
+                assert_eq!((number, &at), (n, &range), "byte {byte}");
+                assert!(same_part(found, part), "byte {byte}: {found:?}");
+            }
+            if let MessagePart::Shown(shown) = part {
+                assert_eq!(stream.view_place(n, shown), Ok(range.clone()));
+            }
+            end = range.end;
+        }
+        assert_eq!(end, ALL_KINDS.len());
+    }
+}
+
+#[test]
+fn a_header_byte_belongs_to_an_element_or_is_filler() {
+    let element = |offset, size| MessagePart::Header(HeaderPiece::Element { offset, size });
+    let sample = packed(ALL_KINDS);
+    let header = 1_417 + 2;
+    for (byte, part, name) in [
+        (0, element(0, 2), "version"),
+        (2, element(2, 8), "flags"),
+        (9, element(2, 8), "flags"),
+        (29, element(26, 4), "physiology_time_stamp[1]"),
+        (248, element(248, 2), "counters.slice"),
+        (339, element(336, 4), "user_float[7]"),
+    ] {
+        let found = sample.part_at(header + byte).unwrap();
+        assert_eq!((found.part, found.range.start), (part, header));
+        assert_eq!(found.element_name(), Some(name));
+    }
+    // The same byte of one stream, by each layout.
+    let bytes = waveforms();
+    let pieces = [packed(&bytes), aligned(&bytes)].map(|stream| {
+        let found = stream.part_at(6 + 2 + 8).unwrap();
+        (found.part, found.range.clone(), found.element_name())
+    });
+    assert_eq!(pieces[0], (element(2, 8), 8..40, Some("flags")));
+    assert_eq!(pieces[1], (element(8, 8), 8..48, Some("flags")));
+    for at in 0..40 {
+        let found = aligned(&bytes).part_at(64 + 2 + at).unwrap();
+        let filler = found.part == MessagePart::Header(HeaderPiece::Filler);
+        assert_eq!(filler, FILLER.contains(&at), "byte {at}");
+        assert_eq!(found.element_name().is_none(), filler);
+    }
+    let data = MessagePart::Shown(Part::Waveform);
+    assert_eq!(part_of(&packed(&bytes), 6 + 34 + 5), (1, data, 40..64));
+    assert_eq!(part_of(&aligned(&bytes), 6 + 34 + 8), (1, data, 48..64));
+}
+
+#[test]
+fn a_byte_past_the_end_has_no_part() {
+    let stream = packed(&SHORT);
+    assert_eq!(part_of(&stream, 9), (1, MessagePart::Id, 8..10));
+    let none = Refusal {
+        number: refused::NO_RECORD,
+        place: None,
+    };
+    for byte in [10, 11, usize::MAX] {
+        assert_eq!(stream.part_at(byte), Err(none));
+    }
+    // The stream's own refusal comes first, whatever is asked; an index is not looked at.
+    let cut = packed(&SHORT[..8]);
+    for byte in [0, 8, usize::MAX] {
+        assert_eq!(cut.part_at(byte), Err(cut.check().unwrap_err()));
+    }
+    let deceived = stream.with(Index::File(&[]));
+    assert_eq!(deceived.part_at(7), stream.part_at(7));
+}
+
+#[test]
+fn parts_in_words() {
+    let stream = packed(ALL_KINDS);
+    let said = |byte| stream.part_at(byte).unwrap().part.to_string();
+    assert_eq!(said(1), "id");
+    assert_eq!(said(12), "name");
+    assert_eq!(said(13), "rest of the name's 1,024 bytes");
+    assert_eq!(said(1_026 + 2), "length");
+    assert_eq!(said(1_417 + 2 + 9), "header, element at offset 2");
+    assert_eq!(said(1_417 + 342 + 256 + 256), "channel 1");
+    assert_eq!(said(6_306), "waveform data");
+    let bytes = waveforms();
+    let filler = aligned(&bytes).part_at(6 + 2 + 39).unwrap();
+    assert_eq!(filler.part.to_string(), "header, filler");
+}
+
+/// At every offset of every header, and past it, a name stands exactly where a field starts, and another one at each.
+#[test]
+fn an_element_has_a_name_where_a_field_starts() {
+    let bytes = waveforms();
+    for stream in [packed(ALL_KINDS), packed(&bytes), aligned(&bytes)] {
+        for record in stream.records() {
+            let record = record.unwrap();
+            let mut names = BTreeSet::new();
+            for at in 0..400 {
+                let name = element_name(record.kind.id(), stream.rules().layout, at);
+                assert_eq!(name.is_some(), record.field(at).is_ok(), "{at}: {name:?}");
+                if let Some(name) = name {
+                    assert!(names.insert(name), "{name} twice");
+                }
+            }
+        }
+    }
+    let layout = Layout::Packed;
+    let mask = offset::acquisition::CHANNEL_MASK + 8 * 15;
+    let name = element_name(id::ACQUISITION, layout, mask);
+    assert_eq!(name, Some("channel_mask[15]"));
+    let user = offset::acquisition::COUNTERS + 2 * counter::USER_2;
+    let name = element_name(id::ACQUISITION, layout, user);
+    assert_eq!(name, Some("counters.user[2]"));
+    let name = element_name(id::IMAGE, layout, offset::image::USER_INT + 4 * 3);
+    assert_eq!(name, Some("user_int[3]"));
+    assert_eq!(element_name(id::WAVEFORM, Layout::Aligned, 2), None);
+    assert_eq!(element_name(6, layout, 0), None);
+    assert_eq!(element_name(id::ACQUISITION, layout, usize::MAX), None);
 }
 
 #[test]

@@ -112,7 +112,8 @@ static int untouched(const void *output, size_t bytes)
 }
 
 /* How often each thing was met by each profile, plain and strict. All are, where the stream changes during the calls. */
-static unsigned long filled[2], refused[2], not_utf8[2], cleared[2], kept[2], stated[2], settled[2], left[2], put[2];
+static unsigned long filled[2], refused[2], not_utf8[2], cleared[2], kept[2], stated[2], settled[2], left[2], put[2],
+    inside[2], between[2];
 
 /* The outputs: columns, an index file, and a copy of the stream. */
 static uint64_t *starts;
@@ -156,6 +157,14 @@ static void write_text(mrd_rules rules)
     put[rules.strict_text] += end.refusal == MRD_OK && end.position == LENGTH;
 }
 
+/* The first byte of what are messages, or the text's bytes. */
+static void look_up(mrd_rules rules)
+{
+    mrd_part_answer answer = mrd_part_at(rules, stream, LENGTH, TEXT + EMPTY);
+    inside[rules.strict_text] += answer.part == MRD_PART_TEXT;
+    between[rules.strict_text] += answer.part == MRD_PART_ID;
+}
+
 static int was_met(const char *what, const unsigned long of[2])
 {
     if (of[0] != 0 && of[1] != 0)
@@ -185,12 +194,15 @@ int main(void)
             make_normal(rules);
         if (turn % 16 == 1)
             write_text(rules);
+        if (turn % 16 == 2)
+            look_up(rules);
     }
     done = 1;
     pthread_join(other, NULL);
     if (!was_met("columns filled", filled) || !was_met("columns too short", refused) ||
         !was_met("names cleared", cleared) || !was_met("names kept", kept) || !was_met("lengths put", stated) ||
-        !was_met("filler cleared", settled) || !was_met("flags left", left) || !was_met("texts written", put))
+        !was_met("filler cleared", settled) || !was_met("flags left", left) || !was_met("texts written", put) ||
+        !was_met("a byte of the text", inside) || !was_met("a byte of an id", between))
         return EXIT_FAILURE;
     if (not_utf8[0] != 0 || not_utf8[1] == 0) {
         fprintf(stderr, "changing: 21 %lu times by the plain profile, %lu times by the strict one\n", not_utf8[0],

@@ -42,6 +42,18 @@ MEMBER(mrd_placed, data_type, 78, uint16_t);
 MEMBER(mrd_placed, mask, 80, uint16_t);
 MEMBER(mrd_placed, mask_ones, 82, uint16_t);
 
+_Static_assert(sizeof(mrd_part_answer) == 160, "mrd_part_answer: another size");
+MEMBER(mrd_part_answer, refusal, 0, uint32_t);
+MEMBER(mrd_part_answer, record, 8, size_t);
+MEMBER(mrd_part_answer, byte, 16, size_t);
+MEMBER(mrd_part_answer, place, 24, mrd_placed);
+MEMBER(mrd_part_answer, part, 112, uint32_t);
+MEMBER(mrd_part_answer, channel, 120, size_t);
+MEMBER(mrd_part_answer, start, 128, size_t);
+MEMBER(mrd_part_answer, length, 136, size_t);
+MEMBER(mrd_part_answer, element_offset, 144, size_t);
+MEMBER(mrd_part_answer, element_size, 152, size_t);
+
 _Static_assert(sizeof(mrd_field_answer) == 48, "mrd_field_answer: another size");
 MEMBER(mrd_field_answer, refusal, 0, uint32_t);
 MEMBER(mrd_field_answer, record, 8, size_t);
@@ -131,6 +143,7 @@ bool mrd_flag_test(uint64_t, uint32_t);
 mrd_matched mrd_index_matches(mrd_rules, const uint8_t *, size_t, const uint8_t *, size_t);
 mrd_step mrd_next(mrd_rules, const uint8_t *, size_t, mrd_cursor);
 mrd_written mrd_normal_form(mrd_rules, const uint8_t *, size_t, uint8_t *, size_t);
+mrd_part_answer mrd_part_at(mrd_rules, const uint8_t *, size_t, size_t);
 mrd_placed mrd_place(mrd_rules, const uint8_t *, size_t, size_t);
 mrd_view_place mrd_view(mrd_rules, const uint8_t *, size_t, size_t, uint32_t, size_t);
 mrd_view_place mrd_view_at(mrd_rules, const uint8_t *, size_t, mrd_cursor, uint32_t, size_t);

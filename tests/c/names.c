@@ -1,5 +1,5 @@
-/* The names of the header at work: every refusal has a sentence, header elements are asked for by name, and samples
- * are read from a view that is not aligned.
+/* The names of the header at work: every refusal has a sentence, header elements are asked for by name and have one by
+ * their offset, and samples are read from a view that is not aligned.
  *
  *     names samples/all_kinds.mrd */
 #include <cotterleaf.h>
@@ -85,6 +85,62 @@ static int elements(const uint8_t *s, size_t n)
     return 0;
 }
 
+/* What an offset is called in the headers of this kind. */
+static bool is_called(uint16_t id, bool aligned, size_t offset, const char *name)
+{
+    const char *given = mrd_element_name(id, aligned, offset);
+    return given != NULL && strcmp(given, name) == 0;
+}
+
+/* Elements by example, each of an array by itself; no name inside an element, past a header, and without one. */
+static int names_by_offset(void)
+{
+    CHECK(is_called(MRD_ID_ACQUISITION, false, MRD_ACQUISITION_FLAGS, "flags"));
+    CHECK(is_called(MRD_ID_ACQUISITION, true, MRD_ACQUISITION_PHYSIOLOGY_TIME_STAMP + 4, "physiology_time_stamp[1]"));
+    CHECK(is_called(MRD_ID_ACQUISITION, false, MRD_ACQUISITION_CHANNEL_MASK + 8 * 15, "channel_mask[15]"));
+    CHECK(is_called(MRD_ID_ACQUISITION, false, MRD_ACQUISITION_COUNTERS + 2 * MRD_COUNTER_SLICE, "counters.slice"));
+    CHECK(is_called(MRD_ID_ACQUISITION, false, MRD_ACQUISITION_COUNTERS + 2 * MRD_COUNTER_USER_2, "counters.user[2]"));
+    CHECK(is_called(MRD_ID_ACQUISITION, false, MRD_ACQUISITION_USER_INT + 4 * 3, "user_int[3]"));
+    CHECK(is_called(MRD_ID_IMAGE, false, MRD_IMAGE_ATTRIBUTE_STRING_LEN, "attribute_string_len"));
+    CHECK(is_called(MRD_ID_WAVEFORM, false, MRD_WAVEFORM_FLAGS, "flags"));
+    CHECK(is_called(MRD_ID_WAVEFORM, true, MRD_ALIGNED_WAVEFORM_FLAGS, "flags"));
+    CHECK(mrd_element_name(MRD_ID_WAVEFORM, true, MRD_WAVEFORM_FLAGS) == NULL);
+    CHECK(mrd_element_name(MRD_ID_IMAGE, false, MRD_IMAGE_FLAGS + 1) == NULL);
+    CHECK(mrd_element_name(MRD_ID_IMAGE, false, MRD_IMAGE_HEADER_SIZE) == NULL);
+    CHECK(mrd_element_name(MRD_ID_ACQUISITION, false, SIZE_MAX) == NULL);
+    CHECK(mrd_element_name(MRD_ID_TEXT, false, 0) == NULL && mrd_element_name(6, false, 0) == NULL);
+    return 0;
+}
+
+/* At every offset of every header of a stream, and past it, a name stands exactly where a field starts, and another one
+ * at each. */
+static int names_where_fields_start(mrd_rules of, const uint8_t *s, size_t n)
+{
+    mrd_cursor cursor = mrd_beginning();
+    for (mrd_step step = mrd_next(of, s, n, cursor); !step.ended; step = mrd_next(of, s, n, cursor)) {
+        for (size_t offset = 0; offset < 400; offset++) {
+            const char *name = mrd_element_name(step.here.id, of.aligned_waveforms, offset);
+            mrd_refusal refusal = mrd_field_at(of, s, n, cursor, offset).refusal;
+            CHECK(refusal == (name != NULL ? MRD_OK : MRD_REFUSED_NO_FIELD));
+            for (size_t other = 0; name != NULL && other < offset; other++)
+                CHECK(!is_called(step.here.id, of.aligned_waveforms, other, name));
+        }
+        cursor = step.next;
+    }
+    CHECK(mrd_check(of, s, n).refusal == MRD_OK);
+    return 0;
+}
+
+static int element_names(const uint8_t *s, size_t n)
+{
+    /* An empty header text, an aligned waveform without data, and the close. */
+    static const mrd_rules aligned = {.aligned_waveforms = true};
+    uint8_t waveform[6 + 2 + MRD_ALIGNED_WAVEFORM_HEADER_SIZE + 2] = {3, 0, 0, 0, 0, 0, 2, 4, 1};
+    waveform[sizeof waveform - 2] = MRD_ID_CLOSE;
+    return names_by_offset() || names_where_fields_start(rules, s, n) ||
+           names_where_fields_start(aligned, waveform, sizeof waveform);
+}
+
 /* The samples of a channel whose view starts at an odd address. */
 static int samples(const uint8_t *s, size_t n)
 {
@@ -110,7 +166,7 @@ int main(int count, char **arguments)
     }
     size_t length = fread(stream, 1, sizeof stream, file);
     fclose(file);
-    if (sentences() || elements(stream, length) || samples(stream, length))
+    if (sentences() || elements(stream, length) || element_names(stream, length) || samples(stream, length))
         return 1;
     printf("names.c: ok, %u checks\n", checks);
     return 0;

@@ -582,6 +582,8 @@ static void aligned_places(const aligned_indexed *of, mrd_cursor cursor)
         CHECK(views[i].refusal == MRD_OK && views[i].start == WAVEFORM_DATA &&
               views[i].length == WAVEFORM_END - WAVEFORM_DATA);
     CHECK(mrd_find(of->rules, STREAM_OF(of), 0, asked).refusal == MRD_REFUSED_NO_RECORD);
+    CHECK(mrd_part_at(of->rules, STREAM_OF(of), WAVEFORM_DATA).part == MRD_PART_WAVEFORM);
+    CHECK(mrd_part_at(of->rules, STREAM_OF(of), WAVEFORM_DATA - 1).element_size == 0); /* filler */
 }
 
 /* Each call once with aligned waveform headers. What filler holds is no part of any answer, and the normal form has it
@@ -614,6 +616,8 @@ static void one_stream_two_layouts(void)
     mrd_view_place data = mrd_view(PACKED, stream.bytes, length, 1, MRD_PART_WAVEFORM, 0);
     CHECK(data.start == WAVEFORM_HEADER + MRD_WAVEFORM_HEADER_SIZE && data.length == 24);
     CHECK(mrd_field(PACKED, stream.bytes, length, 1, MRD_WAVEFORM_FLAGS).whole == UINT64_C(0x2211A5A5A5A5A5A5));
+    CHECK(mrd_part_at(PACKED, stream.bytes, length, WAVEFORM_DATA - 1).part == MRD_PART_WAVEFORM);
+    CHECK(mrd_part_at(PACKED, stream.bytes, length, WAVEFORM_HEADER + 7).element_offset == MRD_WAVEFORM_FLAGS);
     CHECK(mrd_normal_form(PACKED, stream.bytes, length, out.bytes, length).length == length);
     CHECK(memcmp(&out, &stream, sizeof out) == 0);
 }
@@ -829,6 +833,8 @@ static void each_call_refuses(mrd_rules rules, const text_stream *stream, size_t
         WHERE(mrd_field(rules, s, n, 9, 0)),
         WHERE(mrd_field_at(rules, s, n, at, 0)),
         WHERE(mrd_find(rules, s, n, 0, asked)),
+        WHERE(mrd_part_at(rules, s, n, 0)),
+        WHERE(mrd_part_at(rules, s, n, n)),
         WHERE(mrd_ask_with_file(rules, s, n, place, of.file, sizeof of.file)),
         WHERE(mrd_ask_with_file(rules, s, n, view, of.file, sizeof of.file)),
         WHERE(mrd_ask_with_file(rules, s, n, field, of.file, 0)),
@@ -850,6 +856,18 @@ static void each_call_refuses(mrd_rules rules, const text_stream *stream, size_t
     CHECK(memcmp(out.ids, kept.ids, sizeof out.ids) == 0 &&
           memcmp(out.counters, kept.counters, sizeof out.counters) == 0);
     CHECK(normal[0] == 0xEE && normal[n - 1] == 0xEE);
+}
+
+/* The record's id, its text, which the view shows, and the byte past the end. */
+static void bytes_have_parts(mrd_rules rules, const text_stream *stream, size_t record, uint32_t part,
+                             mrd_view_place view)
+{
+    const uint8_t *s = stream->bytes;
+    size_t n = stream->length;
+    CHECK(mrd_part_at(rules, s, n, stream->starts[record]).place.number == record);
+    CHECK(mrd_part_at(rules, s, n, stream->starts[record] + 1).part == MRD_PART_ID);
+    CHECK(view.length == 0 || mrd_part_at(rules, s, n, view.start).part == part);
+    CHECK(mrd_part_at(rules, s, n, n).refusal == MRD_REFUSED_NO_RECORD);
 }
 
 /* Each call about a stream whose texts are UTF-8 answers what it does by the plain profile. */
@@ -882,6 +900,7 @@ static void each_call_accepts(mrd_rules rules, const text_stream *stream, size_t
     CHECK(mrd_field_at(rules, s, n, at, MRD_IMAGE_VERSION).refusal ==
           (part == MRD_PART_ATTRIBUTES ? MRD_OK : MRD_REFUSED_NO_FIELD));
     CHECK(mrd_find(rules, s, n, 0, asked).refusal == MRD_REFUSED_NO_RECORD);
+    bytes_have_parts(rules, stream, record, part, plain);
     CHECK(mrd_index_matches(rules, s, n, of.file, sizeof of.file).refusal == MRD_OK);
     CHECK(mrd_columns_match(rules, s, n, ALL_COLUMNS(&of)).refusal == MRD_OK);
     CHECK(mrd_normal_form(rules, s, n, normal, sizeof normal).length == n && memcmp(normal, s, n) == 0);

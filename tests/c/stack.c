@@ -178,6 +178,14 @@ static bool find(void)
     return mrd_find(rules, stream, length, 0, asked).number == last_acquisition;
 }
 
+/* A byte of the last acquisition's samples, and the close. */
+static bool part_at(void)
+{
+    mrd_view_place channel = mrd_view(rules, stream, length, last_acquisition, MRD_PART_CHANNEL, 3);
+    return mrd_part_at(rules, stream, length, channel.start + 511).place.number == last_acquisition
+           && mrd_part_at(rules, stream, length, length - 1).place.id == MRD_ID_CLOSE;
+}
+
 static bool normal_form(void)
 {
     return mrd_normal_form(rules, stream, length, out, room).length == length;
@@ -292,6 +300,7 @@ static const struct {
     {"view", view},
     {"field", field},
     {"find", find},
+    {"part at", part_at},
     {"normal form", normal_form},
     {"write index", write_index},
     {"index matches", index_matches},

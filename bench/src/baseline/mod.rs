@@ -4,6 +4,7 @@
 pub mod headers;
 pub mod index;
 pub mod normal;
+pub mod parts;
 pub mod questions;
 pub mod reader;
 pub mod strict;

@@ -82,14 +82,26 @@ impl Element {
     }
 }
 
-fn element_at(kind: &Kind, offset: usize) -> Option<Element> {
+/// The last run of a header that starts at an offset or before it.
+fn run_at(kind: &Kind, offset: usize) -> Option<Run> {
     let runs = match kind {
         Kind::Acquisition { .. } => ACQUISITION,
         Kind::Image { .. } => IMAGE,
         Kind::Waveform { .. } => WAVEFORM,
         _ => return None,
     };
-    let &(start, count, element) = runs.iter().rev().find(|&&(start, ..)| start <= offset)?;
+    let mut runs = runs.iter().rev().copied();
+    runs.find(|&(start, ..)| start <= offset)
+}
+
+/// Where the element starts that has this byte of a header, and its size. A packed header has no filler.
+pub fn element_around(kind: &Kind, at: usize) -> (usize, usize) {
+    let (start, _, element) = run_at(kind, at).expect("a byte of a header");
+    (at - (at - start) % element.size(), element.size())
+}
+
+fn element_at(kind: &Kind, offset: usize) -> Option<Element> {
+    let (start, count, element) = run_at(kind, offset)?;
     let into = offset - start;
     (into.is_multiple_of(element.size()) && into / element.size() < count).then_some(element)
 }

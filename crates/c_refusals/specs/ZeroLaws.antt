@@ -1,11 +1,11 @@
 -- For every function of C: the `refusal` of its answer is 0 only where there is an answer, so C may go by that member alone.
 -- Of a step it is the member of `answer`, with `ended` for whether a record or the end of an accepted stream is there; `here` has 0 at every end.
 -- Assumes nothing.
-use Prim.Native.Nat.{ℕ, zero, suc, _+_, _<_}
+use Prim.Native.Nat.{ℕ, zero, suc, _+_, _-_, _<_}
 use native.Mathlib.Omega.{arith}
 use mathlib.Core.Path.{_≡_, refl}
 use mathlib.Core.Bool.{Bool, true, false, _&&_, _||_}
-use mathlib.Core.List.{List}
+use mathlib.Core.List.{List, [], _∷_}
 use lib.Dec.{ltb}
 use lib.ListN.{length}
 use Rattle.mrd_logic.specs.Answer.{Verdict, accepted, refused, Answer, answered, stream, number, andThen}
@@ -15,10 +15,16 @@ use Rattle.mrd_logic.specs.Checks.{first, unless}
 use Rattle.mrd_format.specs.declared.kind.Identified.{Identified}
 use Rattle.mrd_format.specs.declared.kind.Identified.the-variants.{Known, Unknown}
 use Rattle.mrd_format.specs.Kinds.{identified}
-use Rattle.mrd_format.specs.Parts.{Contents}
+use Rattle.mrd_format.specs.declared.kind.Kind.{Kind}
+use Rattle.mrd_format.specs.Parts.{header, same, Extent, Contents}
+use Rattle.mrd_format.specs.Segments.{PlacedPart}
+use Rattle.mrd_format.specs.Message.{fixedPart}
+use Rattle.mrd_format.specs.Content.{placedParts}
+use Rattle.mrd_format.specs.Holding.{holds, holding}
+use Rattle.mrd_cut.specs.CutPlaces.{partAt}
 use Rattle.mrd_cursor.specs.declared.cursor.Cursor as walk
-use Rattle.mrd_stream.specs.Walk.{from, verdict, answer}
-use Rattle.mrd_stream.specs.Places.{Located, place, Stepped, yields, over, step}
+use Rattle.mrd_stream.specs.Walk.{trace, from, verdict, answer}
+use Rattle.mrd_stream.specs.Places.{Located, places, place, Stepped, yields, over, step}
 use Rattle.mrd_stream.specs.Index.{index, entries, startColumn, idColumn, counterColumn}
 use Rattle.mrd_stream.specs.Output.{answerBy, answerFor}
 use Rattle.mrd_record.specs.AtCursor.{placeAt}
@@ -27,6 +33,9 @@ use Rattle.mrd_views.specs.Views.{viewBy, viewOf}
 use Rattle.mrd_element.specs.Element.{FieldValue, whole, signed, float}
 use Rattle.mrd_fields.specs.Fields.{fieldBy, fieldOf}
 use Rattle.mrd_find.specs.Find.{findOf}
+use Rattle.mrd_element.specs.Pieces.{placeOf, headerPieces, headerByteOf}
+use Rattle.mrd_holding.specs.Held.{told, partHolding}
+use Rattle.mrd_part_at.specs.PartAt.{extentAt, recordHolding, partIn, partOfByte}
 use Rattle.mrd_columns.specs.Columns.{columnsAnswer}
 use Rattle.mrd_index_match.specs.Compare.{believed, fileMatch, columnsMatch}
 use Rattle.mrd_index_cursor.specs.IndexCursor.{cursorFor}
@@ -37,6 +46,7 @@ use Rattle.mrd_writer.specs.Write.{contentsSize, writeChecks, answerAs, writeAn
 use Rattle.c_place.specs.PlacedStruct.{cPlaced}
 use Rattle.c_walk.specs.WalkStructs.{cChecked, cCursorAnswer, cStep}
 use Rattle.c_record.specs.RecordStructs.{cView, cField, cFound}
+use Rattle.c_part_at.specs.PartStruct.{cPart}
 use Rattle.c_written.specs.WrittenStructs.{cWritten, cMatched, cPut}
 use Rattle.c_ask.specs.AskStructs.{cReply}
 use Rattle.c_refusals.specs.NoRefusal.{IsAccepted, IsAnswered, StepSays}
@@ -119,6 +129,38 @@ field-at-typed rules c s o = typed (fieldBy (placeAt rules c s) o s) (field-refu
 -- what was looked for
 pub zero-found : (rules : Rules) (s : List ℕ) (n : ℕ) (cs : List ℕ) → cFound (findOf rules s n cs) .refusal ≡ 0 → IsAnswered (findOf rules s n cs)
 zero-found rules s n cs = zero-answer (λ a. cFound a .refusal) (λ f r b. refl) (λ k. refl) (findOf rules s n cs) (some (findOf rules s n cs) (find-refuses rules s n cs))
+
+-- what a byte belongs to
+pick-refuses : {A : Type 0} (t : Bool) (a b : Answer A) → Refuses 16 a → Refuses 16 b → Refuses 16 (pick t a b)
+pick-refuses true a b x y = x
+pick-refuses false a b x y = y
+
+holding-refuses : {A : Type 0} (f : A → Extent) (xs : List A) (i : ℕ) → Refuses 16 (holding f xs i)
+holding-refuses f [] i = omega arith
+holding-refuses f (x ∷ xs) i = pick-refuses (holds (f x) i) (answered x) (holding f xs i) tt (holding-refuses f xs i)
+
+told-refuses : (k : Kind) (at : ℕ) (q : PlacedPart) → Refuses 16 (told k at q)
+unfolding headerByteOf
+told-refuses k at q =
+    let o = at - q .place .offset in
+    pick-refuses (same (q .part) header) _ _
+    (then-refuses 16 (headerByteOf k o) _ (then-refuses 16 (holding placeOf (headerPieces k) o) _ (holding-refuses placeOf (headerPieces k) o) (λ p. tt)) (λ b. tt)) tt
+
+part-refuses : (k : Kind) (h : List ℕ) (at : ℕ) → Refuses 16 (partHolding k h at)
+unfolding partHolding
+part-refuses k h at =
+    then-refuses 16 (holding (λ (q : PlacedPart). q .place) (placedParts k h) at) (told k at) (holding-refuses (λ (q : PlacedPart). q .place) (placedParts k h) at)
+    (told-refuses k at)
+
+byte-refuses : (rules : Rules) (s : List ℕ) (i : ℕ) → Refuses 16 (partOfByte rules s i)
+unfolding partOfByte recordHolding
+byte-refuses rules s i =
+    then-refuses 16 (recordHolding rules s i) (partIn s i) (unless-refuses 16 (answer rules s) _ (answer-numbered rules s) (holding-refuses extentAt (places (trace rules s)) i))
+    (λ l. then-refuses 16 (partHolding (l .kind) (fixedPart (l .kind) (partAt s l)) (i - l .start)) _
+    (part-refuses (l .kind) (fixedPart (l .kind) (partAt s l)) (i - l .start)) (λ h. tt))
+
+pub zero-part : (rules : Rules) (s : List ℕ) (i : ℕ) → cPart (partOfByte rules s i) .refusal ≡ 0 → IsAnswered (partOfByte rules s i)
+zero-part rules s i = zero-answer (λ a. cPart a .refusal) (λ f r b. refl) (λ k. refl) (partOfByte rules s i) (some (partOfByte rules s i) (byte-refuses rules s i))
 
 -- a given index
 believed-refuses : (b : Bool) → Refuses 1 (believed b)

@@ -6,6 +6,7 @@
 mod ask;
 mod at_cursor;
 mod index;
+mod part_at;
 mod record;
 mod scalars;
 mod stream;
@@ -19,6 +20,7 @@ pub use at_cursor::mrd_view_at;
 pub use index::mrd_columns_match;
 pub use index::mrd_fill_columns;
 pub use index::mrd_index_matches;
+pub use part_at::mrd_part_at;
 pub use record::mrd_field;
 pub use record::mrd_find;
 pub use record::mrd_view;

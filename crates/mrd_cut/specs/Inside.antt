@@ -56,6 +56,10 @@ pub place-nth : (rules : Rules) (s : List ℕ) (n : ℕ) {l : Located} → place
 unfolding place
 place-nth rules s n e = found-nth (places (trace rules s)) n (answered-accepted (answer rules s) (nth (places (trace rules s)) n) e)
 
--- so it lies in the stream
+-- each place of a walk lies in the stream
+pub nth-inside : (rules : Rules) (s : List ℕ) (n : ℕ) (l : Located) → Nth (places (trace rules s)) n l → Inside rules s l
+nth-inside rules s n l h = every-nth (Inside rules s) (places (trace rules s)) n l (places-inside (walks rules s) [] refl) h
+
+-- so does an answered one
 pub place-inside : (rules : Rules) (s : List ℕ) (n : ℕ) {l : Located} → place rules s n ≡ answered l → Inside rules s l
-place-inside rules s n {l} e = every-nth (Inside rules s) (places (trace rules s)) n l (places-inside (walks rules s) [] refl) (place-nth rules s n e)
+place-inside rules s n {l} e = nth-inside rules s n l (place-nth rules s n e)

@@ -2,7 +2,8 @@
 -- said with the answer (`answer`, `accepted`, `refused`), the record list (`records`), the normal form (`normal`), well-formed messages
 -- (`WellFormed`) and cuts (`Cut`). That the code gives these answers and writes these bytes is what its contracts say.
 -- Assumes nothing.
-use Prim.Native.Nat.{ℕ, _+_}
+use Prim.Native.Nat.{ℕ, _+_, _≤_, _<_}
+use native.Mathlib.Omega.{arith}
 use mathlib.Core.Path.{_≡_, sym, ap, _∙_}
 use mathlib.Core.Bool.{true}
 use mathlib.Core.Logic.{_↔_, _⊎_}
@@ -18,6 +19,7 @@ use Rattle.mrd_logic.specs.Every.{Every}
 use Rattle.mrd_logic.specs.Answer.{accepted, refused, Answer, answered, number, andThen}
 use Rattle.mrd_format.specs.Parts.{Parts, Contents}
 use Rattle.mrd_format.specs.Content.{Record, bytesOf}
+use Rattle.mrd_format.specs.declared.kind.Kind.{Kind}
 use Rattle.mrd_format.specs.declared.kind.Kind.the-variants.{Acquisition, Image, Waveform}
 use Rattle.mrd_format.specs.declared.rules.Layout.{Layout}
 use Rattle.mrd_format.specs.declared.rules.Layout.the-variants.{Aligned}
@@ -26,7 +28,9 @@ use Rattle.mrd_format.specs.Profiles.{rulesBy}
 use Rattle.mrd_format.specs.Acquisition as acquisition
 use Rattle.mrd_format.specs.Image as image
 use Rattle.mrd_format.specs.Waveform as waveform
+use Rattle.mrd_format.specs.Kinds.{headerSize}
 use Rattle.mrd_format.specs.HeaderLaws.{SameFields}
+use Rattle.mrd_format.specs.HoldingLaws.{Once, held-once}
 use Rattle.mrd_format.specs.Message.{numbersOf}
 use Rattle.mrd_cursor.specs.declared.cursor.Cursor.{Cursor}
 use Rattle.mrd_cursor.specs.Cursors.{beginning}
@@ -50,8 +54,14 @@ use Rattle.mrd_index_match.specs.Compare.{fileMatch, columnsMatch}
 use Rattle.mrd_index_match.specs.Exactly.{Held}
 use Rattle.mrd_index_cursor.specs.IndexCursor.{cursorFor}
 use Rattle.mrd_index_cursor.specs.Indexed.{AtRecord, believed-cursor}
+use Rattle.mrd_element.specs.declared.byte.ElementPlace.{ElementPlace}
+use Rattle.mrd_element.specs.declared.byte.HeaderByte.the-variants.{Element}
+use Rattle.mrd_element.specs.Element.{FieldValue}
+use Rattle.mrd_element.specs.Pieces.{placeOf, headerPieces, headerByteOf}
+use Rattle.mrd_element.specs.PieceLaws.{header-adjoins}
 use Rattle.mrd_element.specs.ElementLaws.{filler}
 use Rattle.mrd_fields.specs.Fields.{fieldOf}
+use Rattle.mrd_part_at.specs.PartAt.{partOfByte}
 use Rattle.mrd_ask.specs.declared.question.Question.{Question}
 use Rattle.mrd_ask.specs.Questions.{askOf}
 use Rattle.mrd_ask.specs.Shown.{SpanIn}
@@ -74,6 +84,8 @@ use Rattle.mrd_demands.specs.AttributeLengths as attribute-lengths
 use Rattle.mrd_demands.specs.Layouts as layouts
 use Rattle.mrd_demands.specs.StrictTexts.{TextsAreUtf8, ReadAlike}
 use Rattle.mrd_demands.specs.StrictTexts as texts
+use Rattle.mrd_demands.specs.NamedBytes.{PartsInOrder, NamedOnce}
+use Rattle.mrd_demands.specs.NamedBytes as named
 use Rattle.mrd_demands.specs.NormalStreams.{accepted-again, normal-long, normal-records, normal-own, normal-written, records-cut}
 use Rattle.mrd_format.specs.declared.rules.Rules.{Rules}
 
@@ -261,3 +273,27 @@ strict-reads-the-same = texts.strict-reads
 -- the plain profile asks nothing of a text: no stream is refused with 21
 pub plain-gives-no-21 : (l : Layout) (s : List ℕ) (n b : ℕ) → answer (rulesBy l Plain) s ≡ refused 21 n b → ⊥
 plain-gives-no-21 = texts.plain-no-21
+
+-- Request E12: every byte named once. Of every stream, and of all rules, and so of either layout and either profile
+
+-- the parts of each record adjoin from its first byte to its last, and joined they are its message: nothing stands between them
+pub parts-are-the-message : (rules : Rules) (s : List ℕ) (n : ℕ) {l : Located} → place rules s n ≡ answered l → PartsInOrder s l
+parts-are-the-message = named.parts-in-order
+
+-- each byte of an accepted stream belongs to exactly one part of exactly one record; that part is what is told of it; and a view by its name is that
+-- part
+pub each-byte-named-once : (rules : Rules) (s : List ℕ) (n : ℕ) → answer rules s ≡ accepted n → (i : ℕ) → i < length s → NamedOnce rules s i
+each-byte-named-once rules s n e = named.byte-named rules s e
+
+-- a byte past the end is 16
+pub byte-past-the-end : (rules : Rules) (s : List ℕ) (n : ℕ) → answer rules s ≡ accepted n → (i : ℕ) → length s ≤ i → partOfByte rules s i ≡ number 16
+byte-past-the-end rules s n e = named.byte-past rules s e
+
+-- each byte of a header belongs to exactly one of its elements, or is filler
+pub header-bytes-named-once : (k : Kind) (i : ℕ) → i < headerSize k → Once placeOf (headerPieces k) i
+header-bytes-named-once k i = held-once placeOf (headerPieces k) 0 (headerSize k) i (header-adjoins k) (omega arith)
+
+-- an element that is told of a byte is one that a field question answers, at the offset told
+pub told-elements-are-fields : (rules : Rules) (s : List ℕ) (n : ℕ) {l : Located} → place rules s n ≡ answered l → (i : ℕ) {e : ElementPlace} →
+    headerByteOf (l .kind) i ≡ answered (Element e) → (v : FieldValue) × (fieldOf rules s n (e .offset) ≡ answered v)
+told-elements-are-fields = named.element-field

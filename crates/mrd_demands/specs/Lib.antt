@@ -3,6 +3,7 @@ pub mod Messages
 pub mod NormalStreams
 pub mod Refusals
 pub mod RecordViews
+pub mod NamedBytes
 pub mod Replaced
 pub mod Told
 pub mod Masks

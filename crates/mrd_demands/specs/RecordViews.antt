@@ -16,7 +16,7 @@ use Rattle.mrd_numbers.specs.Laws.{part-take}
 use Rattle.mrd_format.specs.Message.{fixedPart, sizeOf}
 use Rattle.mrd_format.specs.Parts as part
 use Rattle.mrd_format.specs.Parts.{Part, Reach, lies, lacks, bytesIn}
-use Rattle.mrd_format.specs.Content.{placedParts, extentOf, contentsOf, Record, recordOf}
+use Rattle.mrd_format.specs.Content.{extentOf, contentsOf, Record, recordOf}
 use Rattle.mrd_format.specs.Segments.{PlacedPart}
 use Rattle.mrd_format.specs.ReachLaws.{part-within, channel-is-share}
 use Rattle.mrd_format.specs.ExtentLaws.{FoundAt, parts-found, NoneIs, others-lacking}
@@ -33,6 +33,7 @@ use Rattle.mrd_cut.specs.Inside.{Inside, place-nth, place-inside}
 use Rattle.mrd_record.specs.RecordLaws.{fixed-long}
 use Rattle.mrd_views.specs.declared.views.Span.{Span}
 use Rattle.mrd_views.specs.Views.{span, shownAt, viewOf, shown}
+use Rattle.mrd_part_at.specs.PartAt.{partsAt}
 use Rattle.mrd_format.specs.declared.rules.Rules.{Rules}
 
 -- the views of record n of s are the parts of the record r; a channel's samples are its share of all of them
@@ -112,10 +113,6 @@ views-are-parts rules s n {l} e =
         },
       ),
     )
-
--- the parts of the message at a place
-abbrev pub partsAt : List ℕ → Located → List PlacedPart
-partsAt s l = placedParts (l .kind) (fixedPart (l .kind) (partAt s l))
 
 -- the view that is asked for by the name of a part is at that part's place
 abbrev pub ViewOfPart : Rules → List ℕ → ℕ → Located → PlacedPart → Type 0

@@ -35,7 +35,7 @@ among-inside (suc n) w from at e =
     (λ later. omega (arith, among-inside n w (from + w) at later, suc-mul n w))
     (either (eqb at from) (startsAmong n w (from + w) at) e)
 
-picked : (b : Bool) (x y z : Start) → pick b x y ≡ z → ((b ≡ true) × (x ≡ z)) ⊎ (y ≡ z)
+pub picked : (b : Bool) (x y z : Start) → pick b x y ≡ z → ((b ≡ true) × (x ≡ z)) ⊎ (y ≡ z)
 picked true x y z e = inl (refl, e)
 picked false x y z e = inr e
 

@@ -18,3 +18,7 @@ letterOf none = 46
 -- the letter at an offset among elements of one width, from the first one's offset on, and a dot where none of them starts
 unfoldable pub letterAmong : ℕ → ℕ → ℕ → ℕ → ℕ
 letterAmong first width letter at = pick (eqb ((at - first) % width) 0) letter 46
+
+-- the bytes of an element with this letter, 0 for the dot
+unfoldable pub letterWidth : ℕ → ℕ
+letterWidth n = pick (eqb n 72) 2 (pick (eqb n 73) 4 (pick (eqb n 81) 8 (pick (eqb n 105) 4 (pick (eqb n 102) 4 0))))

@@ -3,7 +3,7 @@
 use Prim.Native.Nat.{ℕ, zero, suc, _+_, _*_, _≤_}
 use native.Mathlib.Nat.{zero-add, add-zero, add-assoc, zero-mul, suc-mul}
 use native.Mathlib.Omega.{arith}
-use mathlib.Core.Path.{_≡_, refl, sym, _∙_}
+use mathlib.Core.Path.{_≡_, refl, sym, ap, _∙_}
 use mathlib.Core.Bool.{Bool, true, false, not, _||_, _&&_}
 use mathlib.Core.List.{List, [], _∷_, _++_, map, append-nil, map-append}
 use borrow.Author.Tests.{not-true}
@@ -14,9 +14,10 @@ use Rattle.mrd_logic.specs.Choice.{both, neither}
 use Rattle.mrd_logic.specs.Joined.{joined, joined-append}
 use Rattle.mrd_format.specs.Headers.{Cell, settled}
 use Rattle.mrd_format.specs.HeaderLaws.{allFields, lawful, all-settled, take-next, take-parts}
-use Rattle.mrd_format.specs.Parts.{Part, header, filler, same, Extent}
+use Rattle.mrd_format.specs.Parts.{Part, header, filler, same, Extent, extent}
 use Rattle.mrd_format.specs.Segments.{Segment, fixed, counted, padded, sized, channels, sizeIn, total, nameLength, PlacedPart, channelsFrom, segmentParts, segmentsParts}
 use Rattle.mrd_format.specs.Content.{normalPart}
+use Rattle.mrd_format.specs.Holding.{evenly}
 
 pub total-append : (ss ts : List Segment) → total (ss ++ ts) ≡ total ss + total ts
 total-append [] ts = sym (zero-add (total ts))
@@ -74,7 +75,7 @@ abbrev pub Adjoins : ℕ → ℕ → List Extent → Type 0
 Adjoins a b [] = a ≡ b
 Adjoins a b (e ∷ es) = (e .offset ≡ a) × Adjoins (a + e .size) b es
 
-adjoins-append : (a b c : ℕ) (ds es : List Extent) → Adjoins a b ds → Adjoins b c es → Adjoins a c (ds ++ es)
+pub adjoins-append : (a b c : ℕ) (ds es : List Extent) → Adjoins a b ds → Adjoins b c es → Adjoins a c (ds ++ es)
 adjoins-append a b c [] es p q = rw p q
 adjoins-append a b c (d ∷ ds) es p q = (p .0, adjoins-append (a + d .size) b c ds es (p .1) q)
 
@@ -89,11 +90,19 @@ Fits h (channels c n) = Unit {0}
 abbrev pub placesOf : List PlacedPart → List Extent
 placesOf ps = map (λ (p : PlacedPart). p .place) ps
 
-pub channels-adjoin : (n c at z : ℕ) → Adjoins at (at + n * z) (placesOf (channelsFrom n c at z))
-channels-adjoin zero c at z = rw zero-mul (sym (add-zero at))
-channels-adjoin (suc n) c at z =
+pub evenly-adjoin : (n at z : ℕ) → Adjoins at (at + n * z) (evenly n at z)
+evenly-adjoin zero at z = rw zero-mul (sym (add-zero at))
+evenly-adjoin (suc n) at z =
     let end : at + suc n * z ≡ at + z + n * z = omega (arith, suc-mul n z) in
-    (refl, rw end (channels-adjoin n (suc c) (at + z) z))
+    (refl, rw end (evenly-adjoin n (at + z) z))
+
+-- channels of one length stand so
+channels-evenly : (n c at z : ℕ) → placesOf (channelsFrom n c at z) ≡ evenly n at z
+channels-evenly zero c at z = refl
+channels-evenly (suc n) c at z = ap (λ (es : List Extent). extent at z ∷ es) (channels-evenly n (suc c) (at + z) z)
+
+pub channels-adjoin : (n c at z : ℕ) → Adjoins at (at + n * z) (placesOf (channelsFrom n c at z))
+channels-adjoin n c at z = rw (channels-evenly n c at z) (evenly-adjoin n at z)
 
 module _ (h : List ℕ) where
   segment-adjoins : (at : ℕ) (s : Segment) → Fits h s → Adjoins at (at + sizeIn s) (placesOf (segmentParts h at s))

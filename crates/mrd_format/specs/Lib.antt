@@ -20,7 +20,9 @@ pub mod Profiles
 pub mod WellFormed
 pub mod ProfileLaws
 pub mod HeaderLaws
+pub mod Holding
 pub mod AdjoinLaws
+pub mod HoldingLaws
 pub mod ReachLaws
 pub mod ExtentLaws
 pub mod ImageLaws

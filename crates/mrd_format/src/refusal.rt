@@ -46,7 +46,7 @@ pub const OUTPUT_SHORT: u8 = 14;
 // The index differs from the one the stream yields.
 pub const INDEX_DIFFERS: u8 = 15;
 
-// There is no such record.
+// There is no such record, or no such byte.
 pub const NO_RECORD: u8 = 16;
 
 // The record has no such part or channel.

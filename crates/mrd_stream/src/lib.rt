@@ -14,5 +14,6 @@ pub use answer::Step;
 pub use answer::Written;
 pub use reader::check;
 pub use reader::check_from;
+pub use reader::concluded;
 pub use reader::next;
 pub use reader::place;

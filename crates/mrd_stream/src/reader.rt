@@ -184,7 +184,7 @@ fn kept(before: Placed, here: PlacedRecord, n: usize) -> Placed
 }
 
 // What was found, unless the stream is refused.
-fn concluded(found: Placed, answer: Checked) -> Placed
+pub fn concluded(found: Placed, answer: Checked) -> Placed
     ensures { λ r. ⌜ placedMeaning r ≡ unlessRefused (checkedMeaning answer) (placedMeaning found) ⌝ }
 {
     match answer {

@@ -57,6 +57,28 @@ const _: fn(mrd_placed) -> u16 = |of| of.mask;
 const _: () = assert!(offset_of!(mrd_placed, mask_ones) == 82);
 const _: fn(mrd_placed) -> u16 = |of| of.mask_ones;
 
+const _: () = assert!(size_of::<mrd_part_answer>() == 160);
+const _: () = assert!(offset_of!(mrd_part_answer, refusal) == 0);
+const _: fn(mrd_part_answer) -> u32 = |of| of.refusal;
+const _: () = assert!(offset_of!(mrd_part_answer, record) == 8);
+const _: fn(mrd_part_answer) -> usize = |of| of.record;
+const _: () = assert!(offset_of!(mrd_part_answer, byte) == 16);
+const _: fn(mrd_part_answer) -> usize = |of| of.byte;
+const _: () = assert!(offset_of!(mrd_part_answer, place) == 24);
+const _: fn(mrd_part_answer) -> mrd_placed = |of| of.place;
+const _: () = assert!(offset_of!(mrd_part_answer, part) == 112);
+const _: fn(mrd_part_answer) -> u32 = |of| of.part;
+const _: () = assert!(offset_of!(mrd_part_answer, channel) == 120);
+const _: fn(mrd_part_answer) -> usize = |of| of.channel;
+const _: () = assert!(offset_of!(mrd_part_answer, start) == 128);
+const _: fn(mrd_part_answer) -> usize = |of| of.start;
+const _: () = assert!(offset_of!(mrd_part_answer, length) == 136);
+const _: fn(mrd_part_answer) -> usize = |of| of.length;
+const _: () = assert!(offset_of!(mrd_part_answer, element_offset) == 144);
+const _: fn(mrd_part_answer) -> usize = |of| of.element_offset;
+const _: () = assert!(offset_of!(mrd_part_answer, element_size) == 152);
+const _: fn(mrd_part_answer) -> usize = |of| of.element_size;
+
 const _: () = assert!(size_of::<mrd_field_answer>() == 48);
 const _: () = assert!(offset_of!(mrd_field_answer, refusal) == 0);
 const _: fn(mrd_field_answer) -> u32 = |of| of.refusal;
@@ -244,6 +266,7 @@ const _: unsafe extern "C" fn(mrd_rules, *const u8, usize, *const u8, usize) -> 
 const _: unsafe extern "C" fn(mrd_rules, *const u8, usize, mrd_cursor) -> mrd_step = mrd_next;
 const _: unsafe extern "C" fn(mrd_rules, *const u8, usize, *mut u8, usize) -> mrd_written =
     mrd_normal_form;
+const _: unsafe extern "C" fn(mrd_rules, *const u8, usize, usize) -> mrd_part_answer = mrd_part_at;
 const _: unsafe extern "C" fn(mrd_rules, *const u8, usize, usize) -> mrd_placed = mrd_place;
 const _: unsafe extern "C" fn(mrd_rules, *const u8, usize, usize, u32, usize) -> mrd_view_place =
     mrd_view;

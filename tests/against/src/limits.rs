@@ -4,6 +4,7 @@
 
 use crate::answers;
 use crate::case::{library_rules, Case};
+use crate::part_at;
 use crate::stream;
 use crate::tally::{Difference, Outcome, Tally};
 use crate::writer::given;
@@ -84,10 +85,25 @@ fn write_refused_under(
     tally.same_value(question, library, Err(number))
 }
 
+/// Both ends of each part of a stream with a message at the limit. Plain, as a strict one's text is read for each byte.
+fn parts_of_largest(tally: &mut Tally, case: Case) -> Outcome {
+    tally.rules = case.rules;
+    part_at::ask_both_ends(tally, case)
+}
+
 fn longest_text(tally: &mut Tally) -> Outcome {
     let mut bytes = vec![0; LONGEST_TEXT + 1 + 8];
     let passes = set_text(&mut bytes, LONGEST_TEXT);
     paper(tally, "text of 268,435,450 bytes", passes, Ok(2))?;
+    for rules in Rules::PLAIN {
+        parts_of_largest(
+            tally,
+            Case {
+                rules,
+                bytes: passes,
+            },
+        )?;
+    }
     for (length, number) in [(LONGEST_TEXT, 14), (LONGEST_TEXT + 1, 10)] {
         let message = Message {
             id: 5,
@@ -366,6 +382,9 @@ fn largest_waveforms(tally: &mut Tally) -> Outcome {
             };
             let answer = if fits { Ok(3) } else { refused(10, 1, 6) };
             paper_under(tally, &line, case, answer)?;
+            if fits && rules == rules.plain() {
+                parts_of_largest(tally, case)?;
+            }
             let message = Message {
                 id: Kind::Waveform.id(),
                 header: &header,
@@ -376,6 +395,33 @@ fn largest_waveforms(tally: &mut Tally) -> Outcome {
             write_refused_under(tally, rules, &line, &message, number)?;
             bytes[data + length..][..2].fill(0);
         }
+    }
+    Ok(())
+}
+
+/// The acquisition of the most channels, of one sample each: both ends of some of them.
+fn most_channels(tally: &mut Tally) -> Outcome {
+    let mut acquisition = streams::Message::empty(Rules::PACKED, Kind::Acquisition.id());
+    acquisition.header = vec![0; 340];
+    acquisition.set("version", 0, 1);
+    for name in ["available_channels", "active_channels"] {
+        acquisition.set(name, 0, 65_535);
+    }
+    acquisition.set("number_of_samples", 0, 1);
+    acquisition.samples = vec![0; 8 * 65_535];
+    let bytes = [vec![3, 0, 0, 0, 0, 0], acquisition.bytes(), vec![4, 0]].concat();
+    let ends = |channel: usize| {
+        let start = 6 + 2 + 340 + 8 * channel;
+        [start, start + 7]
+    };
+    let asked = [0, 1, 255, 256, 32_767, 32_768, 65_534, 65_535].map(ends);
+    for rules in Rules::ALL {
+        let case = Case {
+            rules,
+            bytes: &bytes,
+        };
+        paper_under(tally, "acquisition of 65,535 channels", case, Ok(3))?;
+        part_at::ask_bytes(tally, case, &asked.concat())?;
     }
     Ok(())
 }
@@ -445,6 +491,7 @@ pub fn limits(tally: &mut Tally, rng: &mut Rng) -> Result<(), (Vec<u8>, Differen
     utf8_lines(tally).map_err(without_bytes)?;
     shortest_waveforms(tally).map_err(without_bytes)?;
     largest_waveforms(tally).map_err(without_bytes)?;
+    most_channels(tally).map_err(without_bytes)?;
     most_messages(tally, rng).map_err(without_bytes)?;
     for rules in Rules::ALL {
         for bytes in huge_images(rules, rng, 40_000) {

@@ -14,6 +14,8 @@ mod at_cursor;
 mod attribute_length;
 mod case;
 mod limits;
+mod part_at;
+mod parts_met;
 mod plain;
 mod scalars;
 mod stream;

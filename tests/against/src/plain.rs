@@ -19,14 +19,15 @@ fn numbers(refused: Refused) -> (u32, usize, usize) {
     }
 }
 
-fn refusal_of<T>(answer: &Result<T, Refused>) -> (u32, usize, usize) {
+pub fn refusal_of<T>(answer: &Result<T, Refused>) -> (u32, usize, usize) {
     match answer {
         Ok(_) => (0, 0, 0),
         Err(refused) => numbers(*refused),
     }
 }
 
-fn placed(answer: Result<second::Record, Refused>) -> raw::mrd_placed {
+/// A record's place and kind, or its refusal.
+pub fn placed(answer: Result<second::Record, Refused>) -> raw::mrd_placed {
     let (refusal, record, byte) = refusal_of(&answer);
     let mut placed = raw::mrd_placed {
         refusal,
@@ -153,11 +154,11 @@ fn checked(tally: &Tally, Case { rules, bytes }: Case) -> Outcome {
     tally.same_value(question, raw::check(raw_rules(rules), bytes), checked)
 }
 
-/// A part that no record has: the stream's refusal, then 16, then 17, at the stream's front.
+/// A part that no view shows, or that no record has: the stream's refusal, then 16, then 17, at the stream's front.
 fn unknown_part(tally: &Tally, rng: &mut Rng, case: Case, n: u64) -> Outcome {
     let Case { rules, bytes } = case;
     let given = raw_rules(rules);
-    let part = rng.pick(&[0, 8, 9, 256 + 5, u32::MAX]);
+    let part = rng.pick(&[0, 8, 9, 10, 11, 12, 256 + 5, u32::MAX]);
     let channel = rng.below(3) as usize;
     let refused = match second::kind_and_place(rules, bytes, GivenIndex::NONE, n) {
         Ok(_) => Refused::Other(17),

@@ -63,9 +63,9 @@ pub const FAULTS: &[&str] = &[
 ];
 
 /// Numbers by name.
-const NUMBERS: [&str; 20] = [
+pub const NUMBERS: [&str; 22] = [
     "0", "1", "2", "3", "4", "5", "6", "7", "8", "9", "10", "11", "12", "13", "14", "15", "16",
-    "17", "18", "19",
+    "17", "18", "19", "20", "21",
 ];
 
 /// The places of a block of 32 bytes.

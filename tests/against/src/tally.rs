@@ -1,6 +1,8 @@
 //! What a run has met, the comparison that counts it, and the table that is printed at the end.
 
 use crate::answers::Answer;
+use crate::part_at;
+use crate::parts_met::PartsMet;
 use crate::strict::{self, ACCEPTED, FAULTS, NOT_UTF8, PLACES, TEXTS, WIDTHS};
 use second_reader::{Detail, Kind, Layout, Mask, Profile, Rules};
 use std::collections::BTreeMap;
@@ -18,6 +20,7 @@ pub enum Family {
     Find,
     FileMatches,
     ColumnsMatch,
+    PartAt,
     NormalForm,
     WriteIndex,
     FillColumns,
@@ -25,7 +28,7 @@ pub enum Family {
 }
 
 impl Family {
-    pub const ALL: [Family; 12] = [
+    pub const ALL: [Family; 13] = [
         Family::Check,
         Family::Walk,
         Family::Place,
@@ -34,6 +37,7 @@ impl Family {
         Family::Find,
         Family::FileMatches,
         Family::ColumnsMatch,
+        Family::PartAt,
         Family::NormalForm,
         Family::WriteIndex,
         Family::FillColumns,
@@ -50,6 +54,7 @@ impl Family {
             Family::Find => "find",
             Family::FileMatches => "file",
             Family::ColumnsMatch => "columns",
+            Family::PartAt => "part",
             Family::NormalForm => "normal",
             Family::WriteIndex => "index",
             Family::FillColumns => "fill",
@@ -74,6 +79,7 @@ impl Family {
             Family::View => &[15, 16, 17],
             Family::Field => &[15, 16, 20],
             Family::FileMatches | Family::ColumnsMatch => &[15],
+            Family::PartAt => &[16],
             Family::NormalForm | Family::WriteIndex | Family::FillColumns => &[14],
         };
         matches!(number, 1..=13 | 19) || own.contains(&number)
@@ -101,6 +107,16 @@ const VIEWS: &[&str] = &[
     "channel",
     "pixels",
     "waveform",
+];
+
+/// The stream refusals, by name.
+const STREAM_REFUSALS: &[&str] = &[
+    "1", "2", "3", "4", "5", "6", "7", "8", "9", "10", "11", "12", "13", "19", "21",
+];
+
+/// Those of a faulty message: the fault of 13 is where the stream ends.
+const AT_A_MESSAGE: &[&str] = &[
+    "1", "2", "3", "4", "5", "6", "7", "8", "9", "10", "11", "12", "19", "21",
 ];
 
 /// What a stream that was made for one layout can be under both.
@@ -298,6 +314,64 @@ const GROUPS: &[(&str, &[&str])] = &[
             "21 before 14",
         ],
     ),
+    (
+        "every byte asked for",
+        &["of an accepted stream", "of a refused stream"],
+    ),
+    ("view of the part that holds a byte", VIEWS),
+    (
+        "element that holds a byte",
+        &["u16", "u32", "u64", "i32", "f32"],
+    ),
+    (
+        "byte of a waveform header",
+        &["packed", "aligned", "aligned filler"],
+    ),
+    (
+        "channel that holds a byte",
+        &[
+            "the first",
+            "one between",
+            "the last of several",
+            "one above 255",
+            "the highest",
+        ],
+    ),
+    (
+        "byte of a name",
+        &[
+            "the last before its zero",
+            "its zero",
+            "one after its zero",
+            "the zero of an empty name",
+            "the zero of a longest name",
+        ],
+    ),
+    (
+        "empty part where a byte stands",
+        &[
+            "name",
+            "configuration text",
+            "header text",
+            "text",
+            "trajectory of no samples",
+            "trajectory of no dimensions",
+            "channel",
+            "no channel",
+            "attributes",
+            "pixels",
+            "waveform of no samples",
+            "waveform of no channels",
+        ],
+    ),
+    (
+        "byte past the end",
+        &["the first", "the next", "far from it", "the last"],
+    ),
+    (part_at::REFUSED[0], STREAM_REFUSALS),
+    (part_at::REFUSED[1], AT_A_MESSAGE),
+    (part_at::REFUSED[2], STREAM_REFUSALS),
+    ("wrong index beside a byte", &["not looked at"]),
 ];
 
 /// How often each thing was met where both readers agreed.
@@ -309,6 +383,7 @@ pub struct Tally {
     answers: BTreeMap<(Rules, Family, u32), u64>,
     kinds: BTreeMap<(Rules, Kind), u64>,
     met: BTreeMap<(&'static str, &'static str), u64>,
+    pub parts: PartsMet,
 }
 
 impl Tally {
@@ -417,6 +492,7 @@ impl Tally {
         for (thing, times) in other.met {
             *self.met.entry(thing).or_default() += times;
         }
+        self.parts.add(other.parts);
     }
 
     fn answers(&self, rules: Rules, family: Family, number: u32) -> u64 {
@@ -434,6 +510,7 @@ impl Tally {
     pub fn print(&self) {
         for rules in Rules::ALL {
             self.print_answers(rules);
+            self.parts.print(rules);
         }
         for &(group, names) in GROUPS {
             let counts: Vec<String> = names
@@ -474,6 +551,7 @@ impl Tally {
         let mut missing = Vec::new();
         for rules in Rules::ALL {
             missing.extend(self.missing_answers(rules));
+            missing.extend(self.parts.missing(rules));
         }
         for (&(rules, family, number), times) in &self.answers {
             if !family.may_give(rules, number) {

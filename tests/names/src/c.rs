@@ -1,6 +1,8 @@
 //! include/cotterleaf_names.h: names, numbers and sentences for C.
 
 use crate::definitions::{Element, Header, Kind, Named};
+use crate::elements;
+use crate::field::Counter;
 use crate::rust::{said, words};
 use crate::{Format, DATA_TYPES, IMAGE_TYPES};
 
@@ -109,15 +111,16 @@ fn offsets(header: &Header, id: usize) -> String {
     enumeration(&comment, None, &rows)
 }
 
-fn counters(names: &[String]) -> String {
-    let mut rows: Vec<Row> = names
+fn counters(counters: &[Counter]) -> String {
+    let name = |counter: &Counter| format!("MRD_COUNTER_{}", counter.name().to_uppercase());
+    let mut rows: Vec<Row> = counters
         .iter()
         .enumerate()
-        .map(|(i, name)| row(format!("MRD_COUNTER_{}", name.to_uppercase()), i, ""))
+        .map(|(i, counter)| row(name(counter), i, ""))
         .collect();
     rows.push(row(
         "MRD_COUNTERS".to_string(),
-        names.len(),
+        counters.len(),
         "how many there are",
     ));
     let comment = "The seventeen counters of an acquisition (ISMRMRD's idx), by their place in mrd_find's array; in the\n * \
@@ -213,7 +216,7 @@ pub fn header_file(format: &Format) -> String {
     let mut out = String::from(
         "/* Names and numbers of MRD message streams, for C. Included by cotterleaf.h.\n \
          * Written by tests/names from the definitions in crates/: change those, not this file. */\n\
-         #ifndef COTTERLEAF_NAMES_H\n#define COTTERLEAF_NAMES_H\n\n#include <stdint.h>\n\n",
+         #ifndef COTTERLEAF_NAMES_H\n#define COTTERLEAF_NAMES_H\n\n#include <stdbool.h>\n#include <stddef.h>\n#include <stdint.h>\n\n",
     );
     out += &version(&format.version);
     out += &refusals(&format.refusals);
@@ -224,6 +227,7 @@ pub fn header_file(format: &Format) -> String {
         out += &offsets(header, format.id(&header.kind));
     }
     out += &counters(&format.counters);
+    out += &elements::in_c(format);
     out += &flags(&format.flags);
     out += &image_names(&format.element_sizes);
     out + "#endif\n"

@@ -37,22 +37,50 @@ fn size(description: &str, table: &str) -> usize {
     size.and_then(|size| size.parse().ok()).expect("a size")
 }
 
-/// The names of the seventeen counters, in their order; those of an array with their number from 0.
-pub fn counters(description: &str) -> Vec<String> {
-    let mut names = Vec::new();
+/// One of the seventeen counters: a member of the library's struct, or one of an array's, by its number from 0.
+pub struct Counter {
+    member: String,
+    number: Option<usize>,
+}
+
+impl Counter {
+    /// As constants and pages have it: `slice`, `user_2`.
+    pub fn name(&self) -> String {
+        match self.number {
+            None => self.member.clone(),
+            Some(i) => format!("{}_{i}", self.member),
+        }
+    }
+
+    /// As an element is spelled: `slice`, `user[2]`.
+    pub fn element(&self) -> String {
+        match self.number {
+            None => self.member.clone(),
+            Some(i) => format!("{}[{i}]", self.member),
+        }
+    }
+}
+
+/// The seventeen counters, in their order.
+pub fn counters(description: &str) -> Vec<Counter> {
+    let mut counters = Vec::new();
     for member in members(description, "counters") {
         assert_eq!(
             member.offset,
-            2 * names.len(),
+            2 * counters.len(),
             "counters of two bytes adjoin"
         );
+        let counter = |number| Counter {
+            member: member.name.to_string(),
+            number,
+        };
         match member.count {
-            1 => names.push(member.name.to_string()),
-            count => names.extend((0..count).map(|i| format!("{}_{i}", member.name))),
+            1 => counters.push(counter(None)),
+            count => counters.extend((0..count).map(|i| counter(Some(i)))),
         }
     }
-    assert_eq!(names.len(), 17, "seventeen counters");
-    names
+    assert_eq!(counters.len(), 17, "seventeen counters");
+    counters
 }
 
 /// Where a header of ours and the library's struct differ in a name, type or count; in an offset and the size too, but

@@ -10,12 +10,14 @@
 mod c;
 mod citations;
 mod definitions;
+mod elements;
 mod field;
 mod interface;
 mod rust;
 mod tables;
 
 use definitions::{Header, Kind, Named, Order, Sources};
+use field::Counter;
 use std::path::Path;
 use std::process::ExitCode;
 
@@ -43,7 +45,7 @@ pub struct Format {
     pub refusals: Vec<Named>,
     pub sentences: Vec<(String, String)>,
     pub flags: Vec<Named>,
-    pub counters: Vec<String>,
+    pub counters: Vec<Counter>,
     pub element_sizes: Vec<usize>,
     pub message_size: usize,
     pub messages: usize,

@@ -2,6 +2,7 @@
 
 use crate::c::{quoted, upper};
 use crate::definitions::{Element, Field, Header};
+use crate::elements;
 use crate::{Format, DATA_TYPES, IMAGE_TYPES};
 
 const FROM: &str =
@@ -106,8 +107,8 @@ fn flags(format: &Format) -> String {
 }
 
 fn counters(format: &Format) -> String {
-    let lines = format.counters.iter().enumerate();
-    let lines = lines.map(|(i, name)| {
+    let names = format.counters.iter().map(|counter| counter.name());
+    let lines = names.enumerate().map(|(i, name)| {
         constant(
             "    ",
             &format!("`{name}`."),
@@ -180,6 +181,7 @@ fn offsets(format: &Format) -> String {
 pub fn names_file(format: &Format) -> String {
     let mut out = String::from("//! Names and numbers of MRD message streams.\n");
     out += FROM;
+    out += "use crate::rules::Layout;\n\n";
     out += &refused(format);
     for (comment, name, number) in [
         (
@@ -199,6 +201,7 @@ pub fn names_file(format: &Format) -> String {
     out += &ids(format);
     out += &offsets(format);
     out += &counters(format);
+    out += &elements::in_rust(format);
     out += &flags(format);
     out += &image_names(format);
     out.truncate(out.len() - 1);

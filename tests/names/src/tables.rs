@@ -185,7 +185,8 @@ fn header(header: &Header, definitions: &[&str]) -> String {
 }
 
 fn counters(format: &Format) -> String {
-    let names = format.counters.iter().enumerate();
+    let names = format.counters.iter().map(|counter| counter.name());
+    let names = names.enumerate();
     let names: Vec<String> = names.map(|(i, name)| format!("{i} `{name}`")).collect();
     format!("{}.\n", names.join(", "))
 }

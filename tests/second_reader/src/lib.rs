@@ -14,6 +14,7 @@ pub mod mask;
 pub mod message;
 pub mod normal;
 pub mod numbers;
+pub mod part_at;
 pub mod questions;
 pub mod refusal;
 pub mod rules;
@@ -29,6 +30,7 @@ pub use listing::listing;
 pub use mask::Mask;
 pub use message::{Detail, PartName};
 pub use normal::normal_form;
+pub use part_at::{part_at, parts_of, HeaderByte, MessagePart, PartAt, StreamParts};
 pub use questions::{
     counter_step, field, find, flag_cleared, flag_is_set, flag_set, kind_and_place,
 };

@@ -161,7 +161,7 @@ pub fn text_refused(rules: Rules, text: &[u8]) -> bool {
 }
 
 /// The bytes of all pixels of an image whose data type passed check 8.
-fn pixels_length([x, y, z]: [u16; 3], channels: u16, data_type: u16) -> u128 {
+pub fn pixels_length([x, y, z]: [u16; 3], channels: u16, data_type: u16) -> u128 {
     let element = element_size(data_type).expect("a data type that passed check 8");
     u128::from(x) * u128::from(y) * u128::from(z) * u128::from(channels) * element
 }

@@ -9,6 +9,12 @@ impl Rng {
         Rng { state: seed }
     }
 
+    /// Another generator, which this one's numbers so far fix. What is drawn from it leaves this one as it is, so that
+    /// questions that are added later do not change what is drawn for the others.
+    pub fn apart(&self) -> Rng {
+        Rng::new(!self.state)
+    }
+
     /// Any number.
     pub fn number(&mut self) -> u64 {
         self.state = self.state.wrapping_add(0x9E37_79B9_7F4A_7C15);

@@ -1,0 +1,2 @@
+pub mod PartAt
+pub mod PartAtLaws

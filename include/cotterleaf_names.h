@@ -30,7 +30,7 @@ typedef enum mrd_refusal {
     MRD_REFUSED_NO_CLOSE = 13,        /* The stream ends without a close. */
     MRD_REFUSED_OUTPUT_SHORT = 14,    /* The output is too short, or the start position is past its end. */
     MRD_REFUSED_INDEX_DIFFERS = 15,   /* The index differs from the one the stream yields. */
-    MRD_REFUSED_NO_RECORD = 16,       /* There is no such record. */
+    MRD_REFUSED_NO_RECORD = 16,       /* There is no such record, or no such byte. */
     MRD_REFUSED_NO_PART = 17,         /* The record has no such part or channel. */
     MRD_REFUSED_BODY_LENGTH = 18,     /* Of the writer: a body's length isn't what its header says, or a part its kind lacks isn't empty. */
     MRD_REFUSED_TOO_MANY = 19,        /* A message begins after 1,000,000 messages. */

@@ -35,7 +35,7 @@ pub mod refused {
     pub const OUTPUT_SHORT: u32 = 14;
     /// The index differs from the one the stream yields.
     pub const INDEX_DIFFERS: u32 = 15;
-    /// There is no such record.
+    /// There is no such record, or no such byte.
     pub const NO_RECORD: u32 = 16;
     /// The record has no such part or channel.
     pub const NO_PART: u32 = 17;

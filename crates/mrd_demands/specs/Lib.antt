@@ -15,3 +15,4 @@ pub mod TextExample
 pub mod Demands
 pub mod FillerExample
 pub mod NumberExample
+pub mod NamedExample

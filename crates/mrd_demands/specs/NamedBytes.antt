@@ -2,15 +2,13 @@
 -- of it, and each view is its part.
 -- Assumes nothing.
 use Prim.Native.Nat.{ℕ, zero, suc, _+_, _-_, _≤_, _<_}
-use native.Mathlib.Numerals.{add-one}
 use native.Mathlib.Omega.{arith}
 use mathlib.Core.Path.{_≡_, refl, sym, ap, subst, _∙_}
 use mathlib.Core.Bool.{Bool, true, false, false≢true}
 use mathlib.Core.List.{List, [], _∷_, map}
-use lib.ListN.{length, take, drop}
+use lib.ListN.{length}
 use lib.Seq.{take-all}
-use Rattle.mrd_logic.specs.Answer.{Verdict, accepted, refused, Answer, answered, stream, number, unlessRefused, andThen}
-use Rattle.mrd_logic.specs.Choice.{pick}
+use Rattle.mrd_logic.specs.Answer.{accepted, answered, stream, number}
 use Rattle.mrd_logic.specs.Joined.{joined}
 use Rattle.mrd_logic.specs.Lists.{Nth}
 use Rattle.mrd_logic.specs.ListLaws.{every-nth}
@@ -20,12 +18,12 @@ use Rattle.mrd_format.specs.declared.kind.Kind.the-variants.{ConfigurationName,
 use Rattle.mrd_format.specs.declared.rules.Rules.{Rules}
 use Rattle.mrd_format.specs.Elements.{width}
 use Rattle.mrd_format.specs.Kinds.{headerSize}
-use Rattle.mrd_format.specs.Message.{fixedPart, sizeOf}
+use Rattle.mrd_format.specs.Message.{fixedPart}
 use Rattle.mrd_format.specs.Parts as part
-use Rattle.mrd_format.specs.Parts.{Part, same, Extent, extent, lies, lacks, bytesAt}
+use Rattle.mrd_format.specs.Parts.{Part, same, Extent, extent, lies, bytesAt}
 use Rattle.mrd_format.specs.Segments.{PlacedPart}
 use Rattle.mrd_format.specs.Content.{placedParts, extentOf}
-use Rattle.mrd_format.specs.Holding.{holds, holding, OnlyIn}
+use Rattle.mrd_format.specs.Holding.{holds, OnlyIn}
 use Rattle.mrd_format.specs.AdjoinLaws.{Adjoins, placesOf}
 use Rattle.mrd_format.specs.HoldingLaws.{held, holds-true, adjoins-to, held-once, held-none, adjoining-bytes}
 use Rattle.mrd_format.specs.ReachLaws.{parts-adjoin, not-there}
@@ -43,13 +41,11 @@ use Rattle.mrd_cursor.specs.Cursors.{beginning}
 use Rattle.mrd_cut.specs.CutPlaces.{partAt, Adjoin, places-cut}
 use Rattle.mrd_cut.specs.Inside.{Inside, nth-inside, place-nth}
 use Rattle.mrd_record.specs.RecordLaws.{fixed-long}
-use Rattle.mrd_parts.specs.declared.parts.Part as asked
-use Rattle.mrd_parts.specs.Sought.{partMeaning}
-use Rattle.mrd_views.specs.Views.{span, viewOf}
+use Rattle.mrd_views.specs.Views.{span}
 use Rattle.mrd_views.specs.ViewLaws.{fixed-sized}
 use Rattle.mrd_holding.specs.Held.{Held, whole, inHeader, told, partHolding}
 use Rattle.mrd_holding.specs.HeldLaws.{told-same}
-use Rattle.mrd_part_at.specs.PartAt.{extentAt, recordHolding, partsAt, NamedByte, partIn, partOfByte}
+use Rattle.mrd_part_at.specs.PartAt.{extentAt, recordHolding, partsAt, NamedByte, partOfByte}
 use Rattle.mrd_fields.specs.Fields.{fieldOf}
 use Rattle.mrd_demands.specs.RecordViews.{ViewOfPart, each-part-shown}
 

@@ -1,10 +1,10 @@
 -- The pieces of a header adjoin from its first byte to its last, so each of its bytes belongs to one of them; and each element stands where the
 -- header's table has it start.
 -- Assumes nothing.
-use Prim.Native.Nat.{ℕ, zero, suc, _+_, _-_, _*_, _≤_, _<_}
+use Prim.Native.Nat.{ℕ, zero, suc, _+_, _-_, _≤_, _<_}
 use native.Mathlib.Omega.{arith}
-use mathlib.Core.Path.{_≡_, refl, sym, ap, _∙_}
-use mathlib.Core.Bool.{Bool, true, false, _&&_, _||_, false≢true}
+use mathlib.Core.Path.{_≡_, refl, sym, ap}
+use mathlib.Core.Bool.{Bool, true, false, _&&_, false≢true}
 use mathlib.Core.Logic.{⊎-elim}
 use mathlib.Core.List.{List, [], _∷_, _++_, map, map-append}
 use borrow.Author.Tests.{eqb-true, eqb-false}
@@ -18,14 +18,13 @@ use Rattle.mrd_format.specs.declared.kind.Kind
 use Rattle.mrd_format.specs.declared.rules.Layout.the-variants.{Packed, Aligned}
 use Rattle.mrd_format.specs.Elements.{ElementType, u16, u32, u64, i32, f32, Run, width}
 use Rattle.mrd_format.specs.Headers.{Cell, field, lengthOf, gap, runs, runSize}
-use Rattle.mrd_format.specs.HeaderLaws.{standsAt, cellSize, lawful, acquisition-lawful, image-lawful, waveform-lawful}
+use Rattle.mrd_format.specs.HeaderLaws.{lawful, acquisition-lawful, image-lawful, waveform-lawful}
 use Rattle.mrd_format.specs.Parts.{Extent, extent}
 use Rattle.mrd_format.specs.Kinds.{formOf, headerSize}
 use Rattle.mrd_format.specs.Holding.{holds, holding, evenly}
 use Rattle.mrd_format.specs.AdjoinLaws.{Adjoins, adjoins-append, evenly-adjoin}
 use Rattle.mrd_format.specs.HoldingLaws.{holds-true, held, held-once, found-held, found-there}
 use Rattle.mrd_element.specs.declared.byte.ElementPlace.{ElementPlace}
-use Rattle.mrd_element.specs.declared.byte.HeaderByte.{HeaderByte}
 use Rattle.mrd_element.specs.declared.byte.HeaderByte.the-variants.{Element, Filler}
 use Rattle.mrd_element.specs.Element.{Start, starts, none, startsAmong, typeAt, elementAt}
 use Rattle.mrd_element.specs.Letters.{letterOf, letterWidth}

@@ -3,7 +3,7 @@
 use Prim.Native.Nat.{ℕ, zero, suc, _+_, _-_, _*_, _/_, _≤_, _<_}
 use native.Mathlib.Nat.{zero-add, zero-mul, mul-zero, suc-mul, div-mul-le-self, lt-div-mul-add, div-lt-iff-lt-mul}
 use native.Mathlib.Omega.{arith}
-use mathlib.Core.Path.{_≡_, refl, sym, ap, _∙_}
+use mathlib.Core.Path.{_≡_, refl, sym, _∙_}
 use mathlib.Core.Bool.{Bool, true, false}
 use mathlib.Core.List.{List}
 use Rattle.mrd_logic.specs.Answer.{Answer, answered, stream, number, andThen}
@@ -16,7 +16,7 @@ use Rattle.mrd_format.specs.Kinds.{fixedSize, headerSize}
 use Rattle.mrd_format.specs.Message.{sizeOf, bodySize}
 use Rattle.mrd_format.specs.Texts.{textLength}
 use Rattle.mrd_format.specs.Acquisition.{get, active-channels, trajectorySize, channelSize}
-use Rattle.mrd_format.specs.Parts.{Part, channel, header, same, Extent, extent}
+use Rattle.mrd_format.specs.Parts.{Part, channel, header, same, extent}
 use Rattle.mrd_format.specs.Segments.{PlacedPart, placedPart, channelsFrom}
 use Rattle.mrd_format.specs.Content.{placedParts}
 use Rattle.mrd_format.specs.Holding.{holds, holding}

@@ -16,7 +16,7 @@ use Rattle.mrd_cut.specs.CutPlaces.{partAt}
 use Rattle.mrd_record.specs.AtCursor.{Lies}
 use Rattle.mrd_views.specs.declared.views.Span.{Span}
 use Rattle.mrd_views.specs.Views.{span}
-use Rattle.mrd_holding.specs.Held.{Inner, Held, partHolding, partOf, innerOf}
+use Rattle.mrd_holding.specs.Held.{Inner, partHolding, partOf, innerOf}
 use Rattle.mrd_part_at.specs.declared.parts.PartPlace.{PartPlace}
 use Rattle.mrd_part_at.specs.declared.parts.PartAnswer.{PartAnswer}
 use Rattle.mrd_part_at.specs.declared.parts.PartAnswer.the-variants.{At, Stream, Refused}

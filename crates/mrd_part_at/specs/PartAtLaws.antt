@@ -2,8 +2,7 @@
 -- Assumes nothing.
 use Prim.Native.Nat.{ℕ, _+_, _-_, _≤_, _<_}
 use native.Mathlib.Omega.{arith}
-use mathlib.Core.Path.{_≡_, refl, sym, ap, _∙_}
-use mathlib.Core.Bool.{true}
+use mathlib.Core.Path.{_≡_, refl, sym, ap}
 use mathlib.Core.List.{List}
 use lib.ListN.{length, length-append, length-drop}
 use Rattle.mrd_logic.specs.Answer.{Answer, answered, stream, number, unlessRefused}
@@ -14,11 +13,11 @@ use Rattle.mrd_format.specs.Holding.{holds, holding}
 use Rattle.mrd_format.specs.HoldingLaws.{held, holding-here, holding-later, found-there}
 use Rattle.mrd_cursor.specs.declared.cursor.Cursor.{Cursor}
 use Rattle.mrd_cursor.specs.Cursors.{beginning}
-use Rattle.mrd_stream.specs.Walk.{Trace, message, done, trace, verdict, answer, from}
+use Rattle.mrd_stream.specs.Walk.{Trace, message, trace, verdict, answer, from}
 use Rattle.mrd_stream.specs.Places.{Located, located, places}
 use Rattle.mrd_stream.specs.StepLaws.{Passes, On, on-start, on-next, kept-next}
 use Rattle.mrd_cut.specs.CutPlaces.{partAt}
-use Rattle.mrd_cut.specs.Inside.{Inside, nth-inside}
+use Rattle.mrd_cut.specs.Inside.{nth-inside}
 use Rattle.mrd_parts.specs.Sought.{Sized}
 use Rattle.mrd_views.specs.ViewLaws.{fixed-sized}
 use Rattle.mrd_holding.specs.Held.{Held, partHolding}

@@ -6,8 +6,6 @@ use native.Mathlib.Omega.{arith}
 use mathlib.Core.Path.{_≡_, sym, ap, _∙_}
 use borrow.Author.Needs.{needs}
 use Rattle.mrd_format.specs.declared.kind.Kind.{Kind}
-use Rattle.mrd_logic.specs.Answer.{answered}
-use Rattle.mrd_element.specs.declared.byte.HeaderByte.the-variants.{Element}
 use Rattle.mrd_element.specs.Element.{elementAt}
 use Rattle.mrd_element.specs.Letters.{letterOf, letterWidth}
 use Rattle.mrd_element.specs.PieceLaws.{startWidth, letter-width, element-over, NoneOver, none-more, none-over}

@@ -1,6 +1,5 @@
 -- `mrd_element::byte::width` meets its contract: its arms are those of the definition.
 -- Assumes nothing.
-use borrow.Author.Needs.{needs}
 use borrow.Author.Tests.{ne-eqb}
 use Rattle.mrd_element.specs.Letters.{letterWidth}
 use Rattle.mrd_element.proofs.byte.width.Statement.{statement}

@@ -7,7 +7,6 @@ use Rattle.mrd_format.specs.declared.kind.Kind
 use Rattle.mrd_format.specs.Parts.{trajectory}
 use Rattle.mrd_holding.specs.HeldLaws.{part-told, channel-some, channel-low, channel-told}
 use borrow.Author.Needs.{needs}
-use denote.Ref.{now}
 use Rattle.mrd_holding.proofs.holding.in_acquisition.Statement.{statement}
 use Rattle.mrd_holding.proofs.holding.in_acquisition.Tie as tie
 

@@ -7,7 +7,6 @@ use Rattle.mrd_format.specs.declared.kind.Kind
 use Rattle.mrd_format.specs.Parts.{name, filler}
 use Rattle.mrd_holding.specs.HeldLaws.{part-told, name-rest}
 use borrow.Author.Needs.{needs}
-use denote.Ref.{now}
 use Rattle.mrd_holding.proofs.holding.in_name.Statement.{statement}
 use Rattle.mrd_holding.proofs.holding.in_name.Tie as tie
 

@@ -7,7 +7,6 @@ use Rattle.mrd_format.specs.declared.kind.Kind
 use Rattle.mrd_format.specs.Parts.{count, text}
 use Rattle.mrd_holding.specs.HeldLaws.{part-told, text-rest}
 use borrow.Author.Needs.{needs}
-use denote.Ref.{now}
 use Rattle.mrd_holding.proofs.holding.in_text.Statement.{statement}
 use Rattle.mrd_holding.proofs.holding.in_text.Tie as tie
 

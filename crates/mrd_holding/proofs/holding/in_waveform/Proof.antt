@@ -6,7 +6,7 @@ use Rattle.mrd_format.specs.declared.kind.Kind.{Kind}
 use Rattle.mrd_format.specs.declared.kind.Kind
 use Rattle.mrd_format.specs.Parts.{waveform}
 use Rattle.mrd_format.specs.Waveform.{headerBytes, bodySize}
-use Prim.Native.Nat.{ℕ, _+_, _-_}
+use Prim.Native.Nat.{_+_, _-_}
 use mathlib.Core.Path.{_≡_}
 use Rattle.mrd_parts.specs.PartLaws.{waveform-rest}
 use Rattle.mrd_holding.specs.HeldLaws.{part-told}

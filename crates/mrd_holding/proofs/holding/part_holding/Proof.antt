@@ -1,9 +1,8 @@
 -- `mrd_holding::part_holding` meets its contract: the id, then the header where the kind has one, then what its kind has after them.
 -- Assumes nothing.
-use Prim.Native.Nat.{ℕ}
 use native.Mathlib.Omega.{arith}
 use mathlib.Core.Path.{refl, sym, _∙_}
-use mathlib.Core.List.{List, [], _∷_}
+use mathlib.Core.List.{[], _∷_}
 use borrow.Author.Needs.{needs}
 use denote.Ref.{now}
 use Rattle.mrd_format.specs.declared.kind.Kind.{Kind}

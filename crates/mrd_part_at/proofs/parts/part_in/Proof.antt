@@ -1,7 +1,6 @@
 -- `mrd_part_at::parts::part_in` meets its contract: the part of the record's message, further on by where the message starts.
 -- Assumes nothing.
 use native.Mathlib.Omega.{arith}
-use mathlib.Core.Path.{_∙_}
 use borrow.Author.Needs.{needs}
 use denote.Ref.{now}
 use Rattle.mrd_stream.specs.ReaderMeaning.{recordMeaning}

@@ -29,7 +29,7 @@ use Rattle.mrd_element.specs.declared.byte.HeaderByte.the-variants.{Elem
 use Rattle.mrd_element.specs.Element.{Start, starts, none, startsAmong, typeAt, elementAt}
 use Rattle.mrd_element.specs.Letters.{letterOf, letterWidth}
 use Rattle.mrd_element.specs.LetterLaws.{picked}
-use Rattle.mrd_element.specs.Pieces.{Piece, element, filler, placeOf, runPieces, piecesFrom, headerPieces, headerByte, headerByteOf}
+use Rattle.mrd_element.specs.Pieces.{startWidth, Piece, element, filler, placeOf, runPieces, piecesFrom, headerPieces, headerByte, headerByteOf}
 
 -- elements lie where their places say
 element-places : (es : List Extent) → map placeOf (map element es) ≡ es
@@ -107,12 +107,7 @@ pieces-have b (field r ∷ cs) at q = in-run r (runs cs) at (piecesFrom (b + run
 pieces-have b (lengthOf p r ∷ cs) at q = in-run r (runs cs) at (piecesFrom (b + runSize r) cs) (pieces-have (b + runSize r) cs at) q
 pieces-have b (gap n ∷ cs) at q = let h = pieces-have (b + n) cs at q in (suc (h .0), h .1)
 
--- the bytes of the element that starts, if any
-abbrev pub startWidth : Start → ℕ
-startWidth (starts e) = width e
-startWidth none = 0
-
--- its letter says how many
+-- an element's letter says how many bytes it has
 pub letter-width : (s : Start) → letterWidth (letterOf s) ≡ startWidth s
 unfolding letterWidth
 letter-width (starts u16) = refl

@@ -9,6 +9,7 @@ use Rattle.mrd_format.specs.Headers.{Cell, field, lengthOf, gap, runSize}
 use Rattle.mrd_format.specs.Parts.{Extent, extent}
 use Rattle.mrd_format.specs.Kinds.{formOf}
 use Rattle.mrd_format.specs.Holding.{holding, evenly}
+use Rattle.mrd_element.specs.Element.{Start, starts, none}
 use Rattle.mrd_element.specs.declared.byte.HeaderByte.{HeaderByte}
 use Rattle.mrd_element.specs.declared.byte.HeaderByte.the-variants.{Element, Filler}
 
@@ -34,6 +35,11 @@ piecesFrom at (gap n ∷ cs) = filler (extent at n) ∷ piecesFrom (at + n) cs
 -- the pieces of a kind's header
 abbrev pub headerPieces : Kind → List Piece
 headerPieces k = piecesFrom 0 (formOf k .cells)
+
+-- the bytes of the element that starts, if any
+abbrev pub startWidth : Start → ℕ
+startWidth (starts e) = width e
+startWidth none = 0
 
 -- what is told of a header's byte
 abbrev pub headerByte : Piece → HeaderByte

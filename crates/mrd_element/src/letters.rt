@@ -25,7 +25,7 @@ fn among(first: usize, width: usize, letter: u8, offset: usize) -> u8
 }
 
 // The letter at an offset of an acquisition's header, and a dot past its end.
-fn acquisition(offset: usize) -> u8
+pub(crate) fn acquisition(offset: usize) -> u8
     ensures { λ r. ⌜ r ≡ letterOf (elementAt Acquisition offset) ⌝ }
 {
     match offset {
@@ -44,7 +44,7 @@ fn acquisition(offset: usize) -> u8
 }
 
 // The letter at an offset of an image's header, and a dot past its end.
-fn image(offset: usize) -> u8
+pub(crate) fn image(offset: usize) -> u8
     ensures { λ r. ⌜ r ≡ letterOf (elementAt Image offset) ⌝ }
 {
     match offset {
@@ -66,7 +66,7 @@ fn image(offset: usize) -> u8
 }
 
 // The letter at an offset of a waveform's header in this layout, and a dot in its filler and past its end.
-fn waveform(layout: Layout, offset: usize) -> u8
+pub(crate) fn waveform(layout: Layout, offset: usize) -> u8
     ensures { λ r. ⌜ r ≡ letterOf (elementAt (Waveform layout) offset) ⌝ }
 {
     let at = layout.offsets();

@@ -1,14 +1,11 @@
 -- `mrd_element::header_byte` meets its contract. The loop's invariant: none of the elements that start fewer bytes before the offset holds it. The
 -- measure is the bytes left to go back.
 -- Assumes nothing.
-use Prim.Native.Nat.{ℕ, _-_, _≤_}
+use Prim.Native.Nat.{_-_, _≤_}
 use native.Mathlib.Omega.{arith}
-use mathlib.Core.Path.{_≡_, sym, ap, _∙_}
+use mathlib.Core.Path.{sym}
 use borrow.Author.Needs.{needs}
-use Rattle.mrd_format.specs.declared.kind.Kind.{Kind}
-use Rattle.mrd_element.specs.Element.{elementAt}
-use Rattle.mrd_element.specs.Letters.{letterOf, letterWidth}
-use Rattle.mrd_element.specs.PieceLaws.{startWidth, letter-width, element-over, NoneOver, none-more, none-over}
+use Rattle.mrd_element.specs.PieceLaws.{element-over, NoneOver, none-more, none-over}
 use Rattle.mrd_element.proofs.byte.header_byte.Statement.{statement}
 use Rattle.mrd_element.proofs.byte.header_byte.Tie as tie
 
@@ -17,10 +14,6 @@ Inv-loop kind offset back₀ back = (back ≤ 8) × NoneOver kind offset back
 
 abbrev μ-loop : tie.MeasureT-loop
 μ-loop kind offset back₀ back = 8 - back
-
--- the width read at a start is that of the element there
-width-there : (k : Kind) (at : ℕ) {l w : ℕ} → l ≡ letterOf (elementAt k at) → w ≡ letterWidth l → w ≡ startWidth (elementAt k at)
-width-there k at a b = b ∙ ap letterWidth a ∙ letter-width (elementAt k at)
 
 loop-holds : tie.Need-loop-holds Inv-loop μ-loop
 loop-holds c = (omega arith, λ b l m. absurd (omega arith))
@@ -33,20 +26,18 @@ returns c =
 
 returns-2 : tie.Need-returns-2 Inv-loop μ-loop
 returns-2 c =
-    let s = c .before .before .before .before .before in
+    let s = c .before .before .before .before in
     let a = s .before .args in
     let start = a .offset - s .loop .back in
-    let w = width-there (a .kind) start (c .before .before .letter .ensures) (c .before .width .ensures) in
-    let room = c .before .before .before .if1 .left in
+    let w = c .before .width-at .ensures in
+    let room = c .before .before .if1 .left in
     rw w (sym (element-over (a .kind) (a .offset) start (omega arith) (omega (arith, w, c .if2 .taken, room))))
 
 loop-again : tie.Need-loop-again Inv-loop μ-loop
 loop-again c =
-    let s = c .before .before .before .before .before in
+    let s = c .before .before .before .before in
     let a = s .before .args in
-    let start = a .offset - s .loop .back in
-    let w = width-there (a .kind) start (c .before .before .letter .ensures) (c .before .width .ensures) in
-    (omega (arith, c .before .before .before .before .loop-test .taken), none-more (a .kind) (a .offset) (s .loop .back) (s .loop .inv .1) (omega (arith, w, c .if2 .left)))
+    (omega (arith, c .before .before .before .loop-test .taken), none-more (a .kind) (a .offset) (s .loop .back) (s .loop .inv .1) (omega (arith, c .before .width-at .ensures, c .if2 .left)))
 
 returns-3 : tie.Need-returns-3 Inv-loop μ-loop
 returns-3 c =
@@ -62,7 +53,6 @@ header-byte-spec =
     μ-loop
     loop-holds
     returns
-    (λ c κs. search needs)
     (λ c κs. search needs)
     returns-2
     (λ c. omega arith)

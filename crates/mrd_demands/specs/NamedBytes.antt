@@ -8,7 +8,8 @@ use mathlib.Core.Bool.{Bool, true, false, false≢true}
 use mathlib.Core.List.{List, [], _∷_, map}
 use lib.ListN.{length}
 use lib.Seq.{take-all}
-use Rattle.mrd_logic.specs.Answer.{accepted, answered, stream, number}
+use Rattle.mrd_logic.specs.Answer.{accepted, answered, stream, number, Answer, andThen}
+use Rattle.mrd_logic.specs.AnswerLaws.{answered-not-number, answered-not-stream}
 use Rattle.mrd_logic.specs.Joined.{joined}
 use Rattle.mrd_logic.specs.Lists.{Nth}
 use Rattle.mrd_logic.specs.ListLaws.{every-nth}
@@ -65,7 +66,8 @@ pub record Tells (b : NamedByte) (l : Located) (q : PlacedPart) : Type 0 where
   pub part : b .part ≡ q .part
   pub place : b .place ≡ span (l .start + q .place .offset) (q .place .size)
 
--- byte i of s belongs to one part of one record, and to no other; that is what is told of it; and a view by the part's name is that part
+-- byte i of s belongs to one part of one record, and to no other; that is what is told of it, of a header's byte with the element that it belongs to,
+-- or that it is filler; and a view by the part's name is that part
 pub record NamedOnce (rules : Rules) (s : List ℕ) (i : ℕ) : Type 0 where
   pub n : ℕ
   pub j : ℕ
@@ -77,6 +79,7 @@ pub record NamedOnce (rules : Rules) (s : List ℕ) (i : ℕ) : Type 0 where
   pub byte : NamedByte
   pub answer : partOfByte rules s i ≡ answered byte
   pub told : Tells byte l q
+  pub element : same (q .part) part.header ≡ true → (b : HeaderByte) × ((headerByteOf (l .kind) (i - l .start - q .place .offset) ≡ answered b) × (byte .inner ≡ inHeader b))
   pub shown : ViewOfPart rules s n l q
 
 -- places that adjoin, as extents
@@ -181,6 +184,18 @@ always-told k h at j q there inside = by (same (q .part) part.header) refl
         let b = header-told (header-named (q .part) e) in
         (record { part = q .part; place = q .place; inner = inHeader (b .0) }, rw (e, b .1))
 
+-- what is told of a header's byte is what the header's pieces say of it
+header-inner : (k : Kind) (at : ℕ) (q : PlacedPart) (x : Held) → same (q .part) part.header ≡ true → told k at q ≡ answered x →
+    (b : HeaderByte) × ((headerByteOf k (at - q .place .offset) ≡ answered b) × (x .inner ≡ inHeader b))
+header-inner k at q x is e = by (headerByteOf k (at - q .place .offset)) refl (rw is at e)
+  where
+    by : (a : Answer HeaderByte) → headerByteOf k (at - q .place .offset) ≡ a →
+        andThen a (λ b. answered (record { part = q .part; place = q .place; inner = inHeader b })) ≡ answered x →
+        (b : HeaderByte) × ((headerByteOf k (at - q .place .offset) ≡ answered b) × (x .inner ≡ inHeader b))
+    by (answered b) h e = (b, (h, cc))
+    by (stream f r b) h e = absurd (answered-not-stream (sym e))
+    by (number n) h e = absurd (answered-not-number (sym e))
+
 -- each byte of an accepted stream belongs to exactly one part of exactly one record
 module _ (rules : Rules) (s : List ℕ) {n : ℕ} (e : answer rules s ≡ accepted n) (i : ℕ) where
   records-span : Adjoins 0 (length s) (map extentAt (places (trace rules s)))
@@ -237,6 +252,7 @@ module _ (rules : Rules) (s : List ℕ) {n : ℕ} (e : answer rules s ≡ accept
         byte = record { which = l; part = t .0 .part; place = span (l .start + t .0 .place .offset) (t .0 .place .size); inner = t .0 .inner };
         answer = rw (e, r .1 .1 .0, x .1 .1 .0, t .1);
         told = record { which = refl; part = same-part .0; place = ap (λ (p : Extent). span (l .start + p .offset) (p .size)) (same-part .1) };
+        element = λ is. header-inner k (i - l .start) q (t .0) is (t .1);
         shown = every-nth (ViewOfPart rules s m l) (partsAt s l) (x .0) q (each-part-shown rules s m which .there) (u .there);
       }
 

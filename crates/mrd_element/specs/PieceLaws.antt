@@ -39,18 +39,18 @@ element-places (e ∷ es) = ap (λ (ds : List Extent). e ∷ ds) (element-places
 run-adjoins : (r : Run) (at : ℕ) → r .offset ≡ at → Adjoins at (at + runSize r) (map placeOf (runPieces r))
 run-adjoins r at e = rw (element-places (evenly (r .count) (r .offset) (width (r .type))), ← e) (evenly-adjoin (r .count) (r .offset) (width (r .type)))
 
+-- a run that stands at `at`, and pieces that adjoin where the cells after it are lawful
+run-first : (at end : ℕ) (r : Run) (cs : List Cell) (ps : List Piece) → (eqb (r .offset) at && lawful (at + runSize r) end cs) ≡ true →
+    (lawful (at + runSize r) end cs ≡ true → Adjoins (at + runSize r) end (map placeOf ps)) → Adjoins at end (map placeOf (runPieces r ++ ps))
+run-first at end r cs ps p after =
+    let tests = both (eqb (r .offset) at) (lawful (at + runSize r) end cs) p in
+    rw map-append
+    (adjoins-append at (at + runSize r) end (map placeOf (runPieces r)) (map placeOf ps) (run-adjoins r at (eqb-true (r .offset) at (tests .0))) (after (tests .1)))
+
 pieces-adjoin : (at end : ℕ) (cs : List Cell) → lawful at end cs ≡ true → Adjoins at end (map placeOf (piecesFrom at cs))
 pieces-adjoin at end [] p = eqb-true at end p
-pieces-adjoin at end (field r ∷ cs) p =
-    let tests = both (eqb (r .offset) at) (lawful (at + runSize r) end cs) p in
-    rw map-append
-    (adjoins-append at (at + runSize r) end (map placeOf (runPieces r)) _ (run-adjoins r at (eqb-true (r .offset) at (tests .0)))
-    (pieces-adjoin (at + runSize r) end cs (tests .1)))
-pieces-adjoin at end (lengthOf q r ∷ cs) p =
-    let tests = both (eqb (r .offset) at) (lawful (at + runSize r) end cs) p in
-    rw map-append
-    (adjoins-append at (at + runSize r) end (map placeOf (runPieces r)) _ (run-adjoins r at (eqb-true (r .offset) at (tests .0)))
-    (pieces-adjoin (at + runSize r) end cs (tests .1)))
+pieces-adjoin at end (field r ∷ cs) p = run-first at end r cs (piecesFrom (at + runSize r) cs) p (pieces-adjoin (at + runSize r) end cs)
+pieces-adjoin at end (lengthOf q r ∷ cs) p = run-first at end r cs (piecesFrom (at + runSize r) cs) p (pieces-adjoin (at + runSize r) end cs)
 pieces-adjoin at end (gap n ∷ cs) p = (refl, pieces-adjoin (at + n) end cs (both true (lawful (at + n) end cs) p .1))
 
 header-lawful : (k : Kind) → lawful 0 (headerSize k) (formOf k .cells) ≡ true

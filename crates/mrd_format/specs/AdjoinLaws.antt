@@ -90,6 +90,7 @@ Fits h (channels c n) = Unit {0}
 abbrev pub placesOf : List PlacedPart → List Extent
 placesOf ps = map (λ (p : PlacedPart). p .place) ps
 
+-- places of one length, one after the other, adjoin
 pub evenly-adjoin : (n at z : ℕ) → Adjoins at (at + n * z) (evenly n at z)
 evenly-adjoin zero at z = rw zero-mul (sym (add-zero at))
 evenly-adjoin (suc n) at z =

@@ -23,7 +23,7 @@ div-c c =
     rw (c .channel-size .ensures .0)
     (channel-some _ (start .args .size) (start .args .at) (start .pre) (omega (arith, c .before .before .trajectory-size .ensures .0, c .before .if1 .left)))
 
--- what is added stays below the byte
+-- what is added stays below the byte, and so does what is multiplied
 near : tie.Need-add-held
 near c =
     let start = c .before .before .before .before in
@@ -32,11 +32,7 @@ near c =
     rw (t, c .channel-size .ensures .0) (omega (arith, low, start .pre .high, start .pre .sized .small))
 
 mul-held : tie.Need-mul-held
-mul-held c =
-    let start = c .before .before .before .before in
-    let t = c .before .before .trajectory-size .ensures .0 in
-    let low = channel-low _ (start .args .size) (start .args .at) (start .pre) (omega (arith, t, c .before .if1 .left)) in
-    rw (t, c .channel-size .ensures .0) (omega (arith, low, start .pre .high, start .pre .sized .small))
+mul-held c = omega (arith, near c)
 
 returns-2 : tie.Need-returns-2
 returns-2 c =

@@ -380,6 +380,29 @@ static inline mrd_put mrd_write_parts(mrd_rules rules, uint16_t id, const mrd_pa
                      p->waveform_length, out, out_length, position);
 }
 
+/* ---- Saving a torn recording ---- */
+
+/* What is saved of a stream: every message before the first faulty one, unchanged, and then a close (04 00). Where the
+ * messages before the fault have their close already, or nothing is refused, none is added. With an added close at most
+ * 999,999 messages are kept, so that the result has no more than 1,000,000. The result is always accepted, under the
+ * same rules; an accepted stream comes back byte for byte. */
+typedef struct {
+    mrd_refusal refusal;   /* 0, or 14 where the output is too short; then all else is 0 */
+    size_t messages_kept;  /* of the stream's messages; an added close is not counted */
+    size_t bytes_not_kept; /* of the stream's bytes: those from the first message that is not kept on */
+    size_t length;         /* of the saved stream: the bytes kept, and 2 more where a close was added */
+    bool close_added;
+} mrd_salvaged;
+
+/* Writes the saved stream to the front of `out`, which needs at most the stream's length and 2 bytes more. Refuses with
+ * 14 alone: a refused stream is what it is for. */
+mrd_salvaged mrd_salvage(mrd_rules rules, const uint8_t *stream, size_t stream_length, uint8_t *out,
+                         size_t out_length);
+
+/* The same answer with nothing written, and so never refused: how much room mrd_salvage needs. A file can be saved
+ * where it stands: cut off its last `bytes_not_kept` bytes, and append 04 00 where `close_added`. */
+mrd_salvaged mrd_salvage_report(mrd_rules rules, const uint8_t *stream, size_t stream_length);
+
 /* The float with these bits. */
 static inline float mrd_float_of(uint32_t bits)
 {

@@ -167,6 +167,16 @@ pub struct mrd_put {
     pub position: usize,
 }
 
+#[repr(C)]
+#[derive(Clone, Copy, Debug, Default, PartialEq, Eq)]
+pub struct mrd_salvaged {
+    pub refusal: u32,
+    pub messages_kept: usize,
+    pub bytes_not_kept: usize,
+    pub length: usize,
+    pub close_added: bool,
+}
+
 /// The numbers of `mrd_placed::mask`.
 pub const MRD_MASK_NOT_STATED: u16 = 1;
 pub const MRD_MASK_AGREES: u16 = 2;
@@ -351,6 +361,19 @@ extern "C" {
         out_length: usize,
         position: usize,
     ) -> mrd_put;
+
+    fn mrd_salvage(
+        rules: mrd_rules,
+        stream: *const u8,
+        stream_length: usize,
+        out: *mut u8,
+        out_length: usize,
+    ) -> mrd_salvaged;
+    fn mrd_salvage_report(
+        rules: mrd_rules,
+        stream: *const u8,
+        stream_length: usize,
+    ) -> mrd_salvaged;
 }
 
 pub fn check(rules: mrd_rules, stream: &[u8]) -> mrd_checked {
@@ -625,4 +648,22 @@ pub fn write(
             position,
         )
     }
+}
+
+pub fn salvage(rules: mrd_rules, stream: &[u8], out: &mut [u8]) -> mrd_salvaged {
+    // SAFETY: each pointer and length are those of a slice that is borrowed for the call, `out` by it alone.
+    unsafe {
+        mrd_salvage(
+            rules,
+            stream.as_ptr(),
+            stream.len(),
+            out.as_mut_ptr(),
+            out.len(),
+        )
+    }
+}
+
+pub fn salvage_report(rules: mrd_rules, stream: &[u8]) -> mrd_salvaged {
+    // SAFETY: the pointer and length are those of a slice that is borrowed for the call.
+    unsafe { mrd_salvage_report(rules, stream.as_ptr(), stream.len()) }
 }

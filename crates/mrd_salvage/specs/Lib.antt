@@ -1,0 +1,4 @@
+pub mod Salvage
+pub mod Reached
+pub mod ReachLaws
+pub mod KeptLaws

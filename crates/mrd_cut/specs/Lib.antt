@@ -1,4 +1,5 @@
 pub mod Cut
+pub mod Each
 pub mod OrderRule
 pub mod Unique
 pub mod Walked

@@ -5,22 +5,23 @@
 use Prim.Native.Nat.{ℕ, _+_, _≤_, _<_}
 use native.Mathlib.Omega.{arith}
 use mathlib.Core.Path.{_≡_, sym, ap, _∙_}
-use mathlib.Core.Bool.{true}
+use mathlib.Core.Bool.{true, false}
 use mathlib.Core.Logic.{_↔_, _⊎_}
-use mathlib.Core.List.{List, map}
+use mathlib.Core.List.{List, [], _∷_, _++_, map}
 use lib.ListN.{length, take, drop}
 use Rattle.mrd_numbers.specs.Little.{num, Bytes}
 use Rattle.mrd_numbers.specs.Stored.{stored}
 use Rattle.mrd_utf8.specs.Utf8.{Utf8}
 use Rattle.mrd_utf8.specs.Fold.{utf8Of}
 use Rattle.mrd_utf8.specs.FoldLaws.{utf8-exactly}
+use Rattle.mrd_logic.specs.Choice.{pick}
 use Rattle.mrd_logic.specs.Lists.{Nth}
 use Rattle.mrd_logic.specs.Every.{Every}
 use Rattle.mrd_logic.specs.Answer.{accepted, refused, Answer, answered, number, andThen}
 use Rattle.mrd_format.specs.Parts.{Parts, Contents}
-use Rattle.mrd_format.specs.Content.{Record, bytesOf}
+use Rattle.mrd_format.specs.Content.{Record, recordOf, bytesOf}
 use Rattle.mrd_format.specs.declared.kind.Kind.{Kind}
-use Rattle.mrd_format.specs.declared.kind.Kind.the-variants.{Acquisition, Image, Waveform}
+use Rattle.mrd_format.specs.declared.kind.Kind.the-variants.{Close, Acquisition, Image, Waveform}
 use Rattle.mrd_format.specs.declared.rules.Layout.{Layout}
 use Rattle.mrd_format.specs.declared.rules.Layout.the-variants.{Aligned}
 use Rattle.mrd_format.specs.declared.rules.Profile.the-variants.{Plain, Strict}
@@ -30,6 +31,7 @@ use Rattle.mrd_format.specs.Image as image
 use Rattle.mrd_format.specs.Waveform as waveform
 use Rattle.mrd_format.specs.Kinds.{headerSize}
 use Rattle.mrd_format.specs.HeaderLaws.{SameFields}
+use Rattle.mrd_format.specs.WellFormed.{WellFormed}
 use Rattle.mrd_format.specs.HoldingLaws.{Once, held-once}
 use Rattle.mrd_format.specs.Message.{numbersOf}
 use Rattle.mrd_cursor.specs.declared.cursor.Cursor.{Cursor}
@@ -68,12 +70,14 @@ use Rattle.mrd_ask.specs.Shown.{SpanIn}
 use Rattle.mrd_ask.specs.ShownLaws.{asked-fits, indexed-fits}
 use Rattle.mrd_ask.specs.Belief.{Believed}
 use Rattle.mrd_ask.specs.BeliefLaws.{ask-believed}
+use Rattle.mrd_salvage.specs.Salvage.{kept, closing, salvaged, report, salvageAnswer, salvageOutput}
+use Rattle.mrd_salvage.specs.SavedLaws as salvage
 use Rattle.mrd_writer.specs.Write.{writeAnswer, writeOutput}
 use Rattle.mrd_writer.specs.WriteLaws.{never-9}
 use Rattle.mrd_writer.specs.Disregarded.{given, WrittenAlike, number-disregarded, filler-disregarded}
 use Rattle.mrd_writer.specs.ReadBack.{ReadsBack}
 use Rattle.mrd_writer.specs.ReadBack as writer
-use Rattle.mrd_demands.specs.Refusals.{Refusal, output-kept, written-kept}
+use Rattle.mrd_demands.specs.Refusals.{Refusal, output-kept, written-kept, saved-kept}
 use Rattle.mrd_demands.specs.RecordViews.{ViewsOf, EachPart}
 use Rattle.mrd_demands.specs.RecordViews as views
 use Rattle.mrd_demands.specs.Messages.{recordsIn}
@@ -86,6 +90,8 @@ use Rattle.mrd_demands.specs.StrictTexts.{TextsAreUtf8, ReadAlike}
 use Rattle.mrd_demands.specs.StrictTexts as texts
 use Rattle.mrd_demands.specs.NamedBytes.{PartsInOrder, NamedOnce}
 use Rattle.mrd_demands.specs.NamedBytes as named
+use Rattle.mrd_demands.specs.Saved.{SavedOf, ByRefusal, TornSaved}
+use Rattle.mrd_demands.specs.Saved as saved
 use Rattle.mrd_demands.specs.NormalStreams.{accepted-again, normal-long, normal-records, normal-own, normal-written, records-cut}
 use Rattle.mrd_format.specs.declared.rules.Rules.{Rules}
 
@@ -98,6 +104,10 @@ refusal-keeps-output = output-kept
 -- or a message
 pub refused-message-keeps-output : (rules : Rules) (id : ℕ) (c : Contents) (at : ℕ) (o : List ℕ) → Refusal (writeAnswer rules id c at o) → writeOutput rules id c at o ≡ o
 refused-message-keeps-output = written-kept
+
+-- or what is saved of a torn stream
+pub refused-salvage-keeps-output : (rules : Rules) (s o : List ℕ) → Refusal (salvageAnswer rules s (length o)) → salvageOutput rules s o ≡ o
+refused-salvage-keeps-output = saved-kept
 
 -- Demand 2: reading and writing follow the rules
 
@@ -297,3 +307,45 @@ header-bytes-named-once k i = held-once placeOf (headerPieces k) 0 (headerSize k
 pub told-elements-are-fields : (rules : Rules) (s : List ℕ) (n : ℕ) {l : Located} → place rules s n ≡ answered l → (i : ℕ) {e : ElementPlace} →
     headerByteOf (l .kind) i ≡ answered (Element e) → (v : FieldValue) × (fieldOf rules s n (e .offset) ≡ answered v)
 told-elements-are-fields = named.element-field
+
+-- Request E2: save a torn recording. Of every stream, and of all rules
+
+-- what is saved is always accepted, under the same rules, with the messages that are kept and the close that is added
+pub salvaged-is-accepted : (rules : Rules) (s : List ℕ) →
+    answer rules (salvaged rules s) ≡ accepted (report rules s .«messages_kept» + pick (report rules s .«close_added») 1 0)
+unfolding report
+salvaged-is-accepted = salvage.salvaged-accepted
+
+-- an accepted stream comes back byte for byte: all is kept, and nothing is added
+pub accepted-comes-back : (rules : Rules) (s : List ℕ) (n : ℕ) → answer rules s ≡ accepted n →
+    (salvaged rules s ≡ s) × (report rules s ≡ record { «messages_kept» = n; «bytes_not_kept» = 0; «close_added» = false; length = length s })
+accepted-comes-back rules s n e = saved.accepted-saved rules s e
+
+-- what is kept is the stream's front, unchanged, and the report's numbers are what they are named for
+pub kept-is-the-front : (rules : Rules) (s : List ℕ) → SavedOf rules s (report rules s)
+kept-is-the-front = saved.saved-of
+
+-- of a stream that is refused at record n and byte b all n messages before the fault are kept, its first b bytes; but for the last of 1,000,000 without a
+-- close, as the close that is added is one message more
+pub all-before-the-fault : (rules : Rules) (s : List ℕ) (f n b : ℕ) → answer rules s ≡ refused f n b → ByRefusal rules s n b (report rules s)
+all-before-the-fault rules s f n b e = saved.refused-saved rules s e
+
+-- no longer run of messages from the front could have been kept: whatever well-formed messages stand at the front of s, if any bytes at all may follow
+-- them in an acceptable stream, they are the first of those that are kept
+pub no-longer-front : (rules : Rules) (s : List ℕ) (ms : List (List ℕ)) → Every (WellFormed rules) ms → (rest more : List ℕ) → joined ms ++ rest ≡ s →
+    Acceptable rules (joined ms ++ more) → (others : List (List ℕ)) × (kept rules s ≡ ms ++ others)
+no-longer-front = saved.none-longer
+
+-- a recording that is torn at any byte: what is saved are its messages that were whole by then, and a close
+pub torn-recording-is-saved : (rules : Rules) (s : List ℕ) (n : ℕ) → answer rules s ≡ accepted n → (c : Cut rules s) (b : ℕ) → b < length s →
+    TornSaved rules s (c .pieces) b
+torn-recording-is-saved rules s n e c b h = saved.torn-saved rules s e b h c
+
+-- the records of what is saved are the first of the stream's own, and then that of the close that is added
+pub saved-records-are-the-first : (rules : Rules) (s : List ℕ) → records rules (salvaged rules s) ≡
+    take (report rules s .«messages_kept») (records rules s) ++ pick (report rules s .«close_added») (recordOf Close (closing true) ∷ []) []
+saved-records-are-the-first rules s = saved.saved-records rules s (salvage.salvaged-accepted rules s)
+
+-- salvaging twice changes nothing
+pub salvaged-twice : (rules : Rules) (s : List ℕ) → salvaged rules (salvaged rules s) ≡ salvaged rules s
+salvaged-twice rules s = saved.saved-again rules s (salvage.salvaged-accepted rules s)

@@ -10,6 +10,7 @@ pub mod Masks
 pub mod AttributeLengths
 pub mod Layouts
 pub mod StrictTexts
+pub mod Saved
 pub mod LayoutExample
 pub mod TextExample
 pub mod Demands

@@ -15,11 +15,7 @@ use Rattle.mrd_format.specs.Rewritten.{record-writes}
 use Rattle.mrd_format.specs.NormalLaws.{well-normalised, normal-well}
 use Rattle.mrd_logic.specs.Joined.{joined}
 use Rattle.mrd_cut.specs.Cut.{kindsIn}
-
--- what f finds in each of some well-formed messages, by its kind and bytes
-abbrev pub eachIn : (rules : Rules) {A : Type 0} → (Kind → List ℕ → A) → (ms : List (List ℕ)) → Every (WellFormed rules) ms → List A
-eachIn rules f [] w = []
-eachIn rules f (m ∷ ms) w = f (w .0 .kind) m ∷ eachIn rules f ms (w .1)
+use Rattle.mrd_cut.specs.Each.{eachIn, each-count}
 
 -- the records of well-formed messages
 abbrev pub recordsIn : (rules : Rules) (ms : List (List ℕ)) → Every (WellFormed rules) ms → List Record
@@ -29,19 +25,6 @@ recordsIn rules ms w = eachIn rules recordOf ms w
 abbrev pub normalsIn : (rules : Rules) (ms : List (List ℕ)) → Every (WellFormed rules) ms → List (List ℕ)
 normalsIn rules ms w = eachIn rules normalOf ms w
 
--- a message is of one kind
-kind-unique : {rules : Rules} {m : List ℕ} (w v : WellFormed rules m) → w .kind ≡ v .kind
-kind-unique w v = cc (w .known, v .known)
-
-each-unique : (rules : Rules) {A : Type 0} (f : Kind → List ℕ → A) (ms : List (List ℕ)) (w v : Every (WellFormed rules) ms) → eachIn rules f ms w ≡ eachIn rules f ms v
-each-unique rules f [] w v = refl
-each-unique rules f (m ∷ ms) w v = rw (kind-unique (w .0) (v .0), each-unique rules f ms (w .1) (v .1))
-
--- so the same is found in the same messages
-pub each-same : (rules : Rules) {A : Type 0} (f : Kind → List ℕ → A) {ms ns : List (List ℕ)} (w : Every (WellFormed rules) ms) (v : Every (WellFormed rules) ns) → ms ≡ ns →
-    eachIn rules f ms w ≡ eachIn rules f ns v
-each-same rules f {ms} w v e = subst (λ (ls : List (List ℕ)). (u : Every (WellFormed rules) ls) → eachIn rules f ms w ≡ eachIn rules f ls u) e (each-unique rules f ms w) v
-
 -- the normal forms of well-formed messages are well formed
 abbrev pub normals-well : (rules : Rules) (ms : List (List ℕ)) (w : Every (WellFormed rules) ms) → Every (WellFormed rules) (normalsIn rules ms w)
 normals-well rules [] w = tt
@@ -49,8 +32,7 @@ normals-well rules (m ∷ ms) w = (normal-well m (w .0), normals-well rules ms (
 
 -- they are as many and as long, and of the same kinds
 pub normals-count : (rules : Rules) (ms : List (List ℕ)) (w : Every (WellFormed rules) ms) → length (normalsIn rules ms w) ≡ length ms
-normals-count rules [] w = refl
-normals-count rules (m ∷ ms) w = ap suc (normals-count rules ms (w .1))
+normals-count rules = each-count rules normalOf
 
 pub normals-long : (rules : Rules) (ms : List (List ℕ)) (w : Every (WellFormed rules) ms) → length (joined (normalsIn rules ms w)) ≡ length (joined ms)
 normals-long rules [] w = refl

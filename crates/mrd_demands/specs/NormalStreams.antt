@@ -15,10 +15,11 @@ use Rattle.mrd_demands.specs.Records.{recordsOf, records}
 use Rattle.mrd_stream.specs.Normal.{normalFrom, normal}
 use Rattle.mrd_logic.specs.Joined.{joined}
 use Rattle.mrd_cut.specs.Cut.{Cut}
+use Rattle.mrd_cut.specs.Each.{each-same}
 use Rattle.mrd_cut.specs.Unique.{cut-unique}
 use Rattle.mrd_cut.specs.Walked.{Walks, ends, faults, meets, walks, piecesOf}
 use Rattle.mrd_cut.specs.Accepted.{Acceptable, accepted-cut, cut-accepted}
-use Rattle.mrd_demands.specs.Messages.{recordsIn, normalsIn, each-same, normals-well, normals-count, normals-long, normals-kinds, normals-records, normals-own, records-write}
+use Rattle.mrd_demands.specs.Messages.{recordsIn, normalsIn, normals-well, normals-count, normals-long, normals-kinds, normals-records, normals-own, records-write}
 use Rattle.mrd_format.specs.declared.rules.Rules.{Rules}
 
 -- the messages that a walk met, with their records and normal forms
@@ -38,14 +39,18 @@ by-pieces (meets {m = m} w a n v) =
       normal = ap (λ (l : List ℕ). normalOf (w .kind) m ++ l) (later .normal);
     }
 
+-- the records of a stream, accepted or not, are those of the messages that its walk met
+pub records-met : (rules : Rules) (s : List ℕ) (ms : List (List ℕ)) (w : Every (WellFormed rules) ms) → piecesOf (trace rules s) ≡ ms → records rules s ≡ recordsIn rules ms w
+unfolding records
+records-met rules s ms w e = let t = by-pieces (walks rules s) in t .records ∙ each-same rules recordOf (t .well) w e
+
 module _ {rules : Rules} (s : List ℕ) {n : ℕ} (e : answer rules s ≡ accepted n) (c : Cut rules s) where
   met-cut : piecesOf (trace rules s) ≡ c .pieces
   met-cut = sym (accepted-cut rules s e .1) ∙ cut-unique s (accepted-cut rules s e .0 .cut) c
 
   -- the record list of an accepted stream is that of its cut
   pub records-cut : records rules s ≡ recordsIn rules (c .pieces) (c .well)
-  unfolding records
-  records-cut = let t = by-pieces (walks rules s) in t .records ∙ each-same rules recordOf (t .well) (c .well) met-cut
+  records-cut = records-met rules s (c .pieces) (c .well) met-cut
 
   -- and so is its normal form
   pub normal-cut : normal rules s ≡ joined (normalsIn rules (c .pieces) (c .well))

@@ -3,18 +3,21 @@
 use Prim.Native.Nat.{ℕ}
 use mathlib.Core.Path.{_≡_, refl}
 use mathlib.Core.List.{List}
-use Rattle.mrd_logic.specs.Answer.{Answer, answered, stream, number}
+use lib.ListN.{length}
+use Rattle.mrd_logic.specs.Answer.{Answer, answered, stream, number, andThen}
 use Rattle.mrd_format.specs.declared.kind.Identified.{Identified}
 use Rattle.mrd_format.specs.declared.kind.Identified.the-variants.{Known, Unknown}
 use Rattle.mrd_format.specs.Kinds.{identified}
 use Rattle.mrd_format.specs.Parts.{Contents}
 use Rattle.mrd_format.specs.Content.{messageOf}
 use Rattle.mrd_stream.specs.Output.{outputBy}
+use Rattle.mrd_salvage.specs.declared.report.Report.{Report}
+use Rattle.mrd_salvage.specs.Salvage.{salvaged, salvageAnswer, salvageOutput}
 use Rattle.mrd_writer.specs.Write.{answerAs, storedBy, outputAs, writeAnswer, writeOutput}
 use Rattle.mrd_format.specs.declared.rules.Rules.{Rules}
 
 -- a refusal: the stream's, or a number alone
-abbrev pub Refusal : Answer ℕ → Type 0
+abbrev pub Refusal : {A : Type 0} → Answer A → Type 0
 Refusal (answered n) = ⊥
 Refusal (stream f r b) = Unit {0}
 Refusal (number n) = Unit {0}
@@ -38,3 +41,13 @@ written-kept rules id c at o r = by (identified rules id) r
     by : (i : Identified) → Refusal (answerAs (rules .profile) i c at o) → outputAs (rules .profile) i c at o ≡ o
     by Unknown r = refl
     by (Known k) r = message-kept (answerAs (rules .profile) (Known k) c at o) r (messageOf k c) at o
+
+-- of the salvage
+pub saved-kept : (rules : Rules) (s o : List ℕ) → Refusal (salvageAnswer rules s (length o)) → salvageOutput rules s o ≡ o
+unfolding salvageOutput
+saved-kept rules s o r = by (salvageAnswer rules s (length o)) r
+  where
+    by : (a : Answer Report) → Refusal a → outputBy (andThen a (λ r. answered (r .length))) (salvaged rules s) o ≡ o
+    by (answered x) r = absurd r
+    by (stream f n b) r = refl
+    by (number n) r = refl

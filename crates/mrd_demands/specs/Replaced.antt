@@ -28,7 +28,7 @@ use Rattle.mrd_cut.specs.Accepted.{Acceptable, accepted-cut, cut-accepted}
 use Rattle.mrd_cut.specs.CutPlaces.{partAt, places-pieces}
 use Rattle.mrd_cut.specs.Inside.{place-nth}
 use Rattle.mrd_demands.specs.Records.{records}
-use Rattle.mrd_demands.specs.Messages.{eachIn}
+use Rattle.mrd_cut.specs.Each.{eachIn}
 use Rattle.mrd_demands.specs.NormalStreams.{records-cut, normal-cut}
 
 -- bytes stored in the first of two lists, and in the second

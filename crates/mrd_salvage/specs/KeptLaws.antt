@@ -12,17 +12,18 @@ use borrow.Author.Tests.{lt-ltb, le-ltb}
 use lib.Dec.{ltb}
 use lib.ListN.{length, take, drop, length-append, length-drop, take-append-drop}
 use lib.Seq.{length-take-le, take-all, take-at, take-length}
-use Rattle.mrd_logic.specs.Answer.{answered}
+use Rattle.mrd_logic.specs.Answer.{answered, andThen}
 use Rattle.mrd_logic.specs.Answer as answers
 use Rattle.mrd_logic.specs.Choice.{pick}
 use Rattle.mrd_logic.specs.Joined.{joined, joined-append}
 use Rattle.mrd_numbers.specs.Little.{toBytes}
 use Rattle.mrd_numbers.specs.Stored.{front, partFrom, returned, length-part, front-next}
 use Rattle.mrd_format.specs.declared.rules.Rules.{Rules}
+use Rattle.mrd_stream.specs.Output.{outputBy}
 use Rattle.mrd_cut.specs.Walked.{met}
 use Rattle.mrd_salvage.specs.declared.reach.Reach.{Reach}
 use Rattle.mrd_salvage.specs.declared.report.Report.{Report}
-use Rattle.mrd_salvage.specs.Salvage.{before, closeAdded, mostKept, kept, closing, salvaged, report, salvageAnswer, outputBy, salvageOutput}
+use Rattle.mrd_salvage.specs.Salvage.{before, closeAdded, mostKept, kept, closing, salvaged, report, salvageAnswer, salvageOutput}
 use Rattle.mrd_salvage.specs.Reached.{reached, asTheyAre, withClose, reportBy}
 use Rattle.mrd_salvage.specs.ReachLaws.{reached-number, reached-end, reached-closed, reached-last}
 
@@ -119,9 +120,10 @@ module _ (rules : Rules) (s o : List ℕ) where
   abbrev Answers : answers.Answer Report → List ℕ → Type 0
   Answers a out = (a ≡ salvageAnswer rules s (length o)) × (out ≡ salvageOutput rules s o)
 
-  by-answer : {a : answers.Answer Report} → salvageAnswer rules s (length o) ≡ a → Answers a (outputBy a (salvaged rules s) o)
+  by-answer : {a : answers.Answer Report} → salvageAnswer rules s (length o) ≡ a →
+      Answers a (outputBy (andThen a (λ r. answered (r .length))) (salvaged rules s) o)
   unfolding salvageOutput
-  by-answer e = (sym e, ap (λ (a : answers.Answer Report). outputBy a (salvaged rules s) o) (sym e))
+  by-answer e = (sym e, ap (λ (a : answers.Answer Report). outputBy (andThen a (λ r. answered (r .length))) (salvaged rules s) o) (sym e))
 
   -- with the report r at hand: what it says of the length, and of the bytes that are kept
   module _ {r : Report} (e : r ≡ report rules s) where
@@ -153,7 +155,7 @@ module _ (rules : Rules) (s o : List ℕ) where
 
     pub output-fits : r .length ≤ length o → {out : List ℕ} → out ≡ front (take (length s - r .«bytes_not_kept») s ++ closing (r .«close_added»)) o →
         Answers (answered r) out
-    unfolding salvageAnswer
+    unfolding salvageAnswer report
     output-fits h p =
         let all = by-answer {a = answered (report rules s)} (rw (le-ltb _ _ (rw its-length at h))) in
         (ap answered e ∙ all .0, p ∙ ap (λ (l : List ℕ). front l o) its-split ∙ all .1)

@@ -4,8 +4,8 @@ use Prim.Native.Nat.{ℕ, _-_}
 use mathlib.Core.Bool.{Bool, not}
 use mathlib.Core.List.{List, [], _∷_, _++_}
 use lib.Dec.{ltb}
-use lib.ListN.{length, take, drop}
-use Rattle.mrd_logic.specs.Answer.{Answer, answered, stream, number}
+use lib.ListN.{length, take}
+use Rattle.mrd_logic.specs.Answer.{Answer, answered, number, andThen}
 use Rattle.mrd_logic.specs.Choice.{pick}
 use Rattle.mrd_logic.specs.Joined.{joined}
 use Rattle.mrd_format.specs.declared.rules.Rules.{Rules}
@@ -13,6 +13,7 @@ use Rattle.mrd_cursor.specs.declared.cursor.Phase.{Phase}
 use Rattle.mrd_cursor.specs.declared.cursor.Phase.the-variants.{Start}
 use Rattle.mrd_cursor.specs.Order.{isClosed, nextPhase}
 use Rattle.mrd_stream.specs.Walk.{Trace, message, done, trace}
+use Rattle.mrd_stream.specs.Output.{outputBy}
 use Rattle.mrd_cut.specs.Walked.{piecesOf}
 use Rattle.mrd_salvage.specs.declared.report.Report.{Report}
 use Rattle.mrd_salvage.specs.declared.report.Salvaged.{Salvaged}
@@ -66,11 +67,6 @@ salvagedMeaning (Salvaged.Refused n) = number n
 unfoldable pub salvageAnswer : Rules → List ℕ → ℕ → Answer Report
 salvageAnswer rules s room = pick (ltb room (length (salvaged rules s))) (number 14) (answered (report rules s))
 
--- the output afterwards, which held o, by the answer: where w was written, it stands at the front
-abbrev pub outputBy : Answer Report → List ℕ → List ℕ → List ℕ
-outputBy (answered r) w o = w ++ drop (length w) o
-outputBy (stream f r b) w o = o
-outputBy (number n) w o = o
-
+-- the output afterwards, which held o: where the call wrote, the salvaged stream stands at its front
 unfoldable pub salvageOutput : Rules → List ℕ → List ℕ → List ℕ
-salvageOutput rules s o = outputBy (salvageAnswer rules s (length o)) (salvaged rules s) o
+salvageOutput rules s o = outputBy (andThen (salvageAnswer rules s (length o)) (λ r. answered (r .length))) (salvaged rules s) o

@@ -89,6 +89,13 @@ _Static_assert(sizeof(mrd_rules) == 2, "mrd_rules: another size");
 MEMBER(mrd_rules, aligned_waveforms, 0, bool);
 MEMBER(mrd_rules, strict_text, 1, bool);
 
+_Static_assert(sizeof(mrd_salvaged) == 40, "mrd_salvaged: another size");
+MEMBER(mrd_salvaged, refusal, 0, uint32_t);
+MEMBER(mrd_salvaged, messages_kept, 8, size_t);
+MEMBER(mrd_salvaged, bytes_not_kept, 16, size_t);
+MEMBER(mrd_salvaged, length, 24, size_t);
+MEMBER(mrd_salvaged, close_added, 32, bool);
+
 _Static_assert(sizeof(mrd_checked) == 32, "mrd_checked: another size");
 MEMBER(mrd_checked, refusal, 0, uint32_t);
 MEMBER(mrd_checked, record, 8, size_t);
@@ -145,6 +152,8 @@ mrd_step mrd_next(mrd_rules, const uint8_t *, size_t, mrd_cursor);
 mrd_written mrd_normal_form(mrd_rules, const uint8_t *, size_t, uint8_t *, size_t);
 mrd_part_answer mrd_part_at(mrd_rules, const uint8_t *, size_t, size_t);
 mrd_placed mrd_place(mrd_rules, const uint8_t *, size_t, size_t);
+mrd_salvaged mrd_salvage(mrd_rules, const uint8_t *, size_t, uint8_t *, size_t);
+mrd_salvaged mrd_salvage_report(mrd_rules, const uint8_t *, size_t);
 mrd_view_place mrd_view(mrd_rules, const uint8_t *, size_t, size_t, uint32_t, size_t);
 mrd_view_place mrd_view_at(mrd_rules, const uint8_t *, size_t, mrd_cursor, uint32_t, size_t);
 mrd_put mrd_write(mrd_rules, uint16_t, const uint8_t *, size_t, const uint8_t *, size_t, const uint8_t *, size_t, const uint8_t *, size_t, const uint8_t *, size_t, const uint8_t *, size_t, const uint8_t *, size_t, const uint8_t *, size_t, uint8_t *, size_t, size_t);

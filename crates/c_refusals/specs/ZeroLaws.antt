@@ -37,6 +37,7 @@ use Rattle.mrd_element.specs.Pieces.{placeOf, headerPieces, headerByteOf}
 use Rattle.mrd_holding.specs.Held.{told, partHolding}
 use Rattle.mrd_part_at.specs.PartAt.{extentAt, recordHolding, partIn, partOfByte}
 use Rattle.mrd_columns.specs.Columns.{columnsAnswer}
+use Rattle.mrd_salvage.specs.Salvage.{salvaged, report, salvageAnswer}
 use Rattle.mrd_index_match.specs.Compare.{believed, fileMatch, columnsMatch}
 use Rattle.mrd_index_cursor.specs.IndexCursor.{cursorFor}
 use Rattle.mrd_ask.specs.declared.question.Question.{Question}
@@ -48,6 +49,7 @@ use Rattle.c_walk.specs.WalkStructs.{cChecked, cCursorAnswer, cStep}
 use Rattle.c_record.specs.RecordStructs.{cView, cField, cFound}
 use Rattle.c_part_at.specs.PartStruct.{cPart}
 use Rattle.c_written.specs.WrittenStructs.{cWritten, cMatched, cPut}
+use Rattle.c_salvage.specs.SalvagedStruct.{cSalvaged}
 use Rattle.c_ask.specs.AskStructs.{cReply}
 use Rattle.c_refusals.specs.NoRefusal.{IsAccepted, IsAnswered, StepSays}
 use Rattle.mrd_format.specs.declared.rules.Rules.{Rules}
@@ -225,6 +227,16 @@ pub zero-filled : (rules : Rules) (s : List ℕ) (a b c : ℕ) → cWritten (col
 unfolding columnsAnswer
 zero-filled rules s a b c =
     let n = length (entries rules s) in zero-output (answer rules s) (ltb a n || (ltb b n || ltb c n)) n (answer-numbered rules s)
+
+-- what was saved of a torn stream: its report, which asked for alone is never refused
+pub zero-salvaged : (rules : Rules) (s : List ℕ) (room : ℕ) → cSalvaged (salvageAnswer rules s room) .refusal ≡ 0 → salvageAnswer rules s room ≡ answered (report rules s)
+unfolding salvageAnswer
+zero-salvaged rules s room = by (ltb room (length (salvaged rules s)))
+  where
+    by : (short : Bool) → cSalvaged (pick short (number 14) (answered (report rules s))) .refusal ≡ 0 →
+        pick short (number 14) (answered (report rules s)) ≡ answered (report rules s)
+    by true z = absurd (omega (arith, z))
+    by false z = refl
 
 -- the position after a message
 pub zero-put : (rules : Rules) (id : ℕ) (c : Contents) (at : ℕ) (o : List ℕ) → cPut (writeAnswer rules id c at o) .refusal ≡ 0 → IsAnswered (writeAnswer rules id c at o)

@@ -139,6 +139,18 @@ const _: fn(mrd_rules) -> bool = |of| of.aligned_waveforms;
 const _: () = assert!(offset_of!(mrd_rules, strict_text) == 1);
 const _: fn(mrd_rules) -> bool = |of| of.strict_text;
 
+const _: () = assert!(size_of::<mrd_salvaged>() == 40);
+const _: () = assert!(offset_of!(mrd_salvaged, refusal) == 0);
+const _: fn(mrd_salvaged) -> u32 = |of| of.refusal;
+const _: () = assert!(offset_of!(mrd_salvaged, messages_kept) == 8);
+const _: fn(mrd_salvaged) -> usize = |of| of.messages_kept;
+const _: () = assert!(offset_of!(mrd_salvaged, bytes_not_kept) == 16);
+const _: fn(mrd_salvaged) -> usize = |of| of.bytes_not_kept;
+const _: () = assert!(offset_of!(mrd_salvaged, length) == 24);
+const _: fn(mrd_salvaged) -> usize = |of| of.length;
+const _: () = assert!(offset_of!(mrd_salvaged, close_added) == 32);
+const _: fn(mrd_salvaged) -> bool = |of| of.close_added;
+
 const _: () = assert!(size_of::<mrd_checked>() == 32);
 const _: () = assert!(offset_of!(mrd_checked, refusal) == 0);
 const _: fn(mrd_checked) -> u32 = |of| of.refusal;
@@ -268,6 +280,9 @@ const _: unsafe extern "C" fn(mrd_rules, *const u8, usize, *mut u8, usize) -> mr
     mrd_normal_form;
 const _: unsafe extern "C" fn(mrd_rules, *const u8, usize, usize) -> mrd_part_answer = mrd_part_at;
 const _: unsafe extern "C" fn(mrd_rules, *const u8, usize, usize) -> mrd_placed = mrd_place;
+const _: unsafe extern "C" fn(mrd_rules, *const u8, usize, *mut u8, usize) -> mrd_salvaged =
+    mrd_salvage;
+const _: unsafe extern "C" fn(mrd_rules, *const u8, usize) -> mrd_salvaged = mrd_salvage_report;
 const _: unsafe extern "C" fn(mrd_rules, *const u8, usize, usize, u32, usize) -> mrd_view_place =
     mrd_view;
 const _: unsafe extern "C" fn(

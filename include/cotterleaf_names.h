@@ -43,9 +43,9 @@ static inline const char *mrd_refusal_text(uint32_t refusal)
 {
     static const char *const texts[] = {
         "nothing is refused",
-        "one byte remains where an id is due; have the rest of the recording sent again, or cut this byte off",
+        "one byte remains where an id is due; have the rest of the recording sent again, or salvage what stands before this byte",
         "the id names no kind of message; check that this is an MRD stream and that nothing was lost before this message",
-        "the stream ends inside the fixed part of the message, or a header to be written has another length than its kind's; have the message sent again whole, or give 340, 198, 32 (of an aligned waveform 40) or no header bytes as the kind asks",
+        "the stream ends inside the fixed part of the message, or a header to be written has another length than its kind's; have the message sent again whole, or salvage what stands before it; to write one, give 340, 198, 32 (of an aligned waveform 40) or no header bytes as the kind asks",
         "the version in the header is not 1; have the sender write version 1 of the header",
         "a configuration name has no zero in its 1,024 bytes, or one to be written is too long or holds a zero; give a name of at most 1,023 bytes without a zero",
         "more channels are active than available; correct the two channel numbers of the acquisition header",
@@ -53,9 +53,9 @@ static inline const char *mrd_refusal_text(uint32_t refusal)
         "the image data type is not 1 to 8; correct the data type of the image header",
         "the image header's attribute length is neither 0 nor the one in the 8 bytes after it; write in the header the length that those 8 bytes have, or 0",
         "the message has over 268,435,456 bytes; check the sizes in its header, or send the data in several messages",
-        "the stream ends inside the message; have the message sent again whole, or cut the stream before it and add a close (04 00)",
+        "the stream ends inside the message; have the message sent again whole, or salvage what stands before it",
         "the order of messages is broken; send at most one configuration, then one header text, then the data, and nothing after the close",
-        "the stream ends without a close; wait for the rest, or add a close (04 00) if the recording is over",
+        "the stream ends without a close; wait for the rest, or salvage the stream if the recording is over: that adds the close (04 00)",
         "the output is too short, or the position is past its end; give a longer output",
         "the index that was given is not the one that this stream yields; write the index again, or ask without one",
         "there is no such record, or no such byte; ask for a record number below the count, for counters that an acquisition has, or for a byte below the stream's length",

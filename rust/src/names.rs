@@ -53,7 +53,7 @@ pub mod refused {
 pub(crate) const SENTENCES: [(&str, &str); 21] = [
     (
         "one byte remains where an id is due",
-        "have the rest of the recording sent again, or cut this byte off",
+        "have the rest of the recording sent again, or salvage what stands before this byte",
     ),
     (
         "the id names no kind of message",
@@ -61,7 +61,7 @@ pub(crate) const SENTENCES: [(&str, &str); 21] = [
     ),
     (
         "the stream ends inside the fixed part of the message, or a header to be written has another length than its kind's",
-        "have the message sent again whole, or give 340, 198, 32 (of an aligned waveform 40) or no header bytes as the kind asks",
+        "have the message sent again whole, or salvage what stands before it; to write one, give 340, 198, 32 (of an aligned waveform 40) or no header bytes as the kind asks",
     ),
     (
         "the version in the header is not 1",
@@ -93,7 +93,7 @@ pub(crate) const SENTENCES: [(&str, &str); 21] = [
     ),
     (
         "the stream ends inside the message",
-        "have the message sent again whole, or cut the stream before it and add a close (04 00)",
+        "have the message sent again whole, or salvage what stands before it",
     ),
     (
         "the order of messages is broken",
@@ -101,7 +101,7 @@ pub(crate) const SENTENCES: [(&str, &str); 21] = [
     ),
     (
         "the stream ends without a close",
-        "wait for the rest, or add a close (04 00) if the recording is over",
+        "wait for the rest, or salvage the stream if the recording is over: that adds the close (04 00)",
     ),
     (
         "the output is too short, or the position is past its end",

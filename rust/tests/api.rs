@@ -1198,7 +1198,7 @@ fn a_refusal_says_what_where_and_what_to_do() {
     assert_eq!(
         refusal.to_string(),
         "refused 13 at record 1, byte 8: the stream ends without a close; \
-         wait for the rest, or add a close (04 00) if the recording is over."
+         wait for the rest, or salvage the stream if the recording is over: that adds the close (04 00)."
     );
     let bytes = text_stream(&[b'a', 0xFF]);
     let not_utf8 = strictly(&packed(&bytes)).check().unwrap_err();

@@ -1,6 +1,7 @@
 -- `cotterleaf::mrd_salvage` meets its contract: the inner function meets the same.
 -- Assumes nothing.
-use mathlib.Core.Path.{ap, _∙_}
+use mathlib.Core.Path.{_≡_, ap, _∙_}
+use Rattle.c_rules.specs.RulesStruct.{rulesOf}
 use Rattle.c_salvage.specs.SalvagedStruct.{cSalvaged}
 use borrow.Author.Needs.{needs}
 use Rattle.cotterleaf.proofs.salvage.mrd_salvage.Statement.{statement}
@@ -8,7 +9,9 @@ use Rattle.cotterleaf.proofs.salvage.mrd_salvage.Tie as tie
 
 returns : tie.Need-returns
 returns c =
-    let inner = rw (c .before .before .before .before .before .rules-of .ensures) at (c .before .before .before .salvage .ensures) in
+    let call = c .before .before .before .before .before in
+    let rules : call .rules-of .result ≡ rulesOf (call .before .before .before .args .rules) = call .rules-of .ensures in
+    let inner = rw rules at (c .before .before .before .salvage .ensures) in
     (c .of .ensures ∙ ap cSalvaged (inner .0), inner .1)
 
 pub mrd-salvage-spec : {M : Type 1} → statement M

@@ -18,6 +18,7 @@ pub mod part_at;
 pub mod questions;
 pub mod refusal;
 pub mod rules;
+pub mod salvage;
 pub mod stream;
 pub mod utf8;
 pub mod views;
@@ -36,7 +37,8 @@ pub use questions::{
 };
 pub use refusal::{Refusal, Refused};
 pub use rules::{Layout, Profile, Rules};
-pub use stream::{check, contents, records, Content, Record};
+pub use salvage::{salvage, salvage_report, Salvage, Saved};
+pub use stream::{check, contents, records, records_before_fault, Content, Record};
 pub use views::{
     attributes, bytes_of, channel, name, pixels, place_of_view, text, trajectory, waveform, Part,
 };

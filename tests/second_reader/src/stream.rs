@@ -56,13 +56,22 @@ pub fn check(rules: Rules, stream: &[u8]) -> Result<u64, Refusal> {
 
 /// The records of an accepted stream in their order, or its stream refusal.
 pub fn records(rules: Rules, stream: &[u8]) -> Result<Vec<Record>, Refusal> {
+    match records_before_fault(rules, stream) {
+        (records, None) => Ok(records),
+        (_, Some(refusal)) => Err(refusal),
+    }
+}
+
+/// The records of a stream before its first faulty message, and the stream refusal. An accepted stream has no fault:
+/// these are all its records.
+pub fn records_before_fault(rules: Rules, stream: &[u8]) -> (Vec<Record>, Option<Refusal>) {
     let mut records = Vec::new();
     let mut seen = Seen::default();
     let mut at = 0;
     loop {
         let left = &stream[at..];
         if seen.close && left.is_empty() {
-            return Ok(records);
+            return (records, None);
         }
         let number = records.len() as u64;
         match next(rules, number, left, seen) {
@@ -77,11 +86,12 @@ pub fn records(rules: Rules, stream: &[u8]) -> Result<Vec<Record>, Refusal> {
                 at += detail.size(rules) as usize;
             }
             Err(refused) => {
-                return Err(Refusal {
+                let refusal = Refusal {
                     number: refused,
                     record: number,
                     byte: at as u64,
-                })
+                };
+                return (records, Some(refusal));
             }
         }
     }

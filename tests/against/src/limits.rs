@@ -1,10 +1,11 @@
 //! The lines of document 01 that are not marked P, both sides of check 9, of a waveform's checks and of check 21 as
-//! document 02 has them, and the limits of 1,000,000 messages: on both readers, under all rules, with the paper's
-//! answer.
+//! document 02 has them, the limits of 1,000,000 messages, and what is saved of streams around them: on both readers,
+//! under all rules, with the paper's answer.
 
 use crate::answers;
 use crate::case::{library_rules, Case};
 use crate::part_at;
+use crate::salvage_limits;
 use crate::stream;
 use crate::tally::{Difference, Outcome, Tally};
 use crate::writer::given;
@@ -14,7 +15,7 @@ use second_reader::{self as second, Kind, Refusal, Refused, Rules};
 use streams::{around_the_limit, huge_images, messages, too_many, AroundTheLimit, Rng};
 
 /// The longest text that passes check 10.
-const LONGEST_TEXT: usize = 268_435_450;
+pub const LONGEST_TEXT: usize = 268_435_450;
 
 fn refused(number: u32, record: u64, byte: u64) -> Result<u64, Refusal> {
     Err(Refusal {
@@ -493,6 +494,7 @@ pub fn limits(tally: &mut Tally, rng: &mut Rng) -> Result<(), (Vec<u8>, Differen
     largest_waveforms(tally).map_err(without_bytes)?;
     most_channels(tally).map_err(without_bytes)?;
     most_messages(tally, rng).map_err(without_bytes)?;
+    salvage_limits::limits(tally).map_err(without_bytes)?;
     for rules in Rules::ALL {
         for bytes in huge_images(rules, rng, 40_000) {
             let asked = ask_under(tally, rng, rules, &bytes);

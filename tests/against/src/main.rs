@@ -5,7 +5,7 @@
 //!     against [count of streams] [seed] [first stream]
 //!
 //! A first stream other than 0 runs these streams alone, to look at a difference again: neither the limits are
-//! tried then, nor must everything be met.
+//! tried then, nor are the streams in files torn, nor must everything be met.
 
 mod aligned;
 mod answers;
@@ -17,10 +17,14 @@ mod limits;
 mod part_at;
 mod parts_met;
 mod plain;
+mod salvage;
+mod salvage_limits;
+mod salvage_met;
 mod scalars;
 mod stream;
 mod strict;
 mod tally;
+mod torn;
 mod walk;
 mod writer;
 mod written;
@@ -148,6 +152,13 @@ fn main() -> ExitCode {
         if let Err((bytes, difference)) = limits::limits(&mut tally, &mut rng) {
             report(&format!("seed {seed}, limits"), &bytes, &difference);
             return ExitCode::FAILURE;
+        }
+        match torn::files() {
+            Ok(met) => tally.add(met),
+            Err((file, difference)) => {
+                report(&format!("{file} torn"), &[], &difference);
+                return ExitCode::FAILURE;
+            }
         }
     }
     match ask_about_all(seed, first, count) {

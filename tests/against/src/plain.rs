@@ -257,6 +257,13 @@ pub fn refused_outputs(tally: &Tally, case: Case) -> Outcome {
     tally.same_value(|| question("mrd_write_index"), index, expected)?;
     let columns = raw::fill_columns(given, bytes, &mut [], &mut [], &mut []);
     tally.same_value(|| question("mrd_fill_columns"), columns, expected)?;
+    // What is saved has at least a close, and the stream's own refusal is none of this.
+    let expected = raw::mrd_salvaged {
+        refusal: 14,
+        ..raw::mrd_salvaged::default()
+    };
+    let saved = raw::salvage(given, bytes, &mut []);
+    tally.same_value(|| question("mrd_salvage"), saved, expected)?;
     let cursor = raw::cursor_for(given, &[], &[], 0);
     let expected = raw::mrd_cursor_answer {
         refusal: 16,

@@ -5,7 +5,7 @@ use crate::asked::{Asked, GivenIndex};
 use crate::case::Case;
 use crate::tally::{Family, Outcome, Tally};
 use crate::walk::{self, Read};
-use crate::{aligned, at_cursor, attribute_length, part_at, plain, strict, written};
+use crate::{aligned, at_cursor, attribute_length, part_at, plain, salvage, strict, torn, written};
 use cotterleaf::Part;
 use second_reader::{Detail, Kind, Layout, Table, Type};
 use streams::{counters, field_offset, given_columns, given_files, record_number};
@@ -36,7 +36,10 @@ pub fn ask(tally: &mut Tally, rng: &mut Rng, case: Case) -> Outcome {
     let view = drawn_view(rng, &read);
     let field = drawn_field(rng, case, &read);
     at_cursor::asked_at(tally, case, &read, view, field)?;
-    part_at::ask(tally, &mut rng.apart(), case, &read)?;
+    let apart = &mut rng.apart();
+    part_at::ask(tally, apart, case, &read)?;
+    salvage::ask(tally, apart, case, &read)?;
+    torn::ask(tally, apart, case, &read)?;
     if rng.one_in(4) {
         let (n, offset) = drawn_field(rng, case, &read);
         plain::questions(tally, rng, case, n, offset)?;

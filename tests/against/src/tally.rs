@@ -3,7 +3,10 @@
 use crate::answers::Answer;
 use crate::part_at;
 use crate::parts_met::PartsMet;
+use crate::salvage_limits;
+use crate::salvage_met::SalvagesMet;
 use crate::strict::{self, ACCEPTED, FAULTS, NOT_UTF8, PLACES, TEXTS, WIDTHS};
+use crate::torn;
 use second_reader::{Detail, Kind, Layout, Mask, Profile, Rules};
 use std::collections::BTreeMap;
 use std::fmt::Debug;
@@ -24,11 +27,12 @@ pub enum Family {
     NormalForm,
     WriteIndex,
     FillColumns,
+    Salvage,
     Write,
 }
 
 impl Family {
-    pub const ALL: [Family; 13] = [
+    pub const ALL: [Family; 14] = [
         Family::Check,
         Family::Walk,
         Family::Place,
@@ -41,6 +45,7 @@ impl Family {
         Family::NormalForm,
         Family::WriteIndex,
         Family::FillColumns,
+        Family::Salvage,
         Family::Write,
     ];
 
@@ -58,6 +63,7 @@ impl Family {
             Family::NormalForm => "normal",
             Family::WriteIndex => "index",
             Family::FillColumns => "fill",
+            Family::Salvage => "salvage",
             Family::Write => "write",
         }
     }
@@ -70,11 +76,14 @@ impl Family {
         if self == Family::Write {
             return writer_refusals(rules).contains(&number);
         }
+        if self == Family::Salvage {
+            return number == 14;
+        }
         if number == 21 {
             return rules.profile == Profile::Strict;
         }
         let own: &[u32] = match self {
-            Family::Check | Family::Walk | Family::Write => &[],
+            Family::Check | Family::Walk | Family::Salvage | Family::Write => &[],
             Family::Place | Family::Find => &[15, 16],
             Family::View => &[15, 16, 17],
             Family::Field => &[15, 16, 20],
@@ -117,6 +126,13 @@ const STREAM_REFUSALS: &[&str] = &[
 /// Those of a faulty message: the fault of 13 is where the stream ends.
 const AT_A_MESSAGE: &[&str] = &[
     "1", "2", "3", "4", "5", "6", "7", "8", "9", "10", "11", "12", "19", "21",
+];
+
+/// What a stream may hold otherwise than its normal form.
+const STORED_OTHERWISE: &[&str] = &[
+    "filler of a name",
+    "filler of a waveform header",
+    "0 in an image header",
 ];
 
 /// What a stream that was made for one layout can be under both.
@@ -372,6 +388,50 @@ const GROUPS: &[(&str, &[&str])] = &[
     (part_at::REFUSED[1], AT_A_MESSAGE),
     (part_at::REFUSED[2], STREAM_REFUSALS),
     ("wrong index beside a byte", &["not looked at"]),
+    ("wrong index beside a salvage", &["not looked at"]),
+    ("longer front refused", &["alone", "with a close"]),
+    (
+        "what follows a close",
+        &[
+            "one byte",
+            "an unknown id",
+            "a close",
+            "another message",
+            "a faulty message",
+        ],
+    ),
+    ("kept as stored, with its own close", STORED_OTHERWISE),
+    ("kept as stored, with an added close", STORED_OTHERWISE),
+    (salvage_limits::GROUP, salvage_limits::NAMES),
+    (
+        "drawn stream torn at every byte",
+        &[
+            "accepted and short",
+            "accepted and longer",
+            "refused and short",
+        ],
+    ),
+    (
+        "file torn at every byte",
+        &[
+            torn::FILES[0].0,
+            torn::FILES[1].0,
+            torn::FILES[2].0,
+            torn::FILES[3].0,
+            torn::FILES[4].0,
+        ],
+    ),
+    (
+        "tear",
+        &[
+            "before the first message",
+            "within an id",
+            "within a fixed part",
+            "behind a fixed part",
+            "between two messages",
+            "behind the close",
+        ],
+    ),
 ];
 
 /// How often each thing was met where both readers agreed.
@@ -384,6 +444,7 @@ pub struct Tally {
     kinds: BTreeMap<(Rules, Kind), u64>,
     met: BTreeMap<(&'static str, &'static str), u64>,
     pub parts: PartsMet,
+    pub salvages: SalvagesMet,
 }
 
 impl Tally {
@@ -431,6 +492,10 @@ impl Tally {
         library: &[T],
         second: &[T],
     ) -> Outcome {
+        // Whole slices are compared far faster than place after place.
+        if library == second {
+            return Ok(());
+        }
         let differs = |i: &usize| library.get(*i) != second.get(*i);
         match (0..library.len().max(second.len())).find(differs) {
             None => Ok(()),
@@ -493,6 +558,7 @@ impl Tally {
             *self.met.entry(thing).or_default() += times;
         }
         self.parts.add(other.parts);
+        self.salvages.add(other.salvages);
     }
 
     fn answers(&self, rules: Rules, family: Family, number: u32) -> u64 {
@@ -511,6 +577,7 @@ impl Tally {
         for rules in Rules::ALL {
             self.print_answers(rules);
             self.parts.print(rules);
+            self.salvages.print(rules);
         }
         for &(group, names) in GROUPS {
             let counts: Vec<String> = names
@@ -552,6 +619,7 @@ impl Tally {
         for rules in Rules::ALL {
             missing.extend(self.missing_answers(rules));
             missing.extend(self.parts.missing(rules));
+            missing.extend(self.salvages.missing(rules));
         }
         for (&(rules, family, number), times) in &self.answers {
             if !family.may_give(rules, number) {

@@ -6,7 +6,7 @@ use crate::attribute_length;
 use crate::case::Case;
 use crate::tally::{Difference, Family, Outcome, Tally};
 use cotterleaf::{Cursor, Step, Stream};
-use second_reader::{self as second, Kind, Record, Refusal, Refused, Rules, MOST_MESSAGES};
+use second_reader::{self as second, Kind, Record, Refusal, Refused, MOST_MESSAGES};
 use streams::Rng;
 
 /// What the second reader says of a stream: the records before any fault, and the answer.
@@ -17,55 +17,23 @@ pub struct Read {
 
 impl Read {
     pub fn of(case: Case) -> Read {
-        match second::records(case.rules, case.bytes) {
-            Ok(records) => Read {
-                answer: Ok(records.len() as u64),
-                records,
-            },
-            Err(refusal) => Read {
-                records: before(case, refusal),
-                answer: Err(refusal),
-            },
-        }
+        let (records, refusal) = second::records_before_fault(case.rules, case.bytes);
+        let answer = match refusal {
+            None => Ok(records.len() as u64),
+            Some(refusal) => Err(refusal),
+        };
+        Read { records, answer }
     }
 
     pub fn count(&self) -> u64 {
         self.records.len() as u64
     }
 
-    fn is_closed(&self) -> bool {
+    /// Whether the last record is a close, as it is where nothing or what follows a close is refused.
+    pub fn is_closed(&self) -> bool {
         let last = self.records.last();
         last.is_some_and(|record| record.detail.kind() == Kind::Close)
     }
-}
-
-/// The records before the fault: those of the stream that is cut there and closed if it was not.
-fn before(Case { rules, bytes }: Case, refusal: Refusal) -> Vec<Record> {
-    let front = &bytes[..refusal.byte as usize];
-    if let Ok(records) = second::records(rules, front) {
-        return records;
-    }
-    if refusal.number == 19 {
-        // With a close it would still be one message too many: the last one makes way for it.
-        return before_last(rules, front);
-    }
-    let closed = [front, &[4, 0]].concat();
-    let mut records =
-        second::records(rules, &closed).expect("what stands before the fault is sound");
-    records.pop();
-    records
-}
-
-/// The records of a front of 1,000,000 messages whose last is a text without content.
-fn before_last(rules: Rules, front: &[u8]) -> Vec<Record> {
-    let mut closed = front[..front.len() - 6].to_vec();
-    closed.extend([4, 0]);
-    let mut records =
-        second::records(rules, &closed).expect("what stands before the fault is sound");
-    let last = records.last_mut().expect("1,000,000 records");
-    last.detail = second::Detail::Text { length: 0 };
-    last.size = 6;
-    records
 }
 
 /// What a step meets, in the second reader's words.

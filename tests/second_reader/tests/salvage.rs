@@ -11,6 +11,7 @@ under_all_rules! {
     an_accepted_stream_comes_back_as_it_is
     a_stream_torn_at_each_byte
     bytes_after_a_close_are_left_out_and_nothing_is_added
+    what_ends_in_the_bytes_of_a_close_is_none
     a_fault_of_each_number_is_left_out
     the_first_fault_decides
     a_broken_order_is_left_out
@@ -184,7 +185,17 @@ fn bytes_after_a_close_are_left_out_and_nothing_is_added(rules: Rules) {
     assert_as_is(rules, &[&front[..], &front].concat(), 9, front.len());
 }
 
-/// A message that is refused with this number after a header text, and what a stream may hold behind it.
+fn what_ends_in_the_bytes_of_a_close_is_none(rules: Rules) {
+    let text = text_message(5, &[4, 0]);
+    assert_closed(rules, &text, 1, 8);
+    assert_closed(rules, &[&text[..], &[6, 0, 4, 0]].concat(), 1, 8);
+    assert_as_is(rules, &[&text[..], &[4, 0]].concat(), 2, 10);
+    let waveform = waveform_message(&waveform_header(rules, 1, 1), &[0, 0, 4, 0]);
+    let stream = headed(&[&waveform]);
+    assert_closed(rules, &stream, 2, stream.len());
+}
+
+/// A message that is refused with this number where a header text and a text stand before it.
 fn faulty(rules: Rules, number: u32) -> Vec<u8> {
     let mut version_2 = waveform_header(rules, 0, 0);
     put16(&mut version_2, 0, 2);

@@ -720,6 +720,9 @@ fn all_answers(stream: &Stream, kept: &Kept) -> Vec<String> {
     answers.push(format!("{:?} {:?}", again.file, again.starts));
     let mut normal = vec![0; stream.bytes().len()];
     answers.push(format!("{:?} {normal:?}", stream.normal_form(&mut normal)));
+    let mut saved = vec![0; stream.bytes().len()];
+    answers.push(format!("{:?} {saved:?}", stream.salvage(&mut saved)));
+    answers.push(format!("{:?}", stream.salvage_report()));
     answers
 }
 
@@ -835,8 +838,10 @@ fn every_call_refuses_text_that_is_not_utf8() {
             for given in all_refusals(&strictly(&plain), cursor, &kept) {
                 assert_eq!(given, refusal);
             }
-            // The records before it come, and a walk from behind it does not meet it.
+            // The records before it come and can be saved, and a walk from behind it does not meet it.
             let strict = strictly(&plain);
+            assert_eq!(saved_of(&strict), closed(&bytes[..cursor.start]));
+            assert_eq!(strict.salvage_report().messages_kept, n);
             assert_eq!(strict.records().filter(|record| record.is_ok()).count(), n);
             let Step::Record(_, next) = plain.step(cursor) else {
                 panic!("no record {n}")
@@ -1146,6 +1151,106 @@ fn parts_in_words() {
     let bytes = waveforms();
     let filler = aligned(&bytes).part_at(6 + 2 + 39).unwrap();
     assert_eq!(filler.part.to_string(), "header, filler");
+}
+
+/// What is saved of a stream, as `salvage` writes it into the room that the report asks for.
+fn saved_of(stream: &Stream) -> Vec<u8> {
+    let report = stream.salvage_report();
+    let mut saved = vec![0xEE; report.length];
+    assert_eq!(stream.salvage(&mut saved), Ok(report));
+    let cut = [&stream.bytes()[report.kept()], report.added()].concat();
+    assert_eq!(saved, cut, "as the report has it");
+    saved
+}
+
+/// These messages and a close.
+fn closed(messages: &[u8]) -> Vec<u8> {
+    [messages, &[4, 0]].concat()
+}
+
+/// Of each tear the messages are saved that end at or before it.
+#[test]
+fn a_torn_stream_keeps_its_whole_messages() {
+    let whole = packed(ALL_KINDS);
+    let ends: Vec<usize> = whole
+        .records()
+        .map(|record| record.map(|record| record.start + record.size).unwrap())
+        .collect();
+    for rules in [Rules::packed(), Rules::packed().strict()] {
+        for tear in 0..ALL_KINDS.len() {
+            let kept = ends.iter().filter(|&&end| end <= tear).count();
+            let end = if kept == 0 { 0 } else { ends[kept - 1] };
+            let torn = Stream::new(rules, &ALL_KINDS[..tear]);
+            let report = Salvage {
+                messages_kept: kept,
+                bytes_not_kept: tear - end,
+                close_added: true,
+                length: end + 2,
+            };
+            assert_eq!(torn.salvage_report(), report);
+            assert_eq!(saved_of(&torn), closed(&ALL_KINDS[..end]));
+        }
+        assert_eq!(saved_of(&Stream::new(rules, ALL_KINDS)), ALL_KINDS);
+    }
+}
+
+#[test]
+fn a_salvage_adds_a_close_where_there_is_none() {
+    let of = |bytes| (saved_of(&packed(bytes)), packed(bytes).salvage_report());
+    let report = |messages_kept, bytes_not_kept, close_added, length| Salvage {
+        messages_kept,
+        bytes_not_kept,
+        close_added,
+        length,
+    };
+    assert_eq!(of(&[]), (vec![4, 0], report(0, 0, true, 2)));
+    assert_eq!(of(&[4, 0]), (vec![4, 0], report(1, 0, false, 2)));
+    assert_eq!(of(&[4, 0, 4, 0]), (vec![4, 0], report(1, 2, false, 2)));
+    assert_eq!(of(&SHORT), (SHORT.to_vec(), report(2, 0, false, 10)));
+    assert_eq!(of(&SHORT[..9]), (SHORT.to_vec(), report(1, 1, true, 10)));
+    let added = packed(&[]).salvage_report();
+    assert_eq!((added.kept(), added.added()), (0..0, &[4, 0][..]));
+    let own = packed(&SHORT).salvage_report();
+    assert_eq!((own.kept(), own.added()), (0..10, &[][..]));
+}
+
+#[test]
+fn a_salvage_refuses_an_output_that_is_too_short() {
+    let torn = packed(&SHORT[..9]);
+    let refusal = Refusal {
+        number: refused::OUTPUT_SHORT,
+        place: None,
+    };
+    for room in 0..10 {
+        let mut out = vec![0xEE; room];
+        assert_eq!(torn.salvage(&mut out), Err(refusal));
+        assert_eq!(out, vec![0xEE; room]);
+    }
+    // The rest of a longer one keeps its content, and an index is not looked at.
+    let mut out = [0xEE; 12];
+    let deceived = torn.with(Index::File(&[]));
+    assert_eq!(deceived.salvage(&mut out), Ok(torn.salvage_report()));
+    assert_eq!(out[..10], SHORT);
+    assert_eq!(out[10..], [0xEE; 2]);
+    assert_eq!(deceived.salvage_report(), torn.salvage_report());
+}
+
+/// Each layout has its own end of a waveform, and filler stays as it is.
+#[test]
+fn a_salvage_goes_by_the_layout() {
+    let bytes = waveforms();
+    for stream in [packed(&bytes), aligned(&bytes)] {
+        assert_eq!(saved_of(&stream), bytes);
+        let starts = stream.records().map(|record| record.unwrap().start);
+        let close = starts.last().expect("a close");
+        let torn = Stream::new(stream.rules(), &bytes[..close]);
+        assert_eq!(saved_of(&torn), bytes);
+    }
+    // Packed, the first waveform is now one sample longer than there are bytes for.
+    let mut alone = bytes[..64].to_vec();
+    alone[6 + 2 + offset::waveform::NUMBER_OF_SAMPLES] += 1;
+    assert_eq!(saved_of(&packed(&alone)), closed(&bytes[..6]));
+    assert_eq!(saved_of(&aligned(&alone)), closed(&alone));
 }
 
 /// At every offset of every header, and past it, a name stands exactly where a field starts, and another one at each.

@@ -13,7 +13,10 @@
  *
  * They take both profiles in turn too. The strict one reads what names, texts and attributes hold: one byte of the name
  * and one that is the text's, or the waveform's where the text is empty, are flipped between UTF-8 and what no text in
- * UTF-8 has. */
+ * UTF-8 has.
+ *
+ * What is saved of the stream torn in its close fills its output to the last byte. Torn in its waveform, what stands
+ * before the text and a close just fit where the text is not empty, and where it is there is too little room. */
 #define _DEFAULT_SOURCE
 #include "cotterleaf.h"
 
@@ -40,6 +43,7 @@ enum {
     DATA = WAVEFORM + MRD_ALIGNED_WAVEFORM_HEADER_SIZE,
     DATA_BYTES = 4 * EMPTY,
     LENGTH = DATA + DATA_BYTES + 2,
+    SAVED = TEXT + 2, /* what stands before that text, and a close */
     FEW = 5, /* records, with all attributes and the whole text */
     TURNS = 2000000
 };
@@ -113,13 +117,13 @@ static int untouched(const void *output, size_t bytes)
 
 /* How often each thing was met by each profile, plain and strict. All are, where the stream changes during the calls. */
 static unsigned long filled[2], refused[2], not_utf8[2], cleared[2], kept[2], stated[2], settled[2], left[2], put[2],
-    inside[2], between[2];
+    inside[2], between[2], few_saved[2], many_saved[2], front_saved[2], too_short[2];
 
-/* The outputs: columns, an index file, and a copy of the stream. */
+/* The outputs: columns, an index file, a copy of the stream, and what is saved of its front. */
 static uint64_t *starts;
 static uint16_t *ids;
 static uint32_t *counters;
-static uint8_t *file, *copy;
+static uint8_t *file, *copy, *saved;
 
 enum {
     STARTS = FEW * sizeof(uint64_t),
@@ -165,6 +169,19 @@ static void look_up(mrd_rules rules)
     between[rules.strict_text] += answer.part == MRD_PART_ID;
 }
 
+/* Torn in the close, and torn in the waveform. */
+static void save(mrd_rules rules)
+{
+    bool strict = rules.strict_text;
+    mrd_salvaged whole = mrd_salvage(rules, stream, LENGTH - 1, copy, LENGTH);
+    few_saved[strict] += whole.length == LENGTH && whole.messages_kept < TEXTS;
+    many_saved[strict] += whole.length == LENGTH && whole.messages_kept >= TEXTS;
+    mrd_salvaged front = mrd_salvage(rules, stream, WAVEFORM, saved, SAVED);
+    front_saved[strict] += front.refusal == MRD_OK && front.length == SAVED;
+    too_short[strict] += front.refusal == MRD_REFUSED_OUTPUT_SHORT;
+    mrd_salvage_report(rules, stream, WAVEFORM);
+}
+
 static int was_met(const char *what, const unsigned long of[2])
 {
     if (of[0] != 0 && of[1] != 0)
@@ -182,6 +199,7 @@ int main(void)
     counters = guarded(COUNTERS);
     file = guarded(INDEX);
     copy = guarded(LENGTH);
+    saved = guarded(SAVED);
     pthread_t other;
     if (pthread_create(&other, NULL, flip, NULL) != 0) {
         perror("changing: no second thread");
@@ -196,13 +214,17 @@ int main(void)
             write_text(rules);
         if (turn % 16 == 2)
             look_up(rules);
+        if (turn % 16 == 3)
+            save(rules);
     }
     done = 1;
     pthread_join(other, NULL);
     if (!was_met("columns filled", filled) || !was_met("columns too short", refused) ||
         !was_met("names cleared", cleared) || !was_met("names kept", kept) || !was_met("lengths put", stated) ||
         !was_met("filler cleared", settled) || !was_met("flags left", left) || !was_met("texts written", put) ||
-        !was_met("a byte of the text", inside) || !was_met("a byte of an id", between))
+        !was_met("a byte of the text", inside) || !was_met("a byte of an id", between) ||
+        !was_met("few messages saved", few_saved) || !was_met("many messages saved", many_saved) ||
+        !was_met("the front saved", front_saved) || !was_met("too little room to save", too_short))
         return EXIT_FAILURE;
     if (not_utf8[0] != 0 || not_utf8[1] == 0) {
         fprintf(stderr, "changing: 21 %lu times by the plain profile, %lu times by the strict one\n", not_utf8[0],
@@ -210,7 +232,7 @@ int main(void)
         return EXIT_FAILURE;
     }
     if (!untouched(starts, STARTS) || !untouched(ids, IDS) || !untouched(counters, COUNTERS) ||
-        !untouched(file, INDEX) || !untouched(copy, LENGTH)) {
+        !untouched(file, INDEX) || !untouched(copy, LENGTH) || !untouched(saved, SAVED)) {
         fprintf(stderr, "changing: bytes before an output were written\n");
         return EXIT_FAILURE;
     }

@@ -1,5 +1,6 @@
-/* The worked examples of document 01, each call of the library once for each layout of waveform headers and each
- * profile of texts, what a mask says, and an image header that says 0 of its attributes, from C. */
+/* The worked examples of document 01 and what is saved of them, each call of the library once for each layout of
+ * waveform headers and each profile of texts, what a mask says, and an image header that says 0 of its attributes, from
+ * C. */
 #include "cotterleaf.h"
 
 #include <stdio.h>
@@ -26,23 +27,43 @@ static void put(uint8_t *bytes, size_t at, int width, uint64_t number)
         bytes[at + (size_t)i] = (uint8_t)(number >> (8 * i));
 }
 
-/* P1 to P9. */
+/* Whether a salvage of `length` bytes, and its report, keep so many messages and bytes and add a close or none. */
+static bool is_saved(mrd_rules rules, const uint8_t *bytes, size_t length, size_t messages, size_t kept, bool added)
+{
+    static uint8_t out[2100];
+    size_t saved = kept + (added ? 2 : 0);
+    mrd_salvaged report = mrd_salvage_report(rules, bytes, length);
+    memset(out, 0xEE, sizeof out);
+    mrd_salvaged answer = mrd_salvage(rules, bytes, length, out, saved);
+    bool same = answer.refusal == MRD_OK && report.refusal == MRD_OK && answer.length == saved &&
+                report.length == saved && answer.messages_kept == messages && report.messages_kept == messages &&
+                answer.bytes_not_kept == length - kept && report.bytes_not_kept == length - kept &&
+                answer.close_added == added && report.close_added == added;
+    bool written = memcmp(out, bytes, kept) == 0 && (!added || (out[kept] == 4 && out[kept + 1] == 0)) &&
+                   out[saved] == 0xEE;
+    return same && written && mrd_check(rules, out, saved).count == messages + added &&
+           mrd_salvage(rules, bytes, length, out, saved - 1).refusal == MRD_REFUSED_OUTPUT_SHORT;
+}
+
+/* P1 to P9, and what is saved of each: so many messages and bytes, and an added close or none. */
 static void answers(void)
 {
     static const struct {
         uint8_t bytes[8];
         size_t length;
         mrd_checked answer;
+        size_t messages, kept;
+        bool added;
     } rows[] = {
-        {{4, 0}, 2, {0, 0, 0, 1}},
-        {{0}, 0, {MRD_REFUSED_NO_CLOSE, 0, 0, 0}},
-        {{4}, 1, {MRD_REFUSED_ID_CUT, 0, 0, 0}},
-        {{4, 0, 0}, 3, {MRD_REFUSED_ORDER, 1, 2, 0}},
-        {{6, 0}, 2, {MRD_REFUSED_UNKNOWN_ID, 0, 0, 0}},
-        {{3, 0, 0, 0, 0}, 5, {MRD_REFUSED_FIXED_PART_CUT, 0, 0, 0}},
-        {{3, 0, 1, 0, 0, 0}, 6, {MRD_REFUSED_MESSAGE_CUT, 0, 0, 0}},
-        {{5, 0, 0, 0, 0, 0}, 6, {MRD_REFUSED_NO_CLOSE, 1, 6, 0}},
-        {{0xF0, 3}, 2, {MRD_REFUSED_ORDER, 0, 0, 0}},
+        {{4, 0}, 2, {0, 0, 0, 1}, 1, 2, false},
+        {{0}, 0, {MRD_REFUSED_NO_CLOSE, 0, 0, 0}, 0, 0, true},
+        {{4}, 1, {MRD_REFUSED_ID_CUT, 0, 0, 0}, 0, 0, true},
+        {{4, 0, 0}, 3, {MRD_REFUSED_ORDER, 1, 2, 0}, 1, 2, false},
+        {{6, 0}, 2, {MRD_REFUSED_UNKNOWN_ID, 0, 0, 0}, 0, 0, true},
+        {{3, 0, 0, 0, 0}, 5, {MRD_REFUSED_FIXED_PART_CUT, 0, 0, 0}, 0, 0, true},
+        {{3, 0, 1, 0, 0, 0}, 6, {MRD_REFUSED_MESSAGE_CUT, 0, 0, 0}, 0, 0, true},
+        {{5, 0, 0, 0, 0, 0}, 6, {MRD_REFUSED_NO_CLOSE, 1, 6, 0}, 1, 6, true},
+        {{0xF0, 3}, 2, {MRD_REFUSED_ORDER, 0, 0, 0}, 0, 0, true},
     };
     for (size_t i = 0; i < sizeof rows / sizeof rows[0]; i++) {
         mrd_checked answer = mrd_check(PACKED, rows[i].bytes, rows[i].length);
@@ -50,6 +71,7 @@ static void answers(void)
         CHECK(answer.record == rows[i].answer.record);
         CHECK(answer.byte == rows[i].answer.byte);
         CHECK(answer.count == rows[i].answer.count);
+        CHECK(is_saved(PACKED, rows[i].bytes, rows[i].length, rows[i].messages, rows[i].kept, rows[i].added));
     }
     CHECK(mrd_check(PACKED, NULL, 0).refusal == MRD_REFUSED_NO_CLOSE); /* an empty slice may have any pointer */
 }
@@ -602,6 +624,10 @@ static void aligned_waveforms(mrd_rules rules)
         memset(&out, 0xEE, sizeof out);
         CHECK(mrd_normal_form(rules, STREAM_OF(&of), out.bytes, sizeof out.bytes).length == sizeof out.bytes);
         CHECK(memcmp(&out, &normal, sizeof out) == 0);
+        /* A salvage keeps filler as it is. */
+        CHECK(is_saved(rules, STREAM_OF(&of), 3, sizeof of.stream.bytes, false));
+        CHECK(is_saved(rules, of.stream.bytes, WAVEFORM_END, 2, WAVEFORM_END, true));
+        CHECK(is_saved(rules, of.stream.bytes, WAVEFORM_END - 1, 1, WAVEFORM, true));
     }
 }
 
@@ -620,6 +646,8 @@ static void one_stream_two_layouts(void)
     CHECK(mrd_part_at(PACKED, stream.bytes, length, WAVEFORM_HEADER + 7).element_offset == MRD_WAVEFORM_FLAGS);
     CHECK(mrd_normal_form(PACKED, stream.bytes, length, out.bytes, length).length == length);
     CHECK(memcmp(&out, &stream, sizeof out) == 0);
+    CHECK(is_saved(PACKED, stream.bytes, length, 3, length, false));
+    CHECK(is_saved(PACKED, stream.bytes, length - 2, 2, length - 2, true));
 }
 
 /* A stream of the aligned layout alone: packed, its waveform has one sample more than there are bytes for. */
@@ -636,6 +664,8 @@ static void one_layout_alone(void)
     CHECK(mrd_check_from(PACKED, stream.bytes, length, second).refusal == MRD_REFUSED_MESSAGE_CUT);
     CHECK(mrd_find(ALIGNED, stream.bytes, length, 0, asked).refusal == MRD_REFUSED_NO_RECORD);
     CHECK(mrd_find(PACKED, stream.bytes, length, 0, asked).refusal == MRD_REFUSED_MESSAGE_CUT);
+    CHECK(is_saved(ALIGNED, stream.bytes, length, 3, length, false));
+    CHECK(is_saved(PACKED, stream.bytes, length, 1, WAVEFORM, true));
 }
 
 /* An aligned header has 40 bytes before there is anything to judge in it. */
@@ -808,7 +838,7 @@ static text_index text_index_of(const text_stream *stream)
 /* Where a call refuses a stream: every answer about one has these three. */
 #define WHERE(answer) ((mrd_matched){(answer).refusal, (answer).record, (answer).byte})
 
-/* Each call about a stream refuses it with 21 and says where; none writes anything. */
+/* Each call about a stream refuses it with 21 and says where, and none writes anything; but for the salvage. */
 static void each_call_refuses(mrd_rules rules, const text_stream *stream, size_t record)
 {
     static const uint16_t asked[17] = {0};
@@ -856,6 +886,8 @@ static void each_call_refuses(mrd_rules rules, const text_stream *stream, size_t
     CHECK(memcmp(out.ids, kept.ids, sizeof out.ids) == 0 &&
           memcmp(out.counters, kept.counters, sizeof out.counters) == 0);
     CHECK(normal[0] == 0xEE && normal[n - 1] == 0xEE);
+    /* What stands before it can be saved. */
+    CHECK(is_saved(rules, s, n, record, stream->starts[record], true));
 }
 
 /* The record's id, its text, which the view shows, and the byte past the end. */
@@ -908,6 +940,8 @@ static void each_call_accepts(mrd_rules rules, const text_stream *stream, size_t
     CHECK(memcmp(out.file, of.file, sizeof out.file) == 0);
     CHECK(mrd_fill_columns(rules, s, n, ALL_COLUMNS(&out)).length == TEXT_RECORDS);
     CHECK(memcmp(out.starts, of.starts, sizeof out.starts) == 0);
+    CHECK(is_saved(rules, s, n, TEXT_RECORDS, n, false));
+    CHECK(is_saved(rules, s, n - 1, TEXT_RECORDS - 1, n - 2, true));
 }
 
 /* Every text in every kind that has one, by both profiles and both layouts. */

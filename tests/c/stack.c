@@ -191,6 +191,14 @@ static bool normal_form(void)
     return mrd_normal_form(rules, stream, length, out, room).length == length;
 }
 
+/* The stream without the last byte of its close, which makes way for an added one; and the report on it whole. */
+static bool salvage(void)
+{
+    mrd_salvaged torn = mrd_salvage(rules, stream, length - 1, out, room);
+    return torn.close_added && torn.messages_kept == count - 1 && torn.length == length
+           && mrd_salvage_report(rules, stream, length).messages_kept == count;
+}
+
 static bool write_index(void)
 {
     return mrd_write_index(rules, stream, length, file, file_length).length == file_length;
@@ -302,6 +310,7 @@ static const struct {
     {"find", find},
     {"part at", part_at},
     {"normal form", normal_form},
+    {"salvage", salvage},
     {"write index", write_index},
     {"index matches", index_matches},
     {"with file", with_file},

@@ -3,7 +3,7 @@
 
 use crate::baseline::reader::{self, Met};
 use crate::baseline::strict::{self, NOT_UTF8};
-use crate::baseline::{index, normal, parts, questions, writer::Message};
+use crate::baseline::{index, normal, parts, questions, salvage, writer::Message};
 use crate::library;
 use crate::texts::{self, Script};
 use second_reader::Rules;
@@ -41,6 +41,8 @@ pub fn on_drawn_streams(count: usize, seed: u64) {
         let refusal = library::check(&stream).expect_err("one message too many");
         assert_eq!(refusal.number, 19);
         assert_eq!(reader::check(&stream), Err(refusal));
+        on_salvage(&stream);
+        on_salvage(&stream[..6_000_000]);
     }
 }
 
@@ -100,6 +102,7 @@ fn on_stream(rng: &mut Rng, stream: &[u8]) -> Result<usize, crate::baseline::Ref
     let byte = rng.below(stream.len() as u64 + 2) as usize;
     assert_eq!(library::part_at(stream, byte), parts::part_at(stream, byte));
     on_normal_form(stream);
+    on_salvage(stream);
     on_index(rng, stream);
     answer
 }
@@ -127,6 +130,18 @@ fn on_normal_form(stream: &[u8]) {
         let (mut ours, mut theirs) = (vec![0xAA; length], vec![0xAA; length]);
         let answer = library::normal_form(stream, &mut ours);
         assert_eq!(normal::normal_form(stream, &mut theirs), answer);
+        assert_eq!(ours, theirs);
+    }
+}
+
+/// The report, and into outputs with room to spare, with as much as is needed, and with a byte too little.
+fn on_salvage(stream: &[u8]) {
+    let report = library::salvage_report(stream);
+    assert_eq!(salvage::report(stream), report);
+    for length in [report.length + 3, report.length, report.length - 1] {
+        let (mut ours, mut theirs) = (vec![0xAA; length], vec![0xAA; length]);
+        let answer = library::salvage(stream, &mut ours);
+        assert_eq!(salvage::salvage(stream, &mut theirs), answer);
         assert_eq!(ours, theirs);
     }
 }

@@ -4,6 +4,7 @@
 use crate::baseline::parts::Belongs;
 use crate::baseline::questions::Field;
 use crate::baseline::reader::Met;
+use crate::baseline::salvage::Salvage;
 use crate::baseline::writer::Message;
 use crate::baseline::Refusal;
 use cotterleaf::raw;
@@ -129,6 +130,24 @@ pub fn part_at(stream: &[u8], byte: usize) -> Result<Belongs, Refusal> {
 pub fn normal_form(stream: &[u8], out: &mut [u8]) -> Result<usize, Refusal> {
     let a = raw::normal_form(PACKED, stream, out);
     answer(a.refusal, a.record, a.byte, a.length)
+}
+
+pub fn salvage(stream: &[u8], out: &mut [u8]) -> Result<Salvage, Refusal> {
+    salvaged(raw::salvage(PACKED, stream, out))
+}
+
+pub fn salvage_report(stream: &[u8]) -> Salvage {
+    salvaged(raw::salvage_report(PACKED, stream)).expect("a report is never refused")
+}
+
+fn salvaged(a: raw::mrd_salvaged) -> Result<Salvage, Refusal> {
+    let salvage = Salvage {
+        messages_kept: a.messages_kept,
+        bytes_not_kept: a.bytes_not_kept,
+        close_added: a.close_added,
+        length: a.length,
+    };
+    answer(a.refusal, 0, 0, salvage)
 }
 
 pub fn write_index(stream: &[u8], out: &mut [u8]) -> Result<usize, Refusal> {

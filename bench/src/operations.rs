@@ -2,7 +2,7 @@
 //! answer or write the same bytes, then times both.
 
 use crate::baseline::reader::{self, Met};
-use crate::baseline::{index, normal, parts, questions, strict, writer::Message};
+use crate::baseline::{index, normal, parts, questions, salvage, strict, writer::Message};
 use crate::library::{self, Cursor};
 use crate::made;
 use crate::table::{Row, Unit};
@@ -45,6 +45,9 @@ impl Measured<'_> {
             self.part_at("part at a byte, last", self.stream.len() - 1),
             self.normal_form(out),
             self.normal_form_against_copy(out),
+            self.torn().salvage("salvage", out),
+            self.salvage("salvage, nothing lost", out),
+            self.torn().salvage_report(),
             self.write(out),
             self.write_index(out),
             self.index_matches(out),
@@ -183,6 +186,50 @@ impl Measured<'_> {
             &mut || black_box(&mut out.borrow_mut()[..s.len()]).copy_from_slice(black_box(s)),
         );
         self.row("normal form (memcpy)", Unit::Bandwidth, times)
+    }
+
+    /// The same stream without its close, so that one is added to what is saved of it.
+    fn torn(&self) -> Measured<'_> {
+        Measured {
+            name: self.name,
+            stream: &self.stream[..self.stream.len() - 2],
+            messages: self.messages - 1,
+            effort: self.effort,
+        }
+    }
+
+    /// Against a check and one copy. Of the streams here nothing is lost.
+    fn salvage(&self, operation: &'static str, out: &mut [u8]) -> Row {
+        let s = self.stream;
+        let report = salvage::report(s);
+        assert_eq!(
+            (report.messages_kept, report.bytes_not_kept),
+            (self.messages, 0)
+        );
+        for salvage in [library::salvage, salvage::salvage] {
+            out.fill(0xAA);
+            assert_eq!(salvage(s, out), Ok(report));
+            assert!(out[..s.len()] == *s);
+            assert!(!report.close_added || out[s.len()..][..2] == [4, 0]);
+        }
+        let out = RefCell::new(out);
+        let times = alternately(
+            self.effort,
+            &mut || taken(library::salvage(black_box(s), &mut out.borrow_mut())),
+            &mut || taken(salvage::salvage(black_box(s), &mut out.borrow_mut())),
+        );
+        self.row(operation, Unit::Bandwidth, times)
+    }
+
+    fn salvage_report(&self) -> Row {
+        let s = self.stream;
+        assert_eq!(library::salvage_report(s), salvage::report(s));
+        let times = alternately(
+            self.effort,
+            &mut || taken(library::salvage_report(black_box(s))),
+            &mut || taken(salvage::report(black_box(s))),
+        );
+        self.row("salvage report", Unit::PerMessage, times)
     }
 
     /// The whole stream, message by message.

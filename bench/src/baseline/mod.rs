@@ -7,6 +7,7 @@ pub mod normal;
 pub mod parts;
 pub mod questions;
 pub mod reader;
+pub mod salvage;
 pub mod strict;
 pub mod writer;
 

@@ -12,7 +12,8 @@
  * What is assumed of a caller. A slice is a pointer and the number of its elements: so many can be read there (of
  * an output: written), and the pointer is aligned for their type; an empty slice may have any pointer, NULL too.
  * An array of counters has 17. An output overlaps nothing else that is given with it: mrd_normal_form with its
- * output inside its input answers 0 with wrong bytes. No other thread changes what is given during a call.
+ * output inside its input answers 0 with wrong bytes, and what is to be saved where it stands is saved by
+ * mrd_salvage_report. No other thread changes what is given during a call.
  *
  * Threads: there is no state between calls, so any calls may run at the same time, each with outputs of its own.
  *
@@ -24,8 +25,9 @@
  * walks the whole stream, and an index that is given is compared with all of it: it shows that stream and index belong
  * together, and makes no question faster. For many records walk once: mrd_next, mrd_view_at and mrd_field_at take time
  * that does not grow with the stream. For many records in any order have mrd_columns_match compare columns once;
- * mrd_cursor_for then makes the cursor of each. In the strict profile each message that is walked, or stood at, has its
- * text or attributes read whole, and a name; in the plain one no text and no attributes are read.
+ * mrd_cursor_for then makes the cursor of each. mrd_salvage is one walk and one copy, mrd_salvage_report that walk
+ * alone. In the strict profile each message that is walked, or stood at, has its text or attributes read whole, and a
+ * name; in the plain one no text and no attributes are read.
  *
  * The library is for x86-64 and its usual calling convention (System V) alone. */
 #ifndef COTTERLEAF_H

@@ -18,7 +18,7 @@ use Rattle.mrd_format.specs.declared.kind.Kind.the-variants.{Close}
 use Rattle.mrd_format.specs.declared.rules.Rules.{Rules}
 use Rattle.mrd_format.specs.Content.{Record, recordOf}
 use Rattle.mrd_format.specs.WellFormed.{WellFormed}
-use Rattle.mrd_stream.specs.Walk.{trace, answer}
+use Rattle.mrd_stream.specs.Walk.{answer}
 use Rattle.mrd_cut.specs.Cut.{Cut}
 use Rattle.mrd_cut.specs.Each.{each-same, each-count, each-append, each-first}
 use Rattle.mrd_cut.specs.Unique.{cut-unique}
@@ -27,37 +27,44 @@ use Rattle.mrd_cut.specs.Accepted.{Acceptable, accepted-cut, cut-accepted}
 use Rattle.mrd_salvage.specs.declared.report.Report.{Report}
 use Rattle.mrd_salvage.specs.Salvage.{before, closeAdded, mostKept, kept, closing, salvaged, report}
 use Rattle.mrd_salvage.specs.KeptLaws.{kept-first, kept-front}
-use Rattle.mrd_salvage.specs.SavedLaws.{close-well, kept-added, kept-unadded, kept-well, addedMessages, saved, accepted-unadded, accepted-kept, accepted-whole, accepted-count, accepted-unchanged, refused-counts}
+use Rattle.mrd_salvage.specs.SavedLaws.{close-well, kept-added, kept-unadded, kept-well, addedMessages, saved, accepted-unadded, accepted-whole, accepted-count, accepted-unchanged, refused-counts}
 use Rattle.mrd_salvage.specs.LongestLaws.{TornAt, tear, torn-bytes, torn-kept, torn-added, kept-longest}
 use Rattle.mrd_demands.specs.Records.{records}
 use Rattle.mrd_demands.specs.Messages.{recordsIn}
 use Rattle.mrd_demands.specs.NormalStreams.{records-met, records-cut}
 
 -- what is saved of s, and that the report's numbers are what they are named for: the messages that are kept are well formed and stand unchanged at the
--- front of s, so many; `rest`, the bytes after them, is not kept; what is written is those messages and then, where it is added, a close
+-- front of s, so many; `rest`, the bytes after them, is not kept; what is written is those messages and then, where it is added, a close; so at most
+-- two bytes more than s
 pub record SavedOf (rules : Rules) (s : List ℕ) (r : Report) : Type 0 where
-  pub messages : List (List ℕ)
-  pub well : Every (WellFormed rules) messages
+  pub well : Every (WellFormed rules) (kept rules s)
   pub rest : List ℕ
-  pub front : joined messages ++ rest ≡ s
-  pub counted : length messages ≡ r .«messages_kept»
+  pub front : joined (kept rules s) ++ rest ≡ s
+  pub counted : length (kept rules s) ≡ r .«messages_kept»
   pub lost : length rest ≡ r .«bytes_not_kept»
-  pub written : salvaged rules s ≡ joined messages ++ closing (r .«close_added»)
+  pub written : salvaged rules s ≡ joined (kept rules s) ++ closing (r .«close_added»)
   pub long : length (salvaged rules s) ≡ r .length
+  pub room : r .length ≤ length s + 2
+
+closing-short : (add : Bool) → length (closing add) ≤ 2
+closing-short true = omega arith
+closing-short false = omega arith
 
 pub saved-of : (rules : Rules) (s : List ℕ) → SavedOf rules s (report rules s)
 unfolding report salvaged
 saved-of rules s =
     let f = kept-front rules s in
+    let bytes = simp length-append at (ap length (f .1)) in
+    let closes = closing-short (closeAdded rules s) in
     record {
-      messages = kept rules s;
       well = kept-well rules s;
       rest = f .0;
       front = f .1;
       counted = refl;
-      lost = omega (arith, simp length-append at (ap length (f .1)));
+      lost = omega (arith, bytes);
       written = refl;
       long = refl;
+      room = simp length-append (omega (arith, bytes, closes));
     }
 
 module _ (rules : Rules) (s : List ℕ) where

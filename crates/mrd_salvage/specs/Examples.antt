@@ -19,7 +19,6 @@ use Rattle.mrd_format.specs.Profiles.{rulesBy, encoded}
 use Rattle.mrd_judge.specs.Judge.{judge, judgeAs}
 use Rattle.mrd_judge.specs.Stages.{checksAs, frontChecks, idChecks, fixedChecks, sizeChecks, textChecks}
 use Rattle.mrd_stream.specs.Walk.{ended, walk, trace}
-use Rattle.mrd_salvage.specs.declared.report.Report.{Report}
 use Rattle.mrd_salvage.specs.Salvage.{closeAdded, kept, salvaged, report}
 
 -- a stream, what is saved of it, and the report's three numbers

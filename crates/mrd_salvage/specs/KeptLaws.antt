@@ -2,14 +2,11 @@
 -- Assumes nothing.
 use Prim.Native.Nat.{ℕ, suc, _+_, _-_, _≤_, _<_}
 use native.Mathlib.Decide.{decLe}
-use native.Mathlib.Nat.{le-refl}
 use native.Mathlib.Omega.{arith}
-use mathlib.Core.Path.{_≡_, refl, sym, ap, ap₂, _∙_}
+use mathlib.Core.Path.{_≡_, refl, sym, ap, _∙_}
 use mathlib.Core.Bool.{Bool, true, false, not}
-use mathlib.Core.Logic.{_⊎_, inl, inr}
-use mathlib.Core.List.{List, [], _∷_, _++_, append-nil, append-assoc}
+use mathlib.Core.List.{List, [], _++_, append-nil, append-assoc}
 use borrow.Author.Tests.{lt-ltb, le-ltb}
-use lib.Dec.{ltb}
 use lib.ListN.{length, take, drop, length-append, length-drop, take-append-drop}
 use lib.Seq.{length-take-le, take-all, take-at, take-length}
 use Rattle.mrd_logic.specs.Answer.{answered, andThen}
@@ -24,7 +21,7 @@ use Rattle.mrd_cut.specs.Walked.{met}
 use Rattle.mrd_salvage.specs.declared.reach.Reach.{Reach}
 use Rattle.mrd_salvage.specs.declared.report.Report.{Report}
 use Rattle.mrd_salvage.specs.Salvage.{before, closeAdded, mostKept, kept, closing, salvaged, report, salvageAnswer, salvageOutput}
-use Rattle.mrd_salvage.specs.Reached.{reached, asTheyAre, withClose, reportBy}
+use Rattle.mrd_salvage.specs.Reached.{reached, reportUpTo, reportBy}
 use Rattle.mrd_salvage.specs.ReachLaws.{reached-number, reached-end, reached-closed, reached-last}
 
 -- the messages that are kept are the first of those before the fault
@@ -46,10 +43,10 @@ kept-front rules s =
       sym (append-assoc (joined (kept rules s)) (joined (k .0)) (m .rest)) ∙ ap (λ (l : List ℕ). l ++ m .rest) split ∙ m .whole,
     )
 
-pub kept-within : (rules : Rules) (s : List ℕ) → length (joined (kept rules s)) ≤ length s
+kept-within : (rules : Rules) (s : List ℕ) → length (joined (kept rules s)) ≤ length s
 kept-within rules s = let k = kept-front rules s in omega (arith, simp length-append at (ap length (k .1)))
 
-pub kept-taken : (rules : Rules) (s : List ℕ) → take (length (joined (kept rules s))) s ≡ joined (kept rules s)
+kept-taken : (rules : Rules) (s : List ℕ) → take (length (joined (kept rules s))) s ≡ joined (kept rules s)
 kept-taken rules s =
     let k = kept-front rules s in
     ap (take (length (joined (kept rules s)))) (sym (k .1)) ∙ take-at (joined (kept rules s)) (k .0) (length (joined (kept rules s))) refl
@@ -66,14 +63,11 @@ reportOn most b ms add =
 
 -- is the one by what a walk reaches that meets them, at most one too many
 module _ (most b : ℕ) (ms : List (List ℕ)) (r : Reach) (count : r .number ≡ length ms) (end : r .end ≡ length (joined ms)) where
-  closed-on : r .closed ≡ true →
-      pick (r .closed) (asTheyAre (r .number) (r .end) b)
-      (pick (ltb most (r .number)) (withClose most (r .last) b) (withClose (r .number) (r .end) b)) ≡ reportOn most b ms false
+  closed-on : r .closed ≡ true → reportUpTo most r b ≡ reportOn most b ms false
   closed-on e = rw (e, count, end, append-nil)
 
   open-on : r .closed ≡ false → ((n : ℕ) → length ms ≡ suc n → r .last ≡ length (joined (take n ms))) → length ms ≤ suc most →
-      pick (r .closed) (asTheyAre (r .number) (r .end) b)
-      (pick (ltb most (r .number)) (withClose most (r .last) b) (withClose (r .number) (r .end) b)) ≡ reportOn most b ms true
+      reportUpTo most r b ≡ reportOn most b ms true
   open-on e last few =
       elim (decLe (length ms) most) [
         | yes h ↦ rw (e, count, le-ltb most (length ms) h, take-all most ms h, end, length-append)

@@ -8,7 +8,7 @@ use mathlib.Core.Path.{_≡_, refl, sym, ap, _∙_, subst}
 use mathlib.Core.Bool.{Bool, true, false}
 use mathlib.Core.List.{List, [], _∷_, _++_, append-nil, append-assoc, append-cancel-left}
 use lib.ListN.{length, take, drop, length-append, length-drop, take-append-drop}
-use lib.Seq.{length-take-le, take-append-le}
+use lib.Seq.{take-append-le}
 use Rattle.mrd_logic.specs.Answer.{accepted}
 use Rattle.mrd_logic.specs.Every.{Every, every-split}
 use Rattle.mrd_logic.specs.Joined.{joined, joined-append}
@@ -18,14 +18,22 @@ use Rattle.mrd_format.specs.WellFormed.{WellFormed}
 use Rattle.mrd_format.specs.MessageLaws.{prefix-free}
 use Rattle.mrd_cursor.specs.Cursors.{maxMessages, beginning}
 use Rattle.mrd_stream.specs.Walk.{walk, trace, answer}
-use Rattle.mrd_cut.specs.Cut.{Cut, kindsIn, close, Lacks, InOrder, EndsInClose}
+use Rattle.mrd_cut.specs.Cut.{kindsIn, close, Lacks, InOrder, EndsInClose}
 use Rattle.mrd_cut.specs.Each.{kinds-same, kinds-append, kinds-first}
 use Rattle.mrd_cut.specs.OrderRule.{in-order-iff}
 use Rattle.mrd_cut.specs.Walked.{met, piecesOf}
 use Rattle.mrd_cut.specs.Accepted.{Acceptable, kindsOf, accepted-cut}
 use Rattle.mrd_salvage.specs.Salvage.{before, closeAdded, mostKept, kept}
 use Rattle.mrd_salvage.specs.KeptLaws.{kept-front}
-use Rattle.mrd_salvage.specs.SavedLaws.{its-kinds, added-lacks, unadded-ends, order-front, ends-not-lacks, front-of, met-first, take-past, kept-added, kept-unadded, kept-well}
+use Rattle.mrd_salvage.specs.SavedLaws.{its-kinds, added-lacks, unadded-ends, order-front, ends-not-lacks, front-of, met-first, kept-added, kept-unadded, kept-well}
+
+-- more are taken than stand in the first of two lists: all of these, and then of the others
+take-beyond : {A : Type 0} (n : ℕ) (xs ys : List A) → length xs ≤ n → take n (xs ++ ys) ≡ xs ++ take (n - length xs) ys
+take-beyond n [] ys h = ap (λ (k : ℕ). take k ys) (sym (sub-zero n))
+take-beyond zero (x ∷ xs) ys h = absurd (omega arith)
+take-beyond (suc n) (x ∷ xs) ys h =
+    let less : suc n - suc (length xs) ≡ n - length xs = omega arith in
+    rw less (ap (λ (l : List _). x ∷ l) (take-beyond n xs ys (omega arith)))
 
 -- whatever well-formed messages stand at the front of s, and of some accepted stream, are kept first
 module _ (rules : Rules) (s : List ℕ) (ms : List (List ℕ)) (w : Every (WellFormed rules) ms) (rest : List ℕ) (here : joined ms ++ rest ≡ s)
@@ -80,8 +88,7 @@ module _ (rules : Rules) (s : List ℕ) (ms : List (List ℕ)) (w : Every (WellF
       by : (add : Bool) → closeAdded rules s ≡ add → (others : List (List ℕ)) × (kept rules s ≡ ms ++ others)
       by false u = (before-first .0, kept-unadded rules s u ∙ before-first .1)
       by true u =
-          let t = take-past mostKept ms (before-first .0) (not-all u) in
-          (t .0, kept-added rules s u ∙ ap (take mostKept) (before-first .1) ∙ t .1)
+          (take (mostKept - length ms) (before-first .0), kept-added rules s u ∙ ap (take mostKept) (before-first .1) ∙ take-beyond mostKept ms (before-first .0) (not-all u))
 
 -- byte b of joined messages lies in one of them: those before it, the part of it before that byte, and what follows of it
 pub record TornAt (ms : List (List ℕ)) (b : ℕ) : Type 0 where
@@ -94,13 +101,6 @@ pub record TornAt (ms : List (List ℕ)) (b : ℕ) : Type 0 where
   pub torn : take b (joined ms) ≡ joined front ++ part
   pub halves : part ++ lost ≡ message
   pub some : 0 < length lost
-
-take-beyond : {A : Type 0} (n : ℕ) (xs ys : List A) → length xs ≤ n → take n (xs ++ ys) ≡ xs ++ take (n - length xs) ys
-take-beyond n [] ys h = ap (λ (k : ℕ). take k ys) (sym (sub-zero n))
-take-beyond zero (x ∷ xs) ys h = absurd (omega arith)
-take-beyond (suc n) (x ∷ xs) ys h =
-    let less : suc n - suc (length xs) ≡ n - length xs = omega arith in
-    rw less (ap (λ (l : List _). x ∷ l) (take-beyond n xs ys (omega arith)))
 
 torn-at : (ms : List (List ℕ)) (b : ℕ) → b < length (joined ms) → TornAt ms b
 torn-at [] b h = absurd (omega arith)

@@ -1,17 +1,13 @@
--- The walk that finds how far a stream can be kept; and that the report by it is the stream's.
+-- The walk that finds how far a stream can be kept, and what it reaches, said of the messages that it meets.
 -- Assumes nothing.
-use Prim.Native.Nat.{ℕ, zero, suc, _+_, _-_, _≤_, _<_}
+use Prim.Native.Nat.{ℕ, zero, suc, _+_, _≤_, _<_}
 use native.Mathlib.Nat.{add-zero, zero-add}
 use native.Mathlib.Omega.{arith}
 use mathlib.Core.Path.{_≡_, refl, sym, ap, _∙_}
-use mathlib.Core.Bool.{Bool, true, false, not}
-use mathlib.Core.List.{List, [], _∷_, _++_, append-nil}
-use borrow.Author.Tests.{lt-ltb, le-ltb}
-use lib.Dec.{ltb}
+use mathlib.Core.Bool.{not}
+use mathlib.Core.List.{List, [], _∷_}
 use lib.ListN.{length, take, drop, length-append, length-drop}
-use lib.Seq.{length-take-le, take-all}
-use native.Mathlib.Decide.{decLe}
-use Rattle.mrd_logic.specs.Choice.{pick}
+use lib.Seq.{length-take-le}
 use Rattle.mrd_logic.specs.Joined.{joined}
 use Rattle.mrd_format.specs.declared.kind.Kind.{Kind}
 use Rattle.mrd_format.specs.declared.rules.Rules.{Rules}
@@ -24,10 +20,8 @@ use Rattle.mrd_stream.specs.Places.{Located, located}
 use Rattle.mrd_stream.specs.StepLaws.{Passes, On, on-start, on-next, on-end, step-yields}
 use Rattle.mrd_stream.specs.NextLaws as laws
 use Rattle.mrd_cut.specs.Walked.{Walks, ends, faults, meets, walks, met, piecesOf}
-use Rattle.mrd_salvage.specs.declared.reach.Reach.{Reach}
-use Rattle.mrd_salvage.specs.declared.report.Report.{Report}
-use Rattle.mrd_salvage.specs.Salvage.{before, phaseIn, closeAdded, mostKept, kept, closing, salvaged, report}
-use Rattle.mrd_salvage.specs.Reached.{reachAt, reachFrom, reached, asTheyAre, withClose, reportBy}
+use Rattle.mrd_salvage.specs.Salvage.{before, phaseIn, closeAdded}
+use Rattle.mrd_salvage.specs.Reached.{reachAt, reachFrom, reached}
 
 -- the walk over s is at c, and the last message that it passed starts at `last`: what is reached from here is what the stream reaches
 abbrev pub Reaching : Rules → Cursor → ℕ → List ℕ → Type 0

@@ -1,7 +1,7 @@
 -- How far a walk comes, as the code finds it, and the report by that.
 -- Assumes nothing.
 use Prim.Native.Nat.{ℕ, _+_, _-_}
-use mathlib.Core.Bool.{Bool, true, false}
+use mathlib.Core.Bool.{true, false}
 use mathlib.Core.List.{List}
 use lib.Dec.{ltb}
 use lib.ListN.{length}
@@ -35,8 +35,11 @@ asTheyAre k e n = record { «messages_kept» = k; «bytes_not_kept» = n - e; «
 abbrev pub withClose : (messages end n : ℕ) → Report
 withClose k e n = record { «messages_kept» = k; «bytes_not_kept» = n - e; «close_added» = true; length = e + 2 }
 
--- the report on a stream of n bytes
-abbrev pub reportBy : Reach → ℕ → Report
-reportBy r n =
+-- the report on a stream of n bytes of which, with a close after them, at most so many messages may be kept
+abbrev pub reportUpTo : (most : ℕ) → Reach → ℕ → Report
+reportUpTo most r n =
     pick (r .closed) (asTheyAre (r .number) (r .end) n)
-    (pick (ltb mostKept (r .number)) (withClose mostKept (r .last) n) (withClose (r .number) (r .end) n))
+    (pick (ltb most (r .number)) (withClose most (r .last) n) (withClose (r .number) (r .end) n))
+
+abbrev pub reportBy : Reach → ℕ → Report
+reportBy r n = reportUpTo mostKept r n

@@ -1,12 +1,11 @@
 -- What is saved of a stream: it is accepted, an accepted stream is saved as it is, and no longer front could have been kept.
 -- Assumes nothing.
-use Prim.Native.Nat.{ℕ, zero, suc, _+_, _-_, _≤_, _<_}
-use native.Mathlib.Nat.{add-zero}
+use Prim.Native.Nat.{ℕ, zero, suc, _+_, _≤_}
 use native.Mathlib.Omega.{arith}
 use mathlib.Core.Path.{_≡_, refl, sym, ap, _∙_, subst}
 use mathlib.Core.Bool.{Bool, true, false, not}
 use mathlib.Core.List.{List, [], _∷_, _++_, append-nil, append-assoc, append-cancel-left}
-use lib.ListN.{length, take, drop, length-append, take-append-drop}
+use lib.ListN.{length, take, length-append}
 use Rattle.mrd_numbers.specs.Little.{num}
 use Rattle.mrd_logic.specs.Answer.{accepted, refused}
 use Rattle.mrd_logic.specs.Choice.{pick}
@@ -30,15 +29,15 @@ use Rattle.mrd_cursor.specs.declared.cursor.Cursor.{Cursor}
 use Rattle.mrd_cursor.specs.declared.cursor.Phase.{Phase}
 use Rattle.mrd_cursor.specs.declared.cursor.Phase.the-variants.{Start}
 use Rattle.mrd_cursor.specs.Order.{allowed, isClosed, nextPhase}
-use Rattle.mrd_cursor.specs.Cursors.{maxMessages, beginning, after}
+use Rattle.mrd_cursor.specs.Cursors.{maxMessages, after}
 use Rattle.mrd_stream.specs.Walk.{endedAs, ended, Trace, walk, trace, answer}
-use Rattle.mrd_cut.specs.Cut.{Cut, kindsIn, close, Lacks, InOrder, EndsInClose}
+use Rattle.mrd_cut.specs.Cut.{kindsIn, close, Lacks, InOrder, EndsInClose}
 use Rattle.mrd_cut.specs.Each.{kind-unique, kinds-same, kinds-append, kinds-first}
 use Rattle.mrd_cut.specs.OrderRule.{phaseFrom, phaseAfter, AllowedFrom, in-order-iff, allowed-iff-in-order, closed-iff-ends, open-iff-lacks-close}
 use Rattle.mrd_cut.specs.Unique.{not-empty}
 use Rattle.mrd_cut.specs.Walked.{Walks, ends, faults, meets, walks, walk-well, refused-not-accepted, Stops, cursorAfter, met, piecesOf}
 use Rattle.mrd_cut.specs.Accepted.{Acceptable, accepted-cut, cut-accepted}
-use Rattle.mrd_salvage.specs.Salvage.{before, phaseIn, closeAdded, mostKept, kept, closing, salvaged, report}
+use Rattle.mrd_salvage.specs.Salvage.{before, phaseIn, closeAdded, mostKept, kept, closing, salvaged}
 use Rattle.mrd_salvage.specs.KeptLaws.{kept-first}
 
 -- a close is a well-formed message
@@ -139,12 +138,7 @@ met-first rules (m ∷ ms) w c rest a n =
     let later = met-first rules ms (w .1) (after c (w .0 .kind) (length m)) rest (a .1) (omega arith) in
     (later .0, rw (append-assoc, walk-well c m (joined ms ++ rest) (w .0) (a .0) (omega arith)) (ap (λ (l : List (List ℕ)). m ∷ l) (later .1)))
 
--- taking as many as there are, or more, takes those first
-pub take-past : {A : Type 0} (n : ℕ) (xs ys : List A) → length xs ≤ n → (zs : List A) × (take n (xs ++ ys) ≡ xs ++ zs)
-take-past n [] ys h = (take n ys, refl)
-take-past zero (x ∷ xs) ys h = absurd (omega arith)
-take-past (suc n) (x ∷ xs) ys h = let r = take-past n xs ys (omega arith) in (r .0, ap (λ (l : List _). x ∷ l) (r .1))
-
+-- no more are taken than asked for
 taken-few : {A : Type 0} (n : ℕ) (xs : List A) → length (take n xs) ≤ n
 taken-few zero xs = omega arith
 taken-few (suc n) [] = omega arith

@@ -1,10 +1,8 @@
 -- `mrd_salvage::salvage_report` meets its contract: the report goes by how far the walk came.
 -- Assumes nothing.
-use mathlib.Core.Path.{ap, _∙_}
+use mathlib.Core.Path.{_∙_}
 use borrow.Author.Needs.{needs}
 use denote.Ref.{now}
-use lib.ListN.{length}
-use Rattle.mrd_salvage.specs.Reached.{reportBy}
 use Rattle.mrd_salvage.specs.ReachLaws.{reached-within}
 use Rattle.mrd_salvage.specs.KeptLaws.{report-reached}
 use Rattle.mrd_salvage.proofs.salvage_report.Statement.{statement}

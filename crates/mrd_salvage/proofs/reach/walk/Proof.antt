@@ -1,7 +1,7 @@
 -- `mrd_salvage::reach::walk` meets its contract. The loop's invariant: what is reached from the cursor on is what the stream reaches. The measure is
 -- the bytes left.
 -- Assumes nothing.
-use Prim.Native.Nat.{ℕ, _-_}
+use Prim.Native.Nat.{_-_}
 use mathlib.Core.Path.{_≡_, sym, _∙_}
 use borrow.Author.Needs.{needs}
 use denote.Ref.{now}

@@ -8,9 +8,9 @@
 #include <stdint.h>
 
 #define COTTERLEAF_VERSION_MAJOR 0
-#define COTTERLEAF_VERSION_MINOR 6
+#define COTTERLEAF_VERSION_MINOR 7
 #define COTTERLEAF_VERSION_PATCH 0
-#define COTTERLEAF_VERSION "0.6.0"
+#define COTTERLEAF_VERSION "0.7.0"
 
 /* The numbers of refusal, and 0 where nothing is refused. mrd_refusal_text says what to do about each. */
 typedef enum mrd_refusal {

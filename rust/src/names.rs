@@ -353,6 +353,27 @@ pub mod counter {
     pub const USER_7: usize = 16;
 }
 
+/// The names of the seventeen counters, by their place in the array.
+pub const COUNTER_NAMES: [&str; 17] = [
+    "kspace_encode_step_1",
+    "kspace_encode_step_2",
+    "average",
+    "slice",
+    "contrast",
+    "phase",
+    "repetition",
+    "set",
+    "segment",
+    "user_0",
+    "user_1",
+    "user_2",
+    "user_3",
+    "user_4",
+    "user_5",
+    "user_6",
+    "user_7",
+];
+
 /// The elements of the acquisition header.
 const ACQUISITION_ELEMENTS: [(usize, &str); 81] = [
     (0, "version"),
@@ -624,6 +645,54 @@ pub mod acquisition_flag {
     pub const USER8: u32 = 64;
 }
 
+/// The name of an acquisition flag, `first_in_slice` for 7; none where its number has none.
+pub fn flag_name(number: u32) -> Option<&'static str> {
+    Some(match number {
+        1 => "first_in_encode_step1",
+        2 => "last_in_encode_step1",
+        3 => "first_in_encode_step2",
+        4 => "last_in_encode_step2",
+        5 => "first_in_average",
+        6 => "last_in_average",
+        7 => "first_in_slice",
+        8 => "last_in_slice",
+        9 => "first_in_contrast",
+        10 => "last_in_contrast",
+        11 => "first_in_phase",
+        12 => "last_in_phase",
+        13 => "first_in_repetition",
+        14 => "last_in_repetition",
+        15 => "first_in_set",
+        16 => "last_in_set",
+        17 => "first_in_segment",
+        18 => "last_in_segment",
+        19 => "is_noise_measurement",
+        20 => "is_parallel_calibration",
+        21 => "is_parallel_calibration_and_imaging",
+        22 => "is_reverse",
+        23 => "is_navigation_data",
+        24 => "is_phasecorr_data",
+        25 => "last_in_measurement",
+        26 => "is_hpfeedback_data",
+        27 => "is_dummyscan_data",
+        28 => "is_rtfeedback_data",
+        29 => "is_surfacecoilcorrectionscan_data",
+        53 => "compression1",
+        54 => "compression2",
+        55 => "compression3",
+        56 => "compression4",
+        57 => "user1",
+        58 => "user2",
+        59 => "user3",
+        60 => "user4",
+        61 => "user5",
+        62 => "user6",
+        63 => "user7",
+        64 => "user8",
+        _ => return None,
+    })
+}
+
 /// The data types of an image's pixels.
 pub mod data_type {
     /// `uint16_t`, 2 bytes.
@@ -658,4 +727,32 @@ pub mod image_type {
     pub const COMPLEX: u16 = 5;
     /// Number 6.
     pub const RGB: u16 = 6;
+}
+
+/// The name of a data type of pixels, `cxfloat` for 7; none where there is no such type.
+pub fn data_type_name(number: u16) -> Option<&'static str> {
+    Some(match number {
+        1 => "ushort",
+        2 => "short",
+        3 => "uint",
+        4 => "int",
+        5 => "float",
+        6 => "double",
+        7 => "cxfloat",
+        8 => "cxdouble",
+        _ => return None,
+    })
+}
+
+/// The name of what an image shows, `magnitude` for 1; none where its number has none.
+pub fn image_type_name(number: u16) -> Option<&'static str> {
+    Some(match number {
+        1 => "magnitude",
+        2 => "phase",
+        3 => "real",
+        4 => "imag",
+        5 => "complex",
+        6 => "rgb",
+        _ => return None,
+    })
 }

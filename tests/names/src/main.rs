@@ -90,7 +90,7 @@ pub fn read(root: &Path, path: &str) -> String {
     std::fs::read_to_string(root.join(path)).unwrap_or_else(|error| panic!("{path}: {error}"))
 }
 
-/// The wrapper's manifest with the one version number.
+/// A manifest with the one version number.
 fn versioned(manifest: &str, version: &str) -> String {
     let lines = manifest
         .lines()
@@ -116,11 +116,11 @@ fn generated(sources: &Sources) -> Vec<(&'static str, String)> {
         ("rust/src/headers.rs", rust::headers_file(&format)),
         ("tests/c/interface.c", interface.c_file()),
         ("rust/src/raw/interface.rs", interface.rust_file()),
-        (
-            "rust/Cargo.toml",
-            versioned(&read(sources.root(), "rust/Cargo.toml"), &format.version),
-        ),
     ];
+    for manifest in ["rust/Cargo.toml", "cli/Cargo.toml"] {
+        let text = versioned(&read(sources.root(), manifest), &format.version);
+        files.push((manifest, text));
+    }
     for page in ["README.md", "docs/FORMAT.md"] {
         let text = tables::filled(&read(sources.root(), page), &format, sources);
         files.push((page, citations::followed(&text, sources)));

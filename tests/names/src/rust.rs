@@ -91,7 +91,25 @@ pub fn said(ranges: &[(usize, usize)]) -> String {
     }
 }
 
+/// A function from a number to its name, in small letters as the answers of programs have it.
+fn named(comment: &str, function: &str, of: &str, names: &[(usize, &str)]) -> String {
+    let arms = names.iter().map(|(number, name)| {
+        let name = quoted(&name.to_lowercase());
+        format!("        {number} => {name},\n")
+    });
+    format!(
+        "/// {comment}\npub fn {function}(number: {of}) -> Option<&'static str> {{\n    Some(match number {{\n{}        \
+         _ => return None,\n    }})\n}}\n\n",
+        arms.collect::<String>()
+    )
+}
+
 fn flags(format: &Format) -> String {
+    let names: Vec<(usize, &str)> = format
+        .flags
+        .iter()
+        .map(|flag| (flag.number, flag.name.as_str()))
+        .collect();
     let lines = format.flags.iter();
     let lines = lines.map(|flag| {
         constant(
@@ -103,7 +121,10 @@ fn flags(format: &Format) -> String {
         )
     });
     let comment = "The acquisition flags by name, for [`flag_test`](crate::flag_test) and its like. Numbers that are not here have none.";
+    let name_of =
+        "The name of an acquisition flag, `first_in_slice` for 7; none where its number has none.";
     module(comment, "acquisition_flag", &lines.collect::<String>())
+        + &named(name_of, "flag_name", "u32", &names)
 }
 
 fn counters(format: &Format) -> String {
@@ -119,7 +140,18 @@ fn counters(format: &Format) -> String {
     });
     let comment =
         "The seventeen counters of an acquisition (ISMRMRD's `idx`), by their place in the array.";
+    let quoted = format
+        .counters
+        .iter()
+        .map(|counter| quoted(&counter.name()));
+    let rows = quoted.map(|name| format!("    {name},\n"));
     module(comment, "counter", &lines.collect::<String>())
+        + &format!(
+            "/// The names of the seventeen counters, by their place in the array.\n\
+             pub const COUNTER_NAMES: [&str; {}] = [\n{}];\n\n",
+            format.counters.len(),
+            rows.collect::<String>()
+        )
 }
 
 fn image_names(format: &Format) -> String {
@@ -144,7 +176,22 @@ fn image_names(format: &Format) -> String {
         "What an image shows; it is not checked.",
         "image_type",
         &images.collect::<String>(),
+    ) + &named(
+        "The name of a data type of pixels, `cxfloat` for 7; none where there is no such type.",
+        "data_type_name",
+        "u16",
+        &numbered(DATA_TYPES.map(|(name, _)| name)),
+    ) + &named(
+        "The name of what an image shows, `magnitude` for 1; none where its number has none.",
+        "image_type_name",
+        "u16",
+        &numbered(IMAGE_TYPES),
     )
+}
+
+/// Names with their numbers, from 1 on.
+fn numbered<const N: usize>(names: [&str; N]) -> Vec<(usize, &str)> {
+    (1..).zip(names).collect()
 }
 
 fn offsets(format: &Format) -> String {

@@ -1,0 +1,200 @@
+//! The commands, one file for each, and what they have in common: an input, its rules, and where answers go.
+
+mod at;
+mod check;
+mod extract;
+mod find;
+mod gaps;
+mod info;
+mod list;
+mod show;
+mod verify;
+mod written;
+
+use crate::answer::{begun, Answers, Form, Members, Status};
+use crate::args::{Command, CommandLine, Options};
+use crate::fault::Fault;
+use crate::input::Input;
+use crate::manual;
+use crate::output::Place;
+use crate::progress;
+use clap::CommandFactory;
+use cotterleaf::{Refusal, Rules, Stream};
+use serde_json::json;
+use std::path::Path;
+
+/// One question about one input.
+pub struct Asked<'a> {
+    pub command: &'static str,
+    pub rules: Rules,
+    pub input: &'a Input,
+}
+
+impl<'a> Asked<'a> {
+    pub fn stream(&self) -> Stream<'a> {
+        Stream::new(self.rules, self.input.bytes())
+    }
+
+    /// The verdict of the library.
+    pub fn verdict(&self) -> Result<usize, Refusal> {
+        progress::during("checking", || self.stream().check())
+    }
+
+    /// The members that the answer begins with.
+    pub fn begun(&self, verdict: &Result<usize, Refusal>) -> Members {
+        begun(
+            self.command,
+            &self.input.name,
+            self.input.bytes().len(),
+            verdict,
+        )
+    }
+
+    /// An answer that is a refusal alone.
+    pub fn refused(&self, answers: &mut Answers, refusal: Refusal) -> Result<Status, Fault> {
+        self.input.unchanged()?;
+        answers.object(|| self.begun(&Err(refusal)))?;
+        answers.line(format_args!("{}: {refusal}", self.input.name))?;
+        Ok(Status::Different)
+    }
+
+    /// The verdict as a line.
+    pub fn say_verdict(
+        &self,
+        answers: &mut Answers,
+        verdict: &Result<usize, Refusal>,
+    ) -> Result<(), Fault> {
+        let name = &self.input.name;
+        match verdict {
+            Ok(records) => {
+                let bytes = self.input.bytes().len();
+                answers.line(format_args!(
+                    "{name}: accepted, {records} records, {bytes} bytes"
+                ))
+            }
+            Err(refusal) => answers.line(format_args!("{name}: {refusal}")),
+        }
+    }
+}
+
+impl Options {
+    pub fn form(&self) -> Form {
+        match (self.quiet, self.json) {
+            (true, _) => Form::Nothing,
+            (false, true) => Form::Json,
+            (false, false) => Form::Words,
+        }
+    }
+}
+
+/// Answers about one input with one command; a fault is an object too, where objects are asked for.
+fn answered(
+    options: &Options,
+    command: &'static str,
+    path: &Path,
+    answers: &mut Answers,
+    ask: impl FnOnce(&Asked, &mut Answers) -> Result<Status, Fault>,
+) -> Result<Status, Fault> {
+    let done = Input::open(path).and_then(|input| {
+        let asked = Asked {
+            command,
+            rules: options.rules(),
+            input: &input,
+        };
+        let status = ask(&asked, answers)?;
+        answers.end()?;
+        Ok(status)
+    });
+    if let Err(fault) = &done {
+        let file = path.to_string_lossy();
+        let object = json!({ "command": command, "file": file, "error": fault.0 });
+        // Where answers themselves can't be written, the sentence on standard error remains.
+        let _ = answers.object(|| crate::answer::members(object));
+        let _ = answers.end();
+    }
+    done
+}
+
+/// The place of an output, and where answers go beside it.
+fn beside(
+    options: &Options,
+    command: &'static str,
+    file: &Path,
+    place: Result<Place, Fault>,
+    ask: impl FnOnce(&Asked, &mut Answers, Place) -> Result<Status, Fault>,
+) -> Result<Status, Fault> {
+    let aside = matches!(&place, Ok(place) if place.is_standard());
+    let mut answers = match aside {
+        true => Answers::aside(options.form()),
+        false => Answers::new(options.form()),
+    };
+    answered(options, command, file, &mut answers, |asked, answers| {
+        ask(asked, answers, place?)
+    })
+}
+
+/// Something that is about no recording.
+fn printed(text: &[u8]) -> Result<Status, Fault> {
+    Place::Standard.write(&[text], || Ok(()))?;
+    Ok(Status::Sound)
+}
+
+/// Runs the command that was given.
+pub fn run(given: &CommandLine) -> Result<Status, Fault> {
+    let options = &given.options;
+    let one = |command, path: &Path, ask: &dyn Fn(&Asked, &mut Answers) -> _| {
+        let mut answers = Answers::new(options.form());
+        answered(options, command, path, &mut answers, ask)
+    };
+    let write = |command, given: &crate::args::Written, write: written::Write| {
+        let place = Place::of(&given.output, given.force);
+        beside(options, command, &given.input.file, place, write)
+    };
+    match &given.command {
+        Command::Info(input) => one("info", &input.file, &info::run),
+        Command::Check { files } => check::run(options, files),
+        Command::List { input, span, kind } => one("list", &input.file, &|asked, answers| {
+            list::run(asked, answers, *span, kind)
+        }),
+        Command::Show(of) => one("show", &of.input.file, &|asked, answers| {
+            show::run(asked, answers, of.number)
+        }),
+        Command::Find {
+            input,
+            counters,
+            scan_counter,
+            flag,
+            span,
+        } => {
+            let wanted = find::Wanted {
+                counters,
+                scan_counter: *scan_counter,
+                flags: flag,
+            };
+            one("find", &input.file, &|asked, answers| {
+                find::run(asked, answers, &wanted, *span)
+            })
+        }
+        Command::Gaps(input) => one("gaps", &input.file, &gaps::run),
+        Command::Extract { .. } => extract::run(options, &given.command),
+        Command::At { input, byte } => one("at", &input.file, &|asked, answers| {
+            at::run(asked, answers, *byte)
+        }),
+        Command::Index(given) => write("index", given, written::index),
+        Command::Verify { input, index } => one("verify", &input.file, &|asked, answers| {
+            verify::run(asked, answers, index)
+        }),
+        Command::Normal(given) => write("normal", given, written::normal),
+        Command::Salvage(given) => write("salvage", given, written::salvage),
+        Command::Completions { shell } => {
+            let mut made = Vec::new();
+            clap_complete::generate(*shell, &mut CommandLine::command(), "cotterleaf", &mut made);
+            printed(&made)
+        }
+        Command::Manual => {
+            let mut command = CommandLine::command();
+            command.build();
+            printed(manual::page(&command).as_bytes())
+        }
+    }
+}

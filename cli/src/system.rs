@@ -1,0 +1,158 @@
+//! The few calls of the system that Rust's library has not: files without a name that get one when they are whole, room
+//! that is set aside before it is written, and what is done on a signal.
+
+use std::ffi::{CStr, CString};
+use std::fs::{File, OpenOptions};
+use std::io::{Error, Result};
+use std::os::fd::AsRawFd;
+use std::os::unix::ffi::OsStrExt;
+use std::os::unix::fs::OpenOptionsExt;
+use std::path::Path;
+use std::ptr::null_mut;
+use std::sync::atomic::{AtomicPtr, Ordering};
+
+/// Where a process sees its open files by name, which is how a file without a name is given one.
+const OPEN_FILES: &str = "/proc/self/fd";
+
+fn c_path(path: &Path) -> Result<CString> {
+    Ok(CString::new(path.as_os_str().as_bytes())?)
+}
+
+/// A file in a folder that has no name there: it is gone when it is closed, however the process ends.
+pub fn unnamed_file(folder: &Path) -> Result<File> {
+    OpenOptions::new()
+        .read(true)
+        .write(true)
+        .mode(0o666)
+        .custom_flags(libc::O_TMPFILE)
+        .open(folder)
+}
+
+/// A file to keep bytes in for the time of a run, in the folder for temporary files, gone when it is closed.
+pub fn temporary_file(folder: &Path) -> Result<File> {
+    unnamed_file(folder).or_else(|_| {
+        // Not every file system has files without a name; a name that is taken away at once does as well here.
+        let path = folder.join(format!(".cotterleaf.{}.partial", std::process::id()));
+        let mut options = OpenOptions::new();
+        let file = options
+            .read(true)
+            .write(true)
+            .create_new(true)
+            .open(&path)?;
+        std::fs::remove_file(&path)?;
+        Ok(file)
+    })
+}
+
+/// Whether [`name`] can work here.
+pub fn can_name() -> bool {
+    Path::new(OPEN_FILES).is_dir()
+}
+
+/// Gives a file without a name its name; an error of the kind `AlreadyExists` where another has it.
+pub fn name(file: &File, path: &Path) -> Result<()> {
+    let from = CString::new(format!("{OPEN_FILES}/{}", file.as_raw_fd()))?;
+    let to = c_path(path)?;
+    // SAFETY: both paths end in a zero and live through the call.
+    let answer = unsafe {
+        libc::linkat(
+            libc::AT_FDCWD,
+            from.as_ptr(),
+            libc::AT_FDCWD,
+            to.as_ptr(),
+            libc::AT_SYMLINK_FOLLOW,
+        )
+    };
+    match answer {
+        0 => Ok(()),
+        _ => Err(Error::last_os_error()),
+    }
+}
+
+/// How many bytes the file system of an open file has left for this user.
+pub fn free_bytes(file: &File) -> Result<u64> {
+    // SAFETY: a struct of plain numbers, for which zeros are a value.
+    let mut room: libc::statvfs = unsafe { std::mem::zeroed() };
+    // SAFETY: the file is open, and the struct is the call's to fill.
+    match unsafe { libc::fstatvfs(file.as_raw_fd(), &mut room) } {
+        0 => Ok(room.f_bavail.saturating_mul(room.f_frsize)),
+        _ => Err(Error::last_os_error()),
+    }
+}
+
+/// Makes a file so long, with its room set aside on the disk: writing to it through a map can then not run out of
+/// room, which would be a signal and no error.
+pub fn set_aside(file: &File, length: u64) -> Result<()> {
+    if length == 0 {
+        return Ok(());
+    }
+    let length = libc::off_t::try_from(length).map_err(Error::other)?;
+    // SAFETY: the file is open.
+    match unsafe { libc::posix_fallocate(file.as_raw_fd(), 0, length) } {
+        0 => Ok(()),
+        number => Err(Error::from_raw_os_error(number)),
+    }
+}
+
+/// The path of an output that has a passing name, for the handlers below; null where there is none.
+static PASSING: AtomicPtr<libc::c_char> = AtomicPtr::new(null_mut());
+
+const GONE: &[u8] = b"cotterleaf: a file became shorter while it was read, or its disk failed; \
+    nothing was put in place; run again when nothing writes to it\n";
+
+fn remove_passing() {
+    let path = PASSING.swap(null_mut(), Ordering::SeqCst);
+    if !path.is_null() {
+        // SAFETY: a path that was stored ends in a zero and is never freed.
+        unsafe { libc::unlink(path) };
+    }
+}
+
+/// A map was read where its file has no bytes any more.
+extern "C" fn on_bus_error(_: libc::c_int) {
+    remove_passing();
+    // SAFETY: both calls may be made in a handler, and the bytes live as long as the program.
+    unsafe {
+        libc::write(2, GONE.as_ptr().cast(), GONE.len());
+        libc::_exit(2);
+    }
+}
+
+/// The process is told to end: what has a passing name goes, and then it ends as it would have without a handler.
+extern "C" fn on_end(signal: libc::c_int) {
+    remove_passing();
+    // SAFETY: both calls may be made in a handler.
+    unsafe {
+        libc::signal(signal, libc::SIG_DFL);
+        libc::raise(signal);
+    }
+}
+
+fn handle(signal: libc::c_int, handler: extern "C" fn(libc::c_int)) {
+    // SAFETY: the handlers make only calls that a handler may make. What was ignored, as by nohup, stays so.
+    unsafe {
+        if libc::signal(signal, handler as libc::sighandler_t) == libc::SIG_IGN {
+            libc::signal(signal, libc::SIG_IGN);
+        }
+    }
+}
+
+/// Has a file that gets shorter while it is mapped end the run with a sentence and status 2.
+pub fn say_bus_errors() {
+    handle(libc::SIGBUS, on_bus_error);
+}
+
+/// Has a file with a passing name removed when the process is told to end, until [`passed`].
+pub fn remove_on_end(path: &Path) -> Result<()> {
+    let path: &'static CStr = Box::leak(c_path(path)?.into_boxed_c_str());
+    PASSING.store(path.as_ptr().cast_mut(), Ordering::SeqCst);
+    for signal in [libc::SIGINT, libc::SIGTERM, libc::SIGHUP] {
+        handle(signal, on_end);
+    }
+    Ok(())
+}
+
+/// The file with a passing name is gone or has its own.
+pub fn passed() {
+    PASSING.store(null_mut(), Ordering::SeqCst);
+}

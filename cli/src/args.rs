@@ -90,11 +90,7 @@ pub enum Command {
     /// For each file the verdict: accepted with its number of records, or refused with the number of refusal, the
     /// record, the byte, what is wrong and what to do.
     #[command(after_help = "Example:\n  cotterleaf check scan.mrd torn.mrd")]
-    Check {
-        /// Recordings; - is standard input
-        #[arg(value_name = "FILE", required = true, value_hint = ValueHint::FilePath)]
-        files: Vec<PathBuf>,
-    },
+    Check(Files),
     /// List the records
     ///
     /// A line for each record: its number, kind, first byte, size, and the kind's own numbers. Of a refused stream
@@ -103,15 +99,7 @@ pub enum Command {
 Examples:
   cotterleaf list scan.mrd
   cotterleaf list scan.mrd --kind acquisition --kind image --from 4 --limit 10")]
-    List {
-        #[command(flatten)]
-        input: File,
-        #[command(flatten)]
-        span: Span,
-        /// Only records of this kind; may be given again
-        #[arg(long, value_enum)]
-        kind: Vec<KindName>,
-    },
+    List(Listed),
     /// Show everything about one record
     ///
     /// Every header element by name, flags by name, every part with its place; texts are printed.
@@ -125,20 +113,7 @@ Examples:
   cotterleaf find scan.mrd --slice 0 --kspace-encode-step-1 1
   cotterleaf find scan.mrd --scan-counter 2
   cotterleaf find scan.mrd --flag last_in_slice --limit 1")]
-    Find {
-        #[command(flatten)]
-        input: File,
-        #[command(flatten)]
-        counters: Counters,
-        /// Readouts with this scan counter
-        #[arg(long, value_name = "N")]
-        scan_counter: Option<u32>,
-        /// Readouts with this flag set, by name or number 1 to 64; may be given again
-        #[arg(long, value_name = "FLAG")]
-        flag: Vec<Flag>,
-        #[command(flatten)]
-        span: Span,
-    },
+    Find(Wanted),
     /// Say where scan counters do not go up by one
     ///
     /// Each readout's scan counter is compared with that of the readout before it in the stream, around the 32-bit
@@ -153,33 +128,10 @@ Examples:
   cotterleaf extract scan.mrd 1 --part text
   cotterleaf extract scan.mrd 3 --part channel --channel 0 -o readout.npy
   cotterleaf extract scan.mrd 6 --part pixels -o pixels.raw")]
-    Extract {
-        #[command(flatten)]
-        record: RecordOf,
-        /// Which part
-        #[arg(long, value_enum)]
-        part: PartName,
-        /// Which channel, from 0; all of them where this is left out
-        #[arg(long, value_name = "C")]
-        channel: Option<usize>,
-        /// Write an array for NumPy, as for an output whose name ends in .npy
-        #[arg(long)]
-        npy: bool,
-        /// Where to write it; without it, and for -, to standard output
-        #[arg(long, short, value_name = "X", value_hint = ValueHint::FilePath)]
-        output: Option<PathBuf>,
-        /// Let the output take the place of a file that exists
-        #[arg(long)]
-        force: bool,
-    },
+    Extract(Extracted),
     /// Say which record and part a byte belongs to
     #[command(after_help = "Example:\n  cotterleaf at scan.mrd 1420")]
-    At {
-        #[command(flatten)]
-        input: File,
-        /// The byte's number, from 0
-        byte: usize,
-    },
+    At(ByteOf),
     /// Write the index of a recording
     #[command(after_help = "Example:\n  cotterleaf index scan.mrd -o scan.idx")]
     Index(Written),
@@ -187,13 +139,7 @@ Examples:
     ///
     /// It is believed exactly when it equals the index that the stream itself yields, byte for byte.
     #[command(after_help = "Example:\n  cotterleaf verify scan.mrd scan.idx")]
-    Verify {
-        #[command(flatten)]
-        input: File,
-        /// The index
-        #[arg(value_name = "X", value_hint = ValueHint::FilePath)]
-        index: PathBuf,
-    },
+    Verify(Kept),
     /// Write the normal form of a recording
     ///
     /// Two streams with the same records have the same normal form, byte for byte.
@@ -225,6 +171,84 @@ pub struct File {
     /// A recording; - is standard input
     #[arg(value_name = "FILE", value_hint = ValueHint::FilePath)]
     pub file: PathBuf,
+}
+
+/// Several recordings.
+#[derive(Args)]
+pub struct Files {
+    /// Recordings; - is standard input
+    #[arg(value_name = "FILE", required = true, value_hint = ValueHint::FilePath)]
+    pub files: Vec<PathBuf>,
+}
+
+/// Which records are listed.
+#[derive(Args)]
+pub struct Listed {
+    #[command(flatten)]
+    pub input: File,
+    #[command(flatten)]
+    pub span: Span,
+    /// Only records of this kind; may be given again
+    #[arg(long, value_enum)]
+    pub kind: Vec<KindName>,
+}
+
+/// What a readout that is looked for has.
+#[derive(Args)]
+pub struct Wanted {
+    #[command(flatten)]
+    pub input: File,
+    #[command(flatten)]
+    pub counters: Counters,
+    /// Readouts with this scan counter
+    #[arg(long, value_name = "N")]
+    pub scan_counter: Option<u32>,
+    /// Readouts with this flag set, by name or number 1 to 64; may be given again
+    #[arg(long, value_name = "FLAG")]
+    pub flag: Vec<Flag>,
+    #[command(flatten)]
+    pub span: Span,
+}
+
+/// What is to be taken out of a record.
+#[derive(Args)]
+pub struct Extracted {
+    #[command(flatten)]
+    pub record: RecordOf,
+    /// Which part
+    #[arg(long, value_enum)]
+    pub part: PartName,
+    /// Which channel, from 0; all of them where this is left out
+    #[arg(long, value_name = "C")]
+    pub channel: Option<usize>,
+    /// Write an array for NumPy, as for an output whose name ends in .npy
+    #[arg(long)]
+    pub npy: bool,
+    /// Where to write it; without it, and for -, to standard output
+    #[arg(long, short, value_name = "X", value_hint = ValueHint::FilePath)]
+    pub output: Option<PathBuf>,
+    /// Let the output take the place of a file that exists
+    #[arg(long)]
+    pub force: bool,
+}
+
+/// One byte of a recording.
+#[derive(Args)]
+pub struct ByteOf {
+    #[command(flatten)]
+    pub input: File,
+    /// The byte's number, from 0
+    pub byte: usize,
+}
+
+/// A recording and an index that was kept of it.
+#[derive(Args)]
+pub struct Kept {
+    #[command(flatten)]
+    pub input: File,
+    /// The index
+    #[arg(value_name = "X", value_hint = ValueHint::FilePath)]
+    pub index: PathBuf,
 }
 
 /// One record of a recording.

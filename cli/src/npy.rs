@@ -5,52 +5,59 @@ use cotterleaf::{data_type, Kind, Part};
 /// The header is filled up so that the data begins at a multiple of this.
 const ALIGNED: usize = 64;
 
-/// Type and shape of a part's bytes; none of a text. `Part::Channel` with no channel named is all of them.
-fn described(kind: &Kind, part: Part, all_channels: bool) -> Option<(&'static str, Vec<u64>)> {
-    Some(match (*kind, part) {
-        (
-            Kind::Acquisition {
-                number_of_samples,
-                active_channels,
-                ..
-            },
-            Part::Channel(_),
-        ) => match all_channels {
-            true => (
-                "<c8",
-                vec![active_channels.into(), number_of_samples.into()],
-            ),
-            false => ("<c8", vec![number_of_samples.into()]),
-        },
-        (
-            Kind::Acquisition {
-                number_of_samples,
-                trajectory_dimensions,
-                ..
-            },
-            Part::Trajectory,
-        ) => (
-            "<f4",
-            vec![number_of_samples.into(), trajectory_dimensions.into()],
-        ),
-        (
-            Kind::Image {
-                matrix_size: [x, y, z],
-                channels,
-                data_type,
-                ..
-            },
-            Part::Pixels,
-        ) => (pixel(data_type)?, [channels, z, y, x].map(u64::from).into()),
-        (
-            Kind::Waveform {
-                number_of_samples,
-                channels,
-            },
-            Part::Waveform,
-        ) => ("<u4", vec![channels.into(), number_of_samples.into()]),
-        _ => return None,
+/// Type and shape of a part's bytes.
+type Array = (&'static str, Vec<u64>);
+
+/// The array that a part is; none of a text. Of all channels it has a size more than of one.
+fn array(kind: &Kind, part: Part, all_channels: bool) -> Option<Array> {
+    match part {
+        Part::Channel(_) | Part::Trajectory => of_readout(kind, part, all_channels),
+        Part::Pixels => of_image(kind),
+        Part::Waveform => of_waveform(kind),
+        Part::Name | Part::Text | Part::Attributes => None,
+    }
+}
+
+fn of_readout(kind: &Kind, part: Part, all_channels: bool) -> Option<Array> {
+    let Kind::Acquisition {
+        number_of_samples,
+        active_channels,
+        trajectory_dimensions,
+        ..
+    } = *kind
+    else {
+        return None;
+    };
+    let samples = number_of_samples.into();
+    Some(match part {
+        Part::Trajectory => ("<f4", vec![samples, trajectory_dimensions.into()]),
+        _ if all_channels => ("<c8", vec![active_channels.into(), samples]),
+        _ => ("<c8", vec![samples]),
     })
+}
+
+fn of_image(kind: &Kind) -> Option<Array> {
+    let Kind::Image {
+        matrix_size: [x, y, z],
+        channels,
+        data_type,
+        ..
+    } = *kind
+    else {
+        return None;
+    };
+    Some((pixel(data_type)?, [channels, z, y, x].map(u64::from).into()))
+}
+
+fn of_waveform(kind: &Kind) -> Option<Array> {
+    let Kind::Waveform {
+        number_of_samples,
+        channels,
+    } = *kind
+    else {
+        return None;
+    };
+    Some(("<u4", vec![channels.into(), number_of_samples.into()]))
 }
 
 /// NumPy's name of a pixel's type.
@@ -70,7 +77,7 @@ fn pixel(of: u16) -> Option<&'static str> {
 
 /// The bytes before a part's own; none where the part is no array.
 pub fn header(kind: &Kind, part: Part, all_channels: bool) -> Option<Vec<u8>> {
-    let (of, shape) = described(kind, part, all_channels)?;
+    let (of, shape) = array(kind, part, all_channels)?;
     // A comma after each size: NumPy's tuple of one needs it.
     let shape: String = shape.iter().map(|size| format!("{size},")).collect();
     let mut text = format!("{{'descr': '{of}', 'fortran_order': False, 'shape': ({shape}), }}");

@@ -68,14 +68,14 @@ impl Piece {
     }
 }
 
-/// `channel 3`, `pixels`.
+/// `channel 3`, `all channels`, `pixels`.
 impl fmt::Display for Piece {
     fn fmt(&self, f: &mut fmt::Formatter<'_>) -> fmt::Result {
-        let word = match self.channel {
-            Some(channel) => format!("{} {channel}", self.word),
-            None => self.word.to_string(),
-        };
-        f.pad(&word)
+        match (self.word, self.channel) {
+            (word, Some(channel)) => f.pad(&format!("{word} {channel}")),
+            ("channel", None) => f.pad("all channels"),
+            (word, None) => f.pad(word),
+        }
     }
 }
 

@@ -33,19 +33,7 @@ fn kind_members(record: &RecordAt) -> Members {
         | Kind::HeaderText { length }
         | Kind::Text { length } => json!({ "length": length }),
         Kind::Close => json!({}),
-        Kind::Acquisition {
-            number_of_samples,
-            active_channels,
-            trajectory_dimensions,
-            mask,
-        } => json!({
-            "scan_counter": scan_counter(record),
-            "number_of_samples": number_of_samples,
-            "active_channels": active_channels,
-            "trajectory_dimensions": trajectory_dimensions,
-            "mask": mask_word(mask),
-            "mask_ones": mask.ones(),
-        }),
+        Kind::Acquisition { mask, .. } => readout_object(record, mask),
         Kind::Image {
             matrix_size,
             channels,
@@ -57,22 +45,29 @@ fn kind_members(record: &RecordAt) -> Members {
             "data_type": data_type,
             "attribute_length": attribute_length,
         }),
-        Kind::Waveform {
-            number_of_samples,
-            channels,
-        } => json!({
-            "scan_counter": scan_counter(record),
-            "waveform_id": record.waveform().map(|header| header.waveform_id()),
-            "number_of_samples": number_of_samples,
-            "channels": channels,
-        }),
+        Kind::Waveform { .. } => {
+            let header = record.waveform().expect("a waveform has its header");
+            json!({
+                "scan_counter": header.scan_counter(),
+                "waveform_id": header.waveform_id(),
+                "number_of_samples": header.number_of_samples(),
+                "channels": header.channels(),
+            })
+        }
     })
 }
 
-/// The scan counter of an acquisition or waveform.
-fn scan_counter(record: &RecordAt) -> Option<u32> {
-    let readout = record.acquisition().map(|header| header.scan_counter());
-    readout.or_else(|| record.waveform().map(|header| header.scan_counter()))
+fn readout_object(record: &RecordAt, mask: Mask) -> Value {
+    let header = record.acquisition();
+    let header = header.expect("an acquisition has its header");
+    json!({
+        "scan_counter": header.scan_counter(),
+        "number_of_samples": header.number_of_samples(),
+        "active_channels": header.active_channels(),
+        "trajectory_dimensions": header.trajectory_dimensions(),
+        "mask": mask_word(mask),
+        "mask_ones": mask.ones(),
+    })
 }
 
 /// All that a listing tells of a record.
@@ -112,7 +107,7 @@ pub fn write_numbers(out: &mut dyn Write, record: &RecordAt) -> Result<()> {
         | Kind::ConfigurationText { .. }
         | Kind::HeaderText { .. }
         | Kind::Text { .. } => Ok(()),
-        Kind::Acquisition { .. } => write_readout(out, record),
+        Kind::Acquisition { mask, .. } => write_readout(out, record, mask),
         Kind::Image {
             matrix_size: [x, y, z],
             channels,
@@ -140,22 +135,16 @@ pub fn write_numbers(out: &mut dyn Write, record: &RecordAt) -> Result<()> {
     }
 }
 
-fn write_readout(out: &mut dyn Write, record: &RecordAt) -> Result<()> {
-    let Kind::Acquisition {
-        number_of_samples,
-        active_channels,
-        trajectory_dimensions,
-        mask,
-    } = record.kind
-    else {
-        return Ok(());
-    };
-    let channels = counted(active_channels.into(), "channel");
-    let samples = counted(number_of_samples.into(), "sample");
-    let scan = scan_counter(record).unwrap_or_default();
+fn write_readout(out: &mut dyn Write, record: &RecordAt, mask: Mask) -> Result<()> {
+    let header = record.acquisition();
+    let header = header.expect("an acquisition has its header");
+    let scan = header.scan_counter();
+    let channels = counted(header.active_channels().into(), "channel");
+    let samples = counted(header.number_of_samples().into(), "sample");
     write!(out, "  scan {scan}, {channels}, {samples}")?;
-    if trajectory_dimensions > 0 {
-        write!(out, ", trajectory of {trajectory_dimensions}")?;
+    match header.trajectory_dimensions() {
+        0 => {}
+        dimensions => write!(out, ", trajectory of {dimensions}")?,
     }
     match mask {
         Mask::Differs { ones } => write!(out, ", mask names {ones}"),

@@ -3,9 +3,8 @@
 use super::written::with_output;
 use super::{beside, Asked};
 use crate::answer::{Answers, Status};
-use crate::args::{Command, Options};
+use crate::args::{Extracted, Options};
 use crate::fault::Fault;
-use crate::input::STANDARD;
 use crate::names::PartName;
 use crate::npy;
 use crate::output::Place;
@@ -23,43 +22,37 @@ struct Wanted {
     npy: bool,
 }
 
-pub fn run(options: &Options, command: &Command) -> Result<Status, Fault> {
-    let Command::Extract {
-        record,
-        part,
-        channel,
-        npy,
-        output,
-        force,
-    } = command
-    else {
-        unreachable!("extract alone comes here");
-    };
-    let named = output.as_deref().and_then(Path::extension);
-    let wanted = Wanted {
-        number: record.number,
-        part: *part,
-        channel: *channel,
-        npy: *npy || named == Some(OsStr::new("npy")),
-    };
-    let place = match output {
-        Some(path) => Place::of(path, *force),
-        None if stdout().is_terminal() && (wanted.npy || !part.is_text()) => Err(Fault(
-            "these bytes are no text for a terminal; -o X writes a file, -o - shows them all the same".into(),
-        )),
-        None => Place::of(Path::new(STANDARD), *force),
-    };
-    let place = wanted.has_a_meaning().and(place);
-    beside(
-        options,
-        "extract",
-        &record.input.file,
-        place,
-        |asked, answers, place| wanted.taken(asked, answers, place),
-    )
+pub fn run(options: &Options, given: &Extracted) -> Result<Status, Fault> {
+    let wanted = Wanted::of(given);
+    let place = wanted.has_a_meaning().and_then(|()| wanted.place(given));
+    let file = &given.record.input.file;
+    beside(options, "extract", file, place, |asked, answers, place| {
+        wanted.taken(asked, answers, place)
+    })
 }
 
 impl Wanted {
+    fn of(given: &Extracted) -> Wanted {
+        let named = given.output.as_deref().and_then(Path::extension);
+        Wanted {
+            number: given.record.number,
+            part: given.part,
+            channel: given.channel,
+            npy: given.npy || named == Some(OsStr::new("npy")),
+        }
+    }
+
+    /// Where it goes. A terminal is spared what is no text, unless it is named.
+    fn place(&self, given: &Extracted) -> Result<Place, Fault> {
+        match &given.output {
+            Some(path) => Place::of(path, given.force),
+            None if stdout().is_terminal() && (self.npy || !self.part.is_text()) => Err(Fault(
+                "these bytes are no text for a terminal; -o X writes a file, -o - shows them all the same".into(),
+            )),
+            None => Ok(Place::Standard),
+        }
+    }
+
     fn has_a_meaning(&self) -> Result<(), Fault> {
         match self.part {
             PartName::Channel => Ok(()),

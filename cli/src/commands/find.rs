@@ -3,41 +3,29 @@
 use super::list::walked;
 use super::Asked;
 use crate::answer::{Answers, Status};
-use crate::args::Span;
-use crate::counters::Counters;
+use crate::args::Wanted;
 use crate::fault::Fault;
-use crate::names::{flag_words, Flag};
+use crate::names::flag_words;
 use crate::progress::Bytes;
 use crate::records::{by_counter, record_members, write_numbers, write_place, HEADING};
 use cotterleaf::{flag_test, AcquisitionHeader, RecordAt, COUNTER_NAMES};
 use std::io::{Result as Written, Write};
 
-/// What a readout must have.
-pub struct Wanted<'a> {
-    pub counters: &'a Counters,
-    pub scan_counter: Option<u32>,
-    pub flags: &'a [Flag],
-}
-
-impl Wanted<'_> {
+impl Wanted {
     fn is_met_by(&self, header: &AcquisitionHeader) -> bool {
         let counter = self.scan_counter;
         counter.map_or(true, |asked| header.scan_counter() == asked)
             && self.counters.match_with(&header.counters())
             && self
-                .flags
+                .flag
                 .iter()
                 .all(|flag| flag_test(header.flags(), flag.0))
     }
 }
 
 /// A question about a stream: a refused one gets its refusal and nothing else.
-pub fn run(
-    asked: &Asked,
-    answers: &mut Answers,
-    wanted: &Wanted,
-    span: Span,
-) -> Result<Status, Fault> {
+pub fn run(asked: &Asked, answers: &mut Answers, wanted: &Wanted) -> Result<Status, Fault> {
+    let span = wanted.span;
     let verdict = asked.verdict();
     if let Err(refusal) = verdict {
         return asked.refused(answers, refusal);

@@ -2,19 +2,15 @@
 
 use super::Asked;
 use crate::answer::{Answers, Status};
-use crate::args::Span;
+use crate::args::Listed;
 use crate::fault::Fault;
 use crate::names::KindName;
 use crate::progress::Bytes;
 use crate::records::{record_members, write_numbers, write_place, HEADING};
 use cotterleaf::{RecordAt, Refusal};
 
-pub fn run(
-    asked: &Asked,
-    answers: &mut Answers,
-    span: Span,
-    kinds: &[KindName],
-) -> Result<Status, Fault> {
+pub fn run(asked: &Asked, answers: &mut Answers, given: &Listed) -> Result<Status, Fault> {
+    let (span, kinds) = (given.span, &given.kind);
     answers.line(format_args!("{HEADING}"))?;
     let wanted = |record: &RecordAt| {
         record.number >= span.from

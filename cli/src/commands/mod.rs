@@ -12,7 +12,7 @@ mod verify;
 mod written;
 
 use crate::answer::{begun, Answers, Form, Members, Status};
-use crate::args::{Command, CommandLine, Options};
+use crate::args::{self, Command, CommandLine, Options};
 use crate::fault::Fault;
 use crate::input::Input;
 use crate::manual;
@@ -139,62 +139,68 @@ fn printed(text: &[u8]) -> Result<Status, Fault> {
     Ok(Status::Sound)
 }
 
+/// A command that only answers.
+fn read(
+    options: &Options,
+    command: &'static str,
+    input: &args::File,
+    ask: impl FnOnce(&Asked, &mut Answers) -> Result<Status, Fault>,
+) -> Result<Status, Fault> {
+    let mut answers = Answers::new(options.form());
+    answered(options, command, &input.file, &mut answers, ask)
+}
+
+/// A command that writes what the library makes of a whole stream.
+fn write(
+    options: &Options,
+    command: &'static str,
+    given: &args::Written,
+    write: written::Write,
+) -> Result<Status, Fault> {
+    let place = Place::of(&given.output, given.force);
+    beside(options, command, &given.input.file, place, write)
+}
+
 /// Runs the command that was given.
 pub fn run(given: &CommandLine) -> Result<Status, Fault> {
     let options = &given.options;
-    let one = |command, path: &Path, ask: &dyn Fn(&Asked, &mut Answers) -> _| {
-        let mut answers = Answers::new(options.form());
-        answered(options, command, path, &mut answers, ask)
-    };
-    let write = |command, given: &crate::args::Written, write: written::Write| {
-        let place = Place::of(&given.output, given.force);
-        beside(options, command, &given.input.file, place, write)
-    };
     match &given.command {
-        Command::Info(input) => one("info", &input.file, &info::run),
-        Command::Check { files } => check::run(options, files),
-        Command::List { input, span, kind } => one("list", &input.file, &|asked, answers| {
-            list::run(asked, answers, *span, kind)
+        Command::Info(input) => read(options, "info", input, info::run),
+        Command::Check(given) => check::run(options, &given.files),
+        Command::List(given) => read(options, "list", &given.input, |asked, answers| {
+            list::run(asked, answers, given)
         }),
-        Command::Show(of) => one("show", &of.input.file, &|asked, answers| {
-            show::run(asked, answers, of.number)
+        Command::Show(given) => read(options, "show", &given.input, |asked, answers| {
+            show::run(asked, answers, given.number)
         }),
-        Command::Find {
-            input,
-            counters,
-            scan_counter,
-            flag,
-            span,
-        } => {
-            let wanted = find::Wanted {
-                counters,
-                scan_counter: *scan_counter,
-                flags: flag,
-            };
-            one("find", &input.file, &|asked, answers| {
-                find::run(asked, answers, &wanted, *span)
-            })
-        }
-        Command::Gaps(input) => one("gaps", &input.file, &gaps::run),
-        Command::Extract { .. } => extract::run(options, &given.command),
-        Command::At { input, byte } => one("at", &input.file, &|asked, answers| {
-            at::run(asked, answers, *byte)
+        Command::Find(given) => read(options, "find", &given.input, |asked, answers| {
+            find::run(asked, answers, given)
         }),
-        Command::Index(given) => write("index", given, written::index),
-        Command::Verify { input, index } => one("verify", &input.file, &|asked, answers| {
-            verify::run(asked, answers, index)
+        Command::Gaps(input) => read(options, "gaps", input, gaps::run),
+        Command::Extract(given) => extract::run(options, given),
+        Command::At(given) => read(options, "at", &given.input, |asked, answers| {
+            at::run(asked, answers, given.byte)
         }),
-        Command::Normal(given) => write("normal", given, written::normal),
-        Command::Salvage(given) => write("salvage", given, written::salvage),
-        Command::Completions { shell } => {
-            let mut made = Vec::new();
-            clap_complete::generate(*shell, &mut CommandLine::command(), "cotterleaf", &mut made);
-            printed(&made)
-        }
-        Command::Manual => {
-            let mut command = CommandLine::command();
-            command.build();
-            printed(manual::page(&command).as_bytes())
-        }
+        Command::Index(given) => write(options, "index", given, written::index),
+        Command::Verify(given) => read(options, "verify", &given.input, |asked, answers| {
+            verify::run(asked, answers, &given.index)
+        }),
+        Command::Normal(given) => write(options, "normal", given, written::normal),
+        Command::Salvage(given) => write(options, "salvage", given, written::salvage),
+        Command::Completions { shell } => printed(&completions(*shell)),
+        Command::Manual => printed(manual::page(&described()).as_bytes()),
     }
+}
+
+/// The command line with all that clap adds to it.
+fn described() -> clap::Command {
+    let mut command = CommandLine::command();
+    command.build();
+    command
+}
+
+fn completions(shell: clap_complete::Shell) -> Vec<u8> {
+    let mut made = Vec::new();
+    clap_complete::generate(shell, &mut CommandLine::command(), "cotterleaf", &mut made);
+    made
 }

@@ -1,7 +1,7 @@
 //! `check`: the verdict for each file.
 
 use super::{answered, Asked};
-use crate::answer::{Answers, Status};
+use crate::answer::{Answers, Members, Status};
 use crate::args::Options;
 use crate::fault::Fault;
 use crate::input::STANDARD;
@@ -32,16 +32,19 @@ fn check(asked: &Asked, answers: &mut Answers) -> Result<Status, Fault> {
     let verdict = asked.verdict();
     let other = other_layout(asked, &verdict);
     asked.input.unchanged()?;
-    answers.object(|| {
-        let mut object = asked.begun(&verdict);
-        if verdict.is_err() {
-            object.insert("other_layout_accepted".into(), other.is_some().into());
-        }
-        object
-    })?;
+    answers.object(|| judged(asked, &verdict, other))?;
     asked.say_verdict(answers, &verdict)?;
     say_other_layout(asked, answers, other)?;
     Ok(Status::sound_if(verdict.is_ok()))
+}
+
+/// The verdict, and of a refused stream whether the other layout accepts it.
+pub fn judged(asked: &Asked, verdict: &Result<usize, Refusal>, other: Option<Layout>) -> Members {
+    let mut object = asked.begun(verdict);
+    if verdict.is_err() {
+        object.insert("other_layout_accepted".into(), other.is_some().into());
+    }
+    object
 }
 
 /// The layout with which a refused stream is accepted, if the other one does.

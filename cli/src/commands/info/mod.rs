@@ -4,7 +4,7 @@ mod collected;
 mod object;
 mod words;
 
-use super::check::{other_layout, say_other_layout};
+use super::check::{judged, other_layout, say_other_layout};
 use super::list::walked;
 use super::Asked;
 use crate::answer::{Answers, Status};
@@ -21,10 +21,7 @@ pub fn run(asked: &Asked, answers: &mut Answers) -> Result<Status, Fault> {
     let other = other_layout(asked, &verdict);
     asked.input.unchanged()?;
     answers.object(|| {
-        let mut object = asked.begun(&verdict);
-        if verdict.is_err() {
-            object.insert("other_layout_accepted".into(), other.is_some().into());
-        }
+        let mut object = judged(asked, &verdict, other);
         object.extend(object::rules_members(asked.rules));
         object.extend(object::collected_members(&collected));
         object

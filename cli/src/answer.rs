@@ -1,6 +1,8 @@
 //! How answers are given: in words, as JSON, or not at all.
 
 use crate::fault::Fault;
+use crate::system::LastLines;
+use crate::values::write_text;
 use cotterleaf::Refusal;
 use serde_json::{json, Map, Value};
 use std::fmt::Arguments;
@@ -38,8 +40,15 @@ pub enum Form {
 /// Where answers go, in their form.
 pub struct Answers {
     form: Form,
-    name: &'static str,
+    to: To,
     out: BufWriter<Box<dyn Write>>,
+}
+
+/// Standard output or standard error.
+#[derive(Clone, Copy)]
+enum To {
+    Output = 1,
+    Error = 2,
 }
 
 /// The members of a JSON object.
@@ -56,29 +65,28 @@ pub fn members(object: Value) -> Members {
 impl Answers {
     /// To standard output.
     pub fn new(form: Form) -> Answers {
-        Answers::to(form, "standard output", Box::new(io::stdout()))
+        Answers::to(form, To::Output, Box::new(io::stdout()))
     }
 
     /// To standard error, as standard output has the output itself.
     pub fn aside(form: Form) -> Answers {
-        Answers::to(form, "standard error", Box::new(io::stderr()))
+        Answers::to(form, To::Error, Box::new(io::stderr()))
     }
 
-    fn to(form: Form, name: &'static str, out: Box<dyn Write>) -> Answers {
+    fn to(form: Form, to: To, out: Box<dyn Write>) -> Answers {
         Answers {
             form,
-            name,
+            to,
             out: BufWriter::with_capacity(1 << 16, out),
         }
     }
 
-    /// A line in words; nothing in another form.
+    /// A line in words; nothing in another form. A file's name may hold anything, as a text may.
     pub fn line(&mut self, words: Arguments<'_>) -> Result<(), Fault> {
-        if self.form != Form::Words {
-            return Ok(());
-        }
-        let written = writeln!(self.out, "{words}");
-        self.said(written)
+        self.words(|out| {
+            write_text(out, words.to_string().as_bytes())?;
+            out.write_all(b"\n")
+        })
     }
 
     /// Words that are written piece by piece; nothing in another form.
@@ -104,6 +112,16 @@ impl Answers {
         self.said(written)
     }
 
+    /// A fault as the lines in which it is said, where it can't be said in the usual way.
+    pub fn last_lines(&self, command: &str, file: &str, fault: &Fault) -> LastLines {
+        let mut lines = vec![(To::Error as i32, fault.line())];
+        if self.form == Form::Json {
+            let object = Value::Object(error_members(command, file, fault));
+            lines.push((self.to as i32, format!("{object}\n").into_bytes()));
+        }
+        lines
+    }
+
     /// Everything that was answered is out.
     pub fn end(&mut self) -> Result<(), Fault> {
         let flushed = self.out.flush();
@@ -111,8 +129,17 @@ impl Answers {
     }
 
     fn said(&self, written: io::Result<()>) -> Result<(), Fault> {
-        written.map_err(|error| Fault::writing(self.name, &error))
+        let name = match self.to {
+            To::Output => "standard output",
+            To::Error => "standard error",
+        };
+        written.map_err(|error| Fault::writing(name, &error))
     }
+}
+
+/// A fault as an object.
+pub fn error_members(command: &str, file: &str, fault: &Fault) -> Members {
+    members(json!({ "command": command, "file": file, "error": fault.0 }))
 }
 
 /// A refusal as an object.

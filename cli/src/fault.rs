@@ -1,7 +1,7 @@
 //! What ends a run with status 2: a sentence that says what could not be done, where, and what to do.
 
-use std::fmt;
-use std::io::{Error, ErrorKind};
+use crate::values::write_text;
+use std::io::{stderr, Error, ErrorKind, Write};
 
 /// Something could not be read or written, or was asked for in a way that has no meaning.
 #[derive(Debug)]
@@ -33,14 +33,22 @@ impl Fault {
         })
     }
 
+    /// The line that says it, with nothing in it that a terminal would obey.
+    pub fn line(&self) -> Vec<u8> {
+        let mut line = Vec::new();
+        let sentence = format!("cotterleaf: {}", self.0);
+        write_text(&mut line, sentence.as_bytes()).expect("a line in memory");
+        line.push(b'\n');
+        line
+    }
+
+    /// Says it on standard error. Where that is closed too, only the status is left.
+    pub fn say(&self) {
+        let _ = stderr().write_all(&self.line());
+    }
+
     /// A folder was named where a file is due.
     pub fn folder(name: &str) -> Fault {
         Fault(format!("{name} is a folder; name a file"))
-    }
-}
-
-impl fmt::Display for Fault {
-    fn fmt(&self, f: &mut fmt::Formatter<'_>) -> fmt::Result {
-        f.write_str(&self.0)
     }
 }

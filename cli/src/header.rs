@@ -27,6 +27,16 @@ impl Element {
     }
 }
 
+/// The name of an element of a record's header: `position[1]`, `counters.user_3`.
+pub fn element_word(rules: Rules, kind: &Kind, at: usize) -> String {
+    match counter_at(kind, at) {
+        Some(counter) => format!("counters.{counter}"),
+        None => element_name(kind.id(), rules.layout, at)
+            .unwrap_or("?")
+            .into(),
+    }
+}
+
 /// Which counter of an acquisition starts at an offset.
 fn counter_at(kind: &Kind, at: usize) -> Option<&'static str> {
     let Kind::Acquisition { .. } = kind else {

@@ -6,54 +6,70 @@ use crate::system;
 use memmap2::MmapMut;
 use std::fs::{self, File, OpenOptions};
 use std::io::{self, ErrorKind, Seek, Write};
+use std::os::fd::AsFd;
+use std::os::unix::fs::{FileTypeExt, MetadataExt};
 use std::path::{Path, PathBuf};
 
 /// Where an output goes.
-pub enum Place {
-    /// To standard output.
+pub struct Place {
+    /// How it is called in answers: as it was given.
+    pub name: String,
+    to: To,
+}
+
+enum To {
+    /// Standard output.
     Standard,
-    /// Into what stands there and is no file: a device or a pipe.
+    /// What stands there and is no file: a device or a pipe.
     Through(PathBuf),
-    /// To a file of this name, in the place of an old one only where that is said.
+    /// A file of this name, in the place of an old one only where that is said.
     File { path: PathBuf, force: bool },
 }
 
 impl Place {
-    /// Looks at a path before any work is done for it.
-    pub fn of(path: &Path, force: bool) -> Result<Place, Fault> {
-        if path.as_os_str() == STANDARD {
-            return Ok(Place::Standard);
-        }
-        let name = path.to_string_lossy();
-        let fault = |error| Err(Fault::writing(&name, &error));
-        match fs::metadata(path) {
-            Ok(there) if there.is_dir() => Err(Fault::folder(&name)),
-            Ok(there) if !there.is_file() => Ok(Place::Through(path.into())),
-            Ok(_) if !force => fault(ErrorKind::AlreadyExists.into()),
-            // A symbolic link stays: the file that it leads to is replaced.
-            Ok(_) => match path.canonicalize() {
-                Ok(path) => Ok(Place::File { path, force }),
-                Err(error) => fault(error),
-            },
-            Err(error) if error.kind() == ErrorKind::NotFound => Ok(Place::File {
-                path: path.into(),
-                force,
-            }),
-            Err(error) => fault(error),
+    /// Standard output.
+    pub fn standard() -> Place {
+        Place {
+            name: STANDARD.into(),
+            to: To::Standard,
         }
     }
 
-    /// How it is called in answers.
-    pub fn name(&self) -> String {
-        match self {
-            Place::Standard => "standard output".into(),
-            Place::Through(path) | Place::File { path, .. } => path.to_string_lossy().into_owned(),
+    /// Looks at a path before any work is done for it.
+    pub fn of(path: &Path, force: bool) -> Result<Place, Fault> {
+        if path.as_os_str() == STANDARD {
+            return Ok(Place::standard());
+        }
+        let name = path.to_string_lossy().into_owned();
+        let to = match fs::metadata(path) {
+            Ok(there) if there.is_dir() => return Err(Fault::folder(&name)),
+            Ok(there) if is_standard(&there) => Ok(To::Standard),
+            Ok(there) if !there.is_file() => Ok(To::Through(path.into())),
+            Ok(_) if !force => Err(ErrorKind::AlreadyExists.into()),
+            // A symbolic link stays: the file that it leads to is replaced.
+            Ok(_) => path.canonicalize().map(|path| To::File { path, force }),
+            Err(error) if error.kind() == ErrorKind::NotFound => Ok(To::File {
+                path: path.into(),
+                force,
+            }),
+            Err(error) => Err(error),
+        };
+        match to {
+            Ok(to) => Ok(Place { name, to }),
+            Err(error) => Err(Fault::writing(&name, &error)),
         }
     }
 
     /// Whether answers must stay away from standard output.
     pub fn is_standard(&self) -> bool {
-        matches!(self, Place::Standard)
+        matches!(self.to, To::Standard)
+    }
+
+    fn fault(&self, error: &io::Error) -> Fault {
+        match self.to {
+            To::Standard => Fault::writing("standard output", error),
+            _ => Fault::writing(&self.name, error),
+        }
     }
 
     /// Writes pieces, one after the other, as the whole output. Before a file gets its name, `still` says whether the
@@ -63,7 +79,7 @@ impl Place {
         pieces: &[&[u8]],
         still: impl FnOnce() -> Result<(), Fault>,
     ) -> Result<(), Fault> {
-        if let Place::File { .. } = self {
+        if let To::File { .. } = self.to {
             let length = pieces.iter().map(|piece| piece.len()).sum();
             let mut output = Output::new(self, length)?;
             let mut rest = output.bytes();
@@ -75,35 +91,42 @@ impl Place {
             still()?;
             return output.put_in_place();
         }
-        let mut sent = self.opened()?;
-        let written = pieces.iter().try_for_each(|piece| sent.write_all(piece));
-        let written = written.and_then(|()| sent.flush());
-        written.map_err(|error| Fault::writing(&self.name(), &error))?;
+        let sent = self.opened().and_then(|mut to| {
+            pieces.iter().try_for_each(|piece| to.write_all(piece))?;
+            to.flush()
+        });
+        sent.map_err(|error| self.fault(&error))?;
         still()
     }
 
     /// Standard output, or the device.
-    fn opened(&self) -> Result<Box<dyn Write>, Fault> {
-        match self {
-            Place::Through(path) => match OpenOptions::new().write(true).open(path) {
-                Ok(file) => Ok(Box::new(file)),
-                Err(error) => Err(Fault::writing(&self.name(), &error)),
-            },
-            _ => Ok(Box::new(io::stdout())),
-        }
+    fn opened(&self) -> io::Result<Box<dyn Write>> {
+        Ok(match &self.to {
+            To::Through(path) => Box::new(OpenOptions::new().write(true).open(path)?),
+            _ => Box::new(io::stdout()),
+        })
     }
 
     /// The folder that the bytes are kept in until they are whole: the file's own, so that it need not be copied to
     /// get its name.
     fn folder(&self) -> PathBuf {
-        match self {
-            Place::File { path, .. } => match path.parent() {
+        match &self.to {
+            To::File { path, .. } => match path.parent() {
                 Some(folder) if !folder.as_os_str().is_empty() => folder.into(),
                 _ => ".".into(),
             },
             _ => std::env::temp_dir(),
         }
     }
+}
+
+/// Whether what a path leads to is standard output by another name, as `/dev/stdout`. A device may be both without
+/// harm.
+fn is_standard(there: &fs::Metadata) -> bool {
+    let standard = io::stdout().as_fd().try_clone_to_owned();
+    let standard = standard.and_then(|standard| File::from(standard).metadata());
+    !there.file_type().is_char_device()
+        && standard.is_ok_and(|it| (it.dev(), it.ino()) == (there.dev(), there.ino()))
 }
 
 /// An output of a known length, whose bytes are written through a map. Without
@@ -119,7 +142,7 @@ impl Output {
     /// Sets the room aside.
     pub fn new(place: Place, length: usize) -> Result<Output, Fault> {
         let made = Output::made(&place, length);
-        let (file, passing, map) = made.map_err(|error| Fault::writing(&place.name(), &error))?;
+        let (file, passing, map) = made.map_err(|error| place.fault(&error))?;
         Ok(Output {
             place,
             file,
@@ -150,17 +173,18 @@ impl Output {
     /// The output is whole: it gets its name, or is sent on.
     pub fn put_in_place(mut self) -> Result<(), Fault> {
         self.map = None;
-        let done = match &self.place {
-            Place::File { path, force } => self.named(path, *force),
-            _ => {
-                let mut sent = self.place.opened()?;
-                self.file
-                    .rewind()
-                    .and_then(|()| io::copy(&mut self.file, &mut sent))
-                    .and_then(|_| sent.flush())
-            }
+        let done = match &self.place.to {
+            To::File { path, force } => self.named(path, *force),
+            _ => self.sent(),
         };
-        done.map_err(|error| Fault::writing(&self.place.name(), &error))
+        done.map_err(|error| self.place.fault(&error))
+    }
+
+    fn sent(&mut self) -> io::Result<()> {
+        let mut to = self.place.opened()?;
+        self.file.rewind()?;
+        io::copy(&mut self.file, &mut to)?;
+        to.flush()
     }
 
     /// Everything is on the disk before the name is, so that a power cut leaves the old state or the new one.
@@ -184,7 +208,7 @@ impl Output {
 
 /// A file to be filled: without a name where that can be had, else with a passing one.
 fn fresh_file(place: &Place) -> io::Result<(File, Option<Passing>)> {
-    let Place::File { path, .. } = place else {
+    let To::File { path, .. } = &place.to else {
         return Ok((system::temporary_file(&place.folder())?, None));
     };
     match system::unnamed_file(&place.folder()) {
@@ -274,10 +298,12 @@ mod tests {
         system::set_aside(&file, 3).expect("room");
         // SAFETY: nothing else knows the file.
         let map = Some(unsafe { MmapMut::map_mut(&file).expect("a map") });
-        let place = Place::File {
+        let to = To::File {
             path: path.into(),
             force,
         };
+        let name = path.to_string_lossy().into_owned();
+        let place = Place { name, to };
         Output {
             place,
             file,
@@ -310,7 +336,7 @@ mod tests {
         fs::write(&path, "old").expect("a file");
         let output = with_passing_name(&path, false);
         let fault = output.put_in_place().expect_err("a file in the way");
-        assert!(fault.0.contains("--force"), "{fault}");
+        assert!(fault.0.contains("--force"), "{fault:?}");
         assert_eq!(fs::read(&path).expect("the old file"), b"old");
         assert_eq!(names_in(&folder), ["x"]);
         fs::remove_dir_all(folder).expect("the scratch folder");

@@ -4,6 +4,7 @@ use crate::answer::{members, Members};
 use crate::names::KindName;
 use cotterleaf::{data_type_name, Kind, Mask, Record, RecordAt, COUNTER_NAMES};
 use serde_json::{json, Value};
+use std::fmt;
 use std::io::{Result, Write};
 
 /// Number, kind, id and place.
@@ -115,7 +116,7 @@ pub fn write_numbers(out: &mut dyn Write, record: &RecordAt) -> Result<()> {
             attribute_length,
         } => {
             let pixel = data_type_name(data_type).unwrap_or("?");
-            let channels = counted(channels.into(), "channel");
+            let channels = counted(channels, "channel");
             write!(out, "  {x} x {y} x {z}, {channels}, {pixel}")?;
             match attribute_length {
                 0 => Ok(()),
@@ -127,8 +128,8 @@ pub fn write_numbers(out: &mut dyn Write, record: &RecordAt) -> Result<()> {
             channels,
         } => {
             let header = record.waveform().expect("a waveform has its header");
-            let channels = counted(channels.into(), "channel");
-            let samples = counted(number_of_samples.into(), "sample");
+            let channels = counted(channels, "channel");
+            let samples = counted(number_of_samples, "sample");
             let (id, scan) = (header.waveform_id(), header.scan_counter());
             write!(out, "  waveform {id}, scan {scan}, {channels}, {samples}")
         }
@@ -139,8 +140,8 @@ fn write_readout(out: &mut dyn Write, record: &RecordAt, mask: Mask) -> Result<(
     let header = record.acquisition();
     let header = header.expect("an acquisition has its header");
     let scan = header.scan_counter();
-    let channels = counted(header.active_channels().into(), "channel");
-    let samples = counted(header.number_of_samples().into(), "sample");
+    let channels = counted(header.active_channels(), "channel");
+    let samples = counted(header.number_of_samples(), "sample");
     write!(out, "  scan {scan}, {channels}, {samples}")?;
     match header.trajectory_dimensions() {
         0 => {}
@@ -153,9 +154,16 @@ fn write_readout(out: &mut dyn Write, record: &RecordAt, mask: Mask) -> Result<(
 }
 
 /// `1 channel`, `2 channels`.
-pub fn counted(count: u64, what: &str) -> String {
-    match count {
-        1 => format!("1 {what}"),
-        _ => format!("{count} {what}s"),
+pub struct Counted(u64, &'static str);
+
+pub fn counted(count: impl Into<u64>, what: &'static str) -> Counted {
+    Counted(count.into(), what)
+}
+
+impl fmt::Display for Counted {
+    fn fmt(&self, f: &mut fmt::Formatter<'_>) -> fmt::Result {
+        let Counted(count, what) = self;
+        let many = if *count == 1 { "" } else { "s" };
+        write!(f, "{count} {what}{many}")
     }
 }

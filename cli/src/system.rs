@@ -1,5 +1,5 @@
 //! The few calls of the system that Rust's library has not: files without a name that get one when they are whole, room
-//! that is set aside before it is written, and what is done on a signal.
+//! that is set aside before it is written, what is read ahead, and what is done on a signal.
 
 use std::ffi::{CStr, CString};
 use std::fs::{File, OpenOptions};
@@ -94,11 +94,60 @@ pub fn set_aside(file: &File, length: u64) -> Result<()> {
     }
 }
 
+/// How often this process has waited for the disk because a page that it read was not in memory.
+pub fn waits_for_disk() -> i64 {
+    // SAFETY: a struct of plain numbers, for which zeros are a value, and which the call fills.
+    unsafe {
+        let mut usage: libc::rusage = std::mem::zeroed();
+        libc::getrusage(libc::RUSAGE_SELF, &mut usage);
+        usage.ru_majflt
+    }
+}
+
+/// Has the system bring in more of a mapped file around each page that is read, as it does by itself, or that page
+/// alone. Only a hint: what it answers does not matter.
+pub fn read_around(map: &[u8], around: bool) {
+    let advice = match around {
+        true => libc::MADV_NORMAL,
+        false => libc::MADV_RANDOM,
+    };
+    // SAFETY: the range is that of a map, and the advice changes no byte of it.
+    unsafe { libc::madvise(map.as_ptr().cast_mut().cast(), map.len(), advice) };
+}
+
+/// What one message's header may lie in.
+const PAGES: usize = 2 * PAGE;
+const PAGE: usize = 4096;
+
+/// Has the system fetch what lies at a place of a mapped file, without waiting for it. Only a hint.
+pub fn fetch(map: &[u8], there: usize) {
+    let first = there / PAGE * PAGE;
+    if first >= map.len() {
+        return;
+    }
+    let length = PAGES.min(map.len() - first);
+    // SAFETY: the range lies in a map, which begins at a page, and the advice changes no byte of it.
+    unsafe {
+        let at = map.as_ptr().add(first).cast_mut().cast();
+        libc::madvise(at, length, libc::MADV_WILLNEED);
+    }
+}
+
 /// The path of an output that has a passing name, for the handlers below; null where there is none.
 static PASSING: AtomicPtr<libc::c_char> = AtomicPtr::new(null_mut());
 
-const GONE: &[u8] = b"cotterleaf: a file became shorter while it was read, or its disk failed; \
-    nothing was put in place; run again when nothing writes to it\n";
+/// Lines that are made before, as a handler can make nothing: each with the descriptor that it goes to.
+pub type LastLines = Vec<(libc::c_int, Vec<u8>)>;
+
+/// What is said where a file that is mapped has no bytes any more.
+static LAST: AtomicPtr<LastLines> = AtomicPtr::new(null_mut());
+
+/// Has a file that gets shorter while it is mapped end the run with these lines and status 2.
+pub fn say_if_shorter(lines: LastLines) {
+    // Lines from before are not freed: the handler may be about to write them.
+    LAST.store(Box::leak(Box::new(lines)), Ordering::SeqCst);
+    handle(libc::SIGBUS, on_bus_error);
+}
 
 fn remove_passing() {
     let path = PASSING.swap(null_mut(), Ordering::SeqCst);
@@ -111,9 +160,13 @@ fn remove_passing() {
 /// A map was read where its file has no bytes any more.
 extern "C" fn on_bus_error(_: libc::c_int) {
     remove_passing();
-    // SAFETY: both calls may be made in a handler, and the bytes live as long as the program.
+    // SAFETY: both calls may be made in a handler, and lines that were stored live as long as the program.
     unsafe {
-        libc::write(2, GONE.as_ptr().cast(), GONE.len());
+        if let Some(lines) = LAST.load(Ordering::SeqCst).as_ref() {
+            for (to, line) in lines {
+                libc::write(*to, line.as_ptr().cast(), line.len());
+            }
+        }
         libc::_exit(2);
     }
 }
@@ -135,11 +188,6 @@ fn handle(signal: libc::c_int, handler: extern "C" fn(libc::c_int)) {
             libc::signal(signal, libc::SIG_IGN);
         }
     }
-}
-
-/// Has a file that gets shorter while it is mapped end the run with a sentence and status 2.
-pub fn say_bus_errors() {
-    handle(libc::SIGBUS, on_bus_error);
 }
 
 /// Has a file with a passing name removed when the process is told to end, until [`passed`].

@@ -3,6 +3,7 @@
 use super::Asked;
 use crate::answer::{Answers, Members, Status};
 use crate::fault::Fault;
+use crate::header::element_word;
 use crate::names::KindName;
 use crate::pieces::Piece;
 use crate::records::place_members;
@@ -12,7 +13,7 @@ use serde_json::json;
 
 /// A header element that a byte belongs to.
 struct Element {
-    name: &'static str,
+    name: String,
     offset: usize,
     size: usize,
     value: Field,
@@ -36,7 +37,7 @@ fn element(asked: &Asked, found: &PartAt) -> Result<Option<Element>, Refusal> {
         return Ok(None);
     };
     Ok(Some(Element {
-        name: found.element_name().unwrap_or("?"),
+        name: element_word(asked.rules, &found.record.kind, offset),
         offset,
         size,
         value: asked.stream().field(found.record.number, offset)?,

@@ -21,7 +21,7 @@ pub fn run(options: &Options, files: &[PathBuf]) -> Result<Status, Fault> {
     for file in files {
         let status = answered(options, "check", file, &mut answers, check);
         worst = worst.max(status.unwrap_or_else(|fault| {
-            eprintln!("cotterleaf: {fault}");
+            fault.say();
             Status::Failed
         }));
     }

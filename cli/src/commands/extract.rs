@@ -49,7 +49,7 @@ impl Wanted {
             None if stdout().is_terminal() && (self.npy || !self.part.is_text()) => Err(Fault(
                 "these bytes are no text for a terminal; -o X writes a file, -o - shows them all the same".into(),
             )),
-            None => Ok(Place::Standard),
+            None => Ok(Place::standard()),
         }
     }
 
@@ -101,7 +101,7 @@ impl Wanted {
             Ok(found) => found,
             Err(refusal) => return asked.refused(answers, refusal),
         };
-        let (name, silent) = (place.name(), place.is_standard());
+        let (name, silent) = (place.name.clone(), place.is_standard());
         let bytes = &asked.input.bytes()[piece.at.clone()];
         place.write(&[&header, bytes], || asked.input.unchanged())?;
         let length = header.len() + bytes.len();

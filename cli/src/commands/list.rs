@@ -1,6 +1,7 @@
 //! `list`: a line for each record.
 
 use super::Asked;
+use crate::ahead::Ahead;
 use crate::answer::{Answers, Status};
 use crate::args::Listed;
 use crate::fault::Fault;
@@ -54,6 +55,7 @@ pub fn walked(
     mut look: impl FnMut(&RecordAt) -> Result<bool, Fault>,
 ) -> Result<Result<usize, Refusal>, Fault> {
     let stream = asked.stream();
+    let mut ahead = Ahead::of(asked.input);
     let mut records = 0;
     for record in stream.records() {
         let record = match record {
@@ -62,6 +64,7 @@ pub fn walked(
         };
         records += 1;
         shown.more(record.size as u64);
+        ahead.pass(&record);
         if !look(&record)? {
             return Ok(stream.check_from(record.cursor()));
         }

@@ -11,16 +11,16 @@ mod show;
 mod verify;
 mod written;
 
-use crate::answer::{begun, Answers, Form, Members, Status};
+use crate::answer::{begun, error_members, Answers, Form, Members, Status};
 use crate::args::{self, Command, CommandLine, Options};
 use crate::fault::Fault;
 use crate::input::Input;
 use crate::manual;
 use crate::output::Place;
 use crate::progress;
+use crate::system;
 use clap::CommandFactory;
 use cotterleaf::{Refusal, Rules, Stream};
-use serde_json::json;
 use std::path::Path;
 
 /// One question about one input.
@@ -95,24 +95,36 @@ fn answered(
     answers: &mut Answers,
     ask: impl FnOnce(&Asked, &mut Answers) -> Result<Status, Fault>,
 ) -> Result<Status, Fault> {
+    let file = path.to_string_lossy();
     let done = Input::open(path).and_then(|input| {
+        say_if_shorter(answers, command, &file, &file);
         let asked = Asked {
             command,
             rules: options.rules(),
             input: &input,
         };
-        let status = ask(&asked, answers)?;
-        answers.end()?;
-        Ok(status)
+        let done = ask(&asked, answers).and_then(|status| answers.end().map(|()| status));
+        done.or_else(|fault| {
+            // What could not be done with a file that changed may well be due to that.
+            input.unchanged()?;
+            Err(fault)
+        })
     });
     if let Err(fault) = &done {
-        let file = path.to_string_lossy();
-        let object = json!({ "command": command, "file": file, "error": fault.0 });
         // Where answers themselves can't be written, the sentence on standard error remains.
-        let _ = answers.object(|| crate::answer::members(object));
+        let _ = answers.object(|| error_members(command, &file, fault));
         let _ = answers.end();
     }
     done
+}
+
+/// Has it said where a file, or one of two, gets shorter while it is read.
+fn say_if_shorter(answers: &Answers, command: &str, file: &str, read: &str) {
+    let fault = Fault(format!(
+        "{read} changed while it was read, or its disk failed: it became shorter; nothing was put in place; run again \
+         when nothing writes to it"
+    ));
+    system::say_if_shorter(answers.last_lines(command, file, &fault));
 }
 
 /// The place of an output, and where answers go beside it.
@@ -135,7 +147,7 @@ fn beside(
 
 /// Something that is about no recording.
 fn printed(text: &[u8]) -> Result<Status, Fault> {
-    Place::Standard.write(&[text], || Ok(()))?;
+    Place::standard().write(&[text], || Ok(()))?;
     Ok(Status::Sound)
 }
 

@@ -1,6 +1,6 @@
 //! `verify`: whether a kept index is the one that the stream yields.
 
-use super::Asked;
+use super::{say_if_shorter, Asked};
 use crate::answer::{Answers, Status};
 use crate::fault::Fault;
 use crate::input::{Input, STANDARD};
@@ -15,6 +15,11 @@ pub fn run(asked: &Asked, answers: &mut Answers, path: &Path) -> Result<Status, 
         ));
     }
     let index = Input::open(path)?;
+    let (file, both) = (
+        &asked.input.name,
+        format!("{} or {}", asked.input.name, index.name),
+    );
+    say_if_shorter(answers, asked.command, file, &both);
     let matched = asked.stream().matches(Index::File(index.bytes()));
     let verdict = match matched {
         Ok(()) => asked.verdict(),

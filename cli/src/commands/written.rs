@@ -54,7 +54,7 @@ fn written(
         Ok(records) => records,
         Err(refusal) => return asked.refused(answers, refusal),
     };
-    let name = place.name();
+    let name = place.name.clone();
     let mut output = Output::new(place, length(records))?;
     let length = during("writing", || write(asked.stream(), output.bytes()));
     let length = match length {
@@ -83,7 +83,7 @@ pub fn salvage(asked: &Asked, answers: &mut Answers, place: Place) -> Result<Sta
     let stream = asked.stream();
     let verdict = asked.verdict();
     let report = during("looking", || stream.salvage_report());
-    let name = place.name();
+    let name = place.name.clone();
     let mut output = Output::new(place, report.length)?;
     let salvage = during("writing", || stream.salvage(output.bytes()));
     asked.input.unchanged()?;

@@ -12,7 +12,7 @@ const SHOWN: usize = 8;
 
 pub fn write(out: &mut dyn Write, collected: &Collected) -> Result<()> {
     for (kind, of) in &collected.kinds {
-        let records = counted(of.records, "record");
+        let records = counted(of.records, "record").to_string();
         writeln!(
             out,
             "  {:<20} {records:>16} {:>16} bytes",
@@ -111,7 +111,7 @@ fn write_images(out: &mut dyn Write, images: &Images) -> Result<()> {
     for (shape, count) in images.shapes.iter().take(SHOWN) {
         let [x, y, z] = shape.matrix_size;
         let pixel = data_type_name(shape.data_type).unwrap_or("?");
-        let channels = counted(shape.channels.into(), "channel");
+        let channels = counted(shape.channels, "channel");
         writeln!(out, "  {x} x {y} x {z}, {channels}, {pixel}: {count}")?;
     }
     let more = images.shapes.len().saturating_sub(SHOWN);

@@ -26,6 +26,8 @@
 #include <ismrmrd/version.h>
 #include <ismrmrd/waveform.h>
 
+#include "put_messages.hpp"
+
 using namespace ISMRMRD;
 
 // ---- The members of each header, in the library's order ----
@@ -217,34 +219,6 @@ void tell_text(std::ostream &out, const std::string &text)
 
 // ---- The stream ----
 
-// Little-endian, whatever the machine.
-template <typename T> void put(std::ostream &stream, T number)
-{
-    for (size_t i = 0; i < sizeof number; i++)
-        stream.put(static_cast<char>(static_cast<uint64_t>(number) >> (8 * i) & 0xff));
-}
-
-template <> void put(std::ostream &stream, float number)
-{
-    uint32_t bits;
-    std::memcpy(&bits, &number, sizeof bits);
-    put(stream, bits);
-}
-
-void put_bytes(std::ostream &stream, const void *bytes, size_t length)
-{
-    stream.write(static_cast<const char *>(bytes), static_cast<std::streamsize>(length));
-}
-
-void put_acquisition(std::ostream &stream, const Acquisition &acq)
-{
-    const ISMRMRD_AcquisitionHeader &head = acq.getHead();
-    put(stream, uint16_t(1008));
-    put_bytes(stream, &head, sizeof head);
-    put_bytes(stream, acq.getTrajPtr(), acq.getTrajSize());
-    put_bytes(stream, acq.getDataPtr(), acq.getDataSize());
-}
-
 template <typename T> void put_image(std::ostream &stream, const Image<T> &image)
 {
     const ISMRMRD_ImageHeader &head = image.getHead();
@@ -276,13 +250,6 @@ void put_aligned_waveform(std::ostream &stream, const Waveform &waveform)
     put(stream, uint16_t(1026));
     put_bytes(stream, &waveform.head, sizeof waveform.head);
     put_waveform_data(stream, waveform);
-}
-
-void put_text(std::ostream &stream, uint16_t id, const std::string &text)
-{
-    put(stream, id);
-    put(stream, uint32_t(text.size()));
-    put_bytes(stream, text.data(), text.size());
 }
 
 // ---- What the tools leave out, made by the library's own calls ----
@@ -451,7 +418,7 @@ public:
         for (uint32_t i = 0; i < dataset_.getNumberOfWaveforms(); i++)
             waveform(i);
         begin_record(4);
-        to_both([](std::ostream &stream) { put(stream, uint16_t(4)); });
+        to_both(put_close);
         out_ << "records " << records_ << '\n';
     }
 

@@ -27,7 +27,7 @@ static const uint8_t *mapped(const char *path, size_t *length)
     if (file < 0 || fstat(file, &about) != 0 || about.st_size == 0)
         return NULL;
     *length = (size_t)about.st_size;
-    void *bytes = mmap(NULL, *length, PROT_READ, MAP_PRIVATE, file, 0);
+    void *bytes = mmap(NULL, *length, PROT_READ, MAP_SHARED, file, 0);
     return bytes == MAP_FAILED ? NULL : bytes;
 }
 

@@ -153,7 +153,7 @@ impl Output {
 
     fn made(place: &Place, length: usize) -> io::Result<(File, Option<Passing>, Option<MmapMut>)> {
         let (file, passing) = fresh_file(place)?;
-        if system::free_bytes(&file)? < length as u64 {
+        if system::free_bytes(&file).is_some_and(|free| free < length as u64) {
             return Err(io::Error::from_raw_os_error(libc::ENOSPC));
         }
         system::set_aside(&file, length as u64)?;

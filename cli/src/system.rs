@@ -69,14 +69,14 @@ pub fn name(file: &File, path: &Path) -> Result<()> {
     }
 }
 
-/// How many bytes the file system of an open file has left for this user.
-pub fn free_bytes(file: &File) -> Result<u64> {
+/// How many bytes the file system of an open file has left for this user; none where it does not say.
+pub fn free_bytes(file: &File) -> Option<u64> {
     // SAFETY: a struct of plain numbers, for which zeros are a value.
     let mut room: libc::statvfs = unsafe { std::mem::zeroed() };
     // SAFETY: the file is open, and the struct is the call's to fill.
     match unsafe { libc::fstatvfs(file.as_raw_fd(), &mut room) } {
-        0 => Ok(room.f_bavail.saturating_mul(room.f_frsize)),
-        _ => Err(Error::last_os_error()),
+        0 if room.f_blocks > 0 => Some(room.f_bavail.saturating_mul(room.f_frsize)),
+        _ => None,
     }
 }
 

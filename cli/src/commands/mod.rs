@@ -87,7 +87,7 @@ impl Options {
     }
 }
 
-/// Answers about one input with one command; a fault is an object too, where objects are asked for.
+/// Answers about one input with one command.
 fn answered(
     options: &Options,
     command: &'static str,
@@ -110,12 +110,15 @@ fn answered(
             Err(fault)
         })
     });
-    if let Err(fault) = &done {
-        // Where answers themselves can't be written, the sentence on standard error remains.
-        let _ = answers.object(|| error_members(command, &file, fault));
-        let _ = answers.end();
-    }
-    done
+    done.map_err(|fault| failed(command, &file, answers, fault))
+}
+
+/// Makes a fault an object too, where objects are asked for.
+fn failed(command: &str, file: &str, answers: &mut Answers, fault: Fault) -> Fault {
+    // Where answers themselves can't be written, the sentence on standard error remains.
+    let _ = answers.object(|| error_members(command, file, &fault));
+    let _ = answers.end();
+    fault
 }
 
 /// Has it said where a file, or one of two, gets shorter while it is read.
@@ -127,7 +130,7 @@ fn say_if_shorter(answers: &Answers, command: &str, file: &str, read: &str) {
     system::say_if_shorter(answers.last_lines(command, file, &fault));
 }
 
-/// The place of an output, and where answers go beside it.
+/// Answers beside an output, whose place is looked at before anything is read.
 fn beside(
     options: &Options,
     command: &'static str,
@@ -135,13 +138,16 @@ fn beside(
     place: Result<Place, Fault>,
     ask: impl FnOnce(&Asked, &mut Answers, Place) -> Result<Status, Fault>,
 ) -> Result<Status, Fault> {
-    let aside = matches!(&place, Ok(place) if place.is_standard());
-    let mut answers = match aside {
-        true => Answers::aside(options.form()),
-        false => Answers::new(options.form()),
+    let mut answers = match &place {
+        Ok(place) if place.is_standard() => Answers::aside(options.form()),
+        _ => Answers::new(options.form()),
     };
+    let place = place.map_err(|fault| {
+        let file = file.to_string_lossy();
+        failed(command, &file, &mut answers, fault)
+    })?;
     answered(options, command, file, &mut answers, |asked, answers| {
-        ask(asked, answers, place?)
+        ask(asked, answers, place)
     })
 }
 

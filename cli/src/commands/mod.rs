@@ -18,6 +18,7 @@ use crate::input::Input;
 use crate::manual;
 use crate::output::Place;
 use crate::progress;
+use crate::records::counted;
 use crate::system;
 use clap::CommandFactory;
 use cotterleaf::{Refusal, Rules, Stream};
@@ -67,10 +68,9 @@ impl<'a> Asked<'a> {
         let name = &self.input.name;
         match verdict {
             Ok(records) => {
+                let records = counted(*records as u64, "record");
                 let bytes = self.input.bytes().len();
-                answers.line(format_args!(
-                    "{name}: accepted, {records} records, {bytes} bytes"
-                ))
+                answers.line(format_args!("{name}: accepted, {records}, {bytes} bytes"))
             }
             Err(refusal) => answers.line(format_args!("{name}: {refusal}")),
         }

@@ -4,6 +4,7 @@ use super::{say_if_shorter, Asked};
 use crate::answer::{Answers, Status};
 use crate::fault::Fault;
 use crate::input::{Input, STANDARD};
+use crate::records::counted;
 use cotterleaf::{refused, Index, Refusal};
 use serde_json::json;
 use std::path::Path;
@@ -74,7 +75,8 @@ fn say(
     let name = &asked.input.name;
     match (verdict, difference) {
         (Ok(records), _) => answers.line(format_args!(
-            "{index}: the index of {name}, {records} records"
+            "{index}: the index of {name}, {}",
+            counted(*records as u64, "record")
         )),
         (Err(refusal), Some(byte)) => answers.line(format_args!(
             "{index}: not the index of {name}: its byte {byte} is the first that differs; {refusal}"

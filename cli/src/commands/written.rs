@@ -5,6 +5,7 @@ use crate::answer::{Answers, Members, Status};
 use crate::fault::Fault;
 use crate::output::{Output, Place};
 use crate::progress::during;
+use crate::records::counted;
 use cotterleaf::{Refusal, Salvage, Stream};
 use serde_json::json;
 
@@ -65,8 +66,9 @@ fn written(
     during("keeping", || output.put_in_place())?;
     answers.object(|| with_output(asked.begun(&verdict), &name, length))?;
     answers.line(format_args!(
-        "{name}: the {what} of {}, {records} records, {length} bytes",
-        asked.input.name
+        "{name}: the {what} of {}, {}, {length} bytes",
+        asked.input.name,
+        counted(records as u64, "record")
     ))?;
     Ok(Status::Sound)
 }
@@ -114,7 +116,9 @@ fn say_salvage(answers: &mut Answers, name: &str, salvage: &Salvage) -> Result<(
         false => "its own close is kept",
     };
     answers.line(format_args!(
-        "{name}: {} messages kept, {close}, {} bytes; {} bytes were not kept",
-        salvage.messages_kept, salvage.length, salvage.bytes_not_kept
+        "{name}: {} kept, {close}, {} bytes; {} not kept",
+        counted(salvage.messages_kept as u64, "message"),
+        salvage.length,
+        counted(salvage.bytes_not_kept as u64, "byte")
     ))
 }

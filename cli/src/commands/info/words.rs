@@ -143,23 +143,26 @@ fn write_waveforms(out: &mut dyn Write, waveforms: &Waveforms) -> Result<()> {
     )
 }
 
+/// Where the single ones are to be had.
+const LISTED: &str = "'cotterleaf gaps' lists them";
+
 fn warning_words(warning: Warning, met: &Met, collected: &Collected) -> String {
     let Met {
         count,
         first_record,
     } = met;
+    let count = *count;
     let from = format!("first at record {first_record}");
     match warning {
         Warning::MaskDiffers => format!(
-            "{count} with a channel mask that names another number of channels, {from}; as after a coil compression"
+            "{} with a channel mask that names another number of channels, {from}; as after a coil compression",
+            counted(count, "readout")
         ),
-        Warning::Gap => format!("{count} gaps in the scan counters, {from}; 'gaps' lists them"),
+        Warning::Gap => format!("{} in the scan counters, {from}; {LISTED}", counted(count, "gap")),
         Warning::Repeat if collected.readouts.scan_counter == Some((0, 0)) => {
             "all scan counters are 0, as of a sender that does not count: what is missing can't be told".into()
         }
-        Warning::Repeat => format!("{count} repeated scan counters, {from}; 'gaps' lists them"),
-        Warning::StepBack => {
-            format!("{count} steps back of the scan counters, {from}; 'gaps' lists them")
-        }
+        Warning::Repeat => format!("{} of scan counters, {from}; {LISTED}", counted(count, "repeat")),
+        Warning::StepBack => format!("scan counters step back {}, {from}; {LISTED}", counted(count, "time")),
     }
 }

@@ -8,7 +8,7 @@ use c_record::part_of;
 // that starts at `offset`, 4 the first acquisition from it on with these counters. Members that the question
 // does not need are not looked at.
 #[repr(C)]
-#[derive(Drop)]
+#[derive(Clone, Copy)]
 pub struct Question {
     pub what: u32,
     pub part: u32,

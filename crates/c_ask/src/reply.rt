@@ -9,7 +9,7 @@ use c_record::{FieldAnswer, Found, ViewPlace};
 // The answer of what was asked stands in the member for it. The other three hold no answer; each of the four
 // carries the reply's refusal, record and byte.
 #[repr(C)]
-#[derive(Drop)]
+#[derive(Clone, Copy)]
 pub struct Reply {
     pub refusal: u32,
     pub record: usize,

@@ -25,7 +25,7 @@ const NAME_REST: u32 = 11;
 // The record that the byte belongs to, the part by its number, and where that lies in the stream; of a header's byte the
 // element, by its offset in the header and its size, both 0 for filler.
 #[repr(C)]
-#[derive(Drop)]
+#[derive(Clone, Copy)]
 pub struct PartAnswer {
     pub refusal: u32,
     pub record: usize,

@@ -12,7 +12,7 @@ use mrd_stream::{Place, PlacedRecord};
 // `length` is that of a name or text, the `channels` of an acquisition are the active ones, `mask` is the number
 // of its mask's answer.
 #[repr(C)]
-#[derive(Drop)]
+#[derive(Clone, Copy)]
 pub struct Placed {
     pub refusal: u32,
     pub record: usize,

@@ -8,7 +8,7 @@ use mrd_element::Value;
 
 // A header element: its type, 1 whole, 2 signed or 3 float, and its value in the member for that type.
 #[repr(C)]
-#[derive(Drop)]
+#[derive(Clone, Copy)]
 pub struct FieldAnswer {
     pub refusal: u32,
     pub record: usize,

@@ -5,7 +5,7 @@ ghost use Rattle.c_record.specs.RecordStructs.{found_as, c_found};
 
 // The number of the record that was looked for.
 #[repr(C)]
-#[derive(Drop)]
+#[derive(Clone, Copy)]
 pub struct Found {
     pub refusal: u32,
     pub record: usize,

@@ -5,7 +5,7 @@ ghost use Rattle.c_record.specs.RecordStructs.{view_as, c_view};
 
 // Where a part of a record lies in the stream.
 #[repr(C)]
-#[derive(Drop)]
+#[derive(Clone, Copy)]
 pub struct ViewPlace {
     pub refusal: u32,
     pub record: usize,

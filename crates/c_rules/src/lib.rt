@@ -1,6 +1,8 @@
 // What a caller says of a whole stream as a C struct: bools alone, so that no number is out of range.
 //
 // Assumes nothing.
+#![tactic(auto)]
+
 ghost use Rattle.std.specs.Prelude.{◌≡◌};
 ghost use Rattle.c_rules.specs.RulesStruct.{layout_of, profile_of, rules_of};
 
@@ -8,7 +10,7 @@ use mrd_format::{Layout, Profile};
 
 // With every member false, the rules of document 01.
 #[repr(C)]
-#[derive(Drop)]
+#[derive(Clone, Copy)]
 pub struct Rules {
     pub aligned_waveforms: bool,
     pub strict_text: bool,

@@ -8,7 +8,7 @@ use mrd_salvage::Report;
 
 // The report on a stream that is saved; all 0 and false beside a refusal.
 #[repr(C)]
-#[derive(Drop)]
+#[derive(Clone, Copy)]
 pub struct Salvaged {
     pub refusal: u32,
     pub messages_kept: usize,

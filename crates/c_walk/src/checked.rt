@@ -5,7 +5,7 @@ ghost use Rattle.c_walk.specs.WalkStructs.{checked_as, c_checked};
 
 // A stream's answer: accepted with `count` records, or refused.
 #[repr(C)]
-#[derive(Drop)]
+#[derive(Clone, Copy)]
 pub struct Checked {
     pub refusal: u32,
     pub record: usize,

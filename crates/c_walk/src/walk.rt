@@ -10,7 +10,7 @@ use mrd_cursor::Phase;
 
 // Where a walk stands; the phase by its number.
 #[repr(C)]
-#[derive(Drop)]
+#[derive(Clone, Copy)]
 pub struct Cursor {
     pub number: usize,
     pub start: usize,
@@ -19,7 +19,7 @@ pub struct Cursor {
 
 // A cursor for a record: with refusal 0 the cursor.
 #[repr(C)]
-#[derive(Drop)]
+#[derive(Clone, Copy)]
 pub struct CursorAnswer {
     pub refusal: u32,
     pub cursor: Cursor,
@@ -27,7 +27,7 @@ pub struct CursorAnswer {
 
 // What one step hands out: `here` and `next`, or where it ended `answer`.
 #[repr(C)]
-#[derive(Drop)]
+#[derive(Clone, Copy)]
 pub struct Step {
     pub ended: bool,
     pub here: Placed,

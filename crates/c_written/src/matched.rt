@@ -7,7 +7,7 @@ use mrd_format::refusal;
 
 // Whether a given index is the stream's own: 0 where it is.
 #[repr(C)]
-#[derive(Drop)]
+#[derive(Clone, Copy)]
 pub struct Matched {
     pub refusal: u32,
     pub record: usize,

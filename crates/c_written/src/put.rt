@@ -5,7 +5,7 @@ ghost use Rattle.c_written.specs.WrittenStructs.{c_put};
 
 // The position after a message that was written.
 #[repr(C)]
-#[derive(Drop)]
+#[derive(Clone, Copy)]
 pub struct Put {
     pub refusal: u32,
     pub position: usize,

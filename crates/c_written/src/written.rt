@@ -5,7 +5,7 @@ ghost use Rattle.c_written.specs.WrittenStructs.{written_as, c_written};
 
 // How much stands at the front of an output.
 #[repr(C)]
-#[derive(Drop)]
+#[derive(Clone, Copy)]
 pub struct Written {
     pub refusal: u32,
     pub record: usize,

@@ -3,6 +3,8 @@
 //
 // No function here has a `requires`: any bytes and any numbers get an answer. Each contract is an equation with
 // the definition that the inner function's contract cites, so nothing is decided here. Assumes nothing.
+#![tactic(auto)]
+
 mod ask;
 mod at_cursor;
 mod index;

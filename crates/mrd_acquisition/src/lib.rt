@@ -2,6 +2,8 @@
 // mask says.
 //
 // Each function asks for the header's 340 bytes, which the callers, all proved, have. Assumes nothing.
+#![tactic(auto)]
+
 mod acquisition;
 
 pub use acquisition::{active_channels, body_size, channel_size, fault, shape, trajectory_size};

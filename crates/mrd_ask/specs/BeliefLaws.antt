@@ -14,7 +14,6 @@ use Rattle.mrd_views.specs.Views.{view_of}
 use Rattle.mrd_fields.specs.Fields.{field_of}
 use Rattle.mrd_find.specs.Find.{find_of}
 use Rattle.mrd_ask.specs.declared.question.Question.{Question}
-use Rattle.mrd_ask.specs.declared.question.Question
 use Rattle.mrd_ask.specs.Replies.{Replied}
 use Rattle.mrd_ask.specs.Questions.{ask_of}
 use Rattle.mrd_ask.specs.RefusalLaws.{refuses-above, ask_refuses}

@@ -32,7 +32,6 @@ use Rattle.mrd_element.specs.Element.{Start, starts, none, element_at, read_at, 
 use Rattle.mrd_fields.specs.Fields.{field_by, field_of}
 use Rattle.mrd_find.specs.Find.{matches, first_match, find_of}
 use Rattle.mrd_ask.specs.declared.question.Question.{Question}
-use Rattle.mrd_ask.specs.declared.question.Question
 use Rattle.mrd_ask.specs.Replies.{Replied, view, field, found, reply}
 use Rattle.mrd_ask.specs.Replies as replies
 use Rattle.mrd_ask.specs.Questions.{ask_of}

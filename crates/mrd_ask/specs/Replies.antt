@@ -8,7 +8,6 @@ use Rattle.mrd_element.specs.Element.{FieldValue}
 use Rattle.mrd_element.specs.ValueMeaning.{value_meaning, nan_apart}
 use Rattle.mrd_views.specs.declared.views.Span.{Span}
 use Rattle.mrd_ask.specs.declared.question.Reply.{Reply}
-use Rattle.mrd_ask.specs.declared.question.Reply
 
 -- place and kind, a view's place, a field's value, the number of the record found
 pub data Replied : Type 0 where

@@ -15,7 +15,6 @@ use Rattle.mrd_views.specs.ViewLaws.{view-fits}
 use Rattle.mrd_fields.specs.Fields.{field_of}
 use Rattle.mrd_find.specs.Find.{find_of}
 use Rattle.mrd_ask.specs.declared.question.Question.{Question}
-use Rattle.mrd_ask.specs.declared.question.Question
 use Rattle.mrd_ask.specs.Replies as replies
 use Rattle.mrd_ask.specs.Replies.{Replied, reply}
 use Rattle.mrd_ask.specs.Questions.{ask_of}

@@ -3,6 +3,8 @@
 //
 // A given index is compared with the stream first, whole, and believed only where it is the stream's own; the
 // question then goes as it does with none. No function here has a `requires`. Assumes nothing.
+#![tactic(auto)]
+
 mod asked;
 mod indexed;
 mod question;

@@ -5,7 +5,7 @@ use mrd_stream::{PlacedRecord, Refusal};
 use mrd_views::Span;
 
 // The record by its number from 0.
-#[derive(Drop)]
+#[derive(Clone, Copy)]
 pub enum Question {
     // Its place and kind.
     Place(usize),
@@ -17,7 +17,7 @@ pub enum Question {
     Find(usize),
 }
 
-#[derive(Drop)]
+#[derive(Clone, Copy)]
 pub enum Reply {
     Place(PlacedRecord),
     View(Span),

@@ -2,6 +2,8 @@
 //
 // No public function here has a `requires`: any bytes and any columns get an answer. The stream is checked first, and
 // a refusal writes nothing. Assumes nothing.
+#![tactic(auto)]
+
 mod columns;
 
 pub use columns::fill_columns;

@@ -6,7 +6,7 @@ ghost use Rattle.mrd_cursor.specs.Cursors.{max_messages, after, beginning};
 use mrd_format::Kind;
 
 // How far the order of messages has come.
-#[derive(Drop)]
+#[derive(Clone, Copy)]
 pub enum Phase {
     // Texts at most.
     Start,
@@ -20,7 +20,7 @@ pub enum Phase {
 
 // Where a walk is: the number of the message that is due, the phase, and the message's first byte. The phase
 // comes second so that a loop reads a yielded cursor back as it was stored, field by field, which is faster.
-#[derive(Drop)]
+#[derive(Clone, Copy)]
 pub struct Cursor {
     pub number: usize,
     pub phase: Phase,

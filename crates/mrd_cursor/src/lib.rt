@@ -2,6 +2,8 @@
 //
 // A cursor is three plain numbers. Anyone may make one; a walk begins at `Cursor::beginning()`. Assumes
 // nothing.
+#![tactic(auto)]
+
 mod cursor;
 
 pub use cursor::{Cursor, Phase};

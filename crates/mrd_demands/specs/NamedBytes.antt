@@ -218,8 +218,11 @@ module _ (rules : Rules) (s : List ℕ) {n : ℕ} (e : answer rules s ≡ accept
       let there = place-nth rules s a at.which in
       let record-too : a ≡ m = o.only a x there (to_record s x b y i (parts-span s x (nth_inside rules s a x there)) at.part at.inside) in
       let here : place rules s a ≡ answered l = rw record-too (place-of m l o.there) in
-      let same : x ≡ l = cc (at.which, here) in
-      (record-too, u.only b y (rw same at at.part) (to-message l y i (rw same at at.inside)))
+      let same : x ≡ l = cc (at.which, here) in (
+        record-too,
+        u.only b y (subst (λ (z : Located). Nth (parts_at s z) b y) same at.part)
+            (to-message l y i (subst (λ (z : Located). holds (stream_place z y) i ≡ true) same at.inside)),
+      )
 
   pub byte-named : i < length s → NamedOnce rules s i
   unfolding part_of_byte record_holding part_holding

@@ -1,7 +1,7 @@
 -- Bytes of a small stream, and of each header, with what they belong to (request E12), computed.
 -- Assumes nothing.
 use Rattle.std.specs.Prelude.{ℕ, ◌≡◌, refl, [], ◌∷◌, ◌++◌, map}
-use Rattle.bytes.specs.Bytes.{index_of, index_after}
+use Rattle.mrd_bytes.specs.Bytes.{index_of, index_after}
 use Rattle.mrd_numbers.specs.Little.{num}
 use Rattle.mrd_utf8.specs.Fold.{begun, next, utf8_of}
 use Rattle.mrd_logic.specs.Answer.{Answer, answered, number, and_then}

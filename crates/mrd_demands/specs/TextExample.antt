@@ -1,7 +1,7 @@
 -- Texts that the strict profile refuses, each sort once: the plain profile accepts the stream, and the strict one refuses its second message with 21.
 -- Assumes nothing.
 use Rattle.std.specs.Prelude.{ℕ, ◌≡◌, refl, List, [], ◌∷◌, ◌++◌, map, length, replicate}
-use Rattle.bytes.specs.Bytes.{index_of, index_after}
+use Rattle.mrd_bytes.specs.Bytes.{index_of, index_after}
 use Rattle.mrd_numbers.specs.Little.{num}
 use Rattle.mrd_utf8.specs.Fold.{begun, next, utf8_of}
 use Rattle.mrd_format.specs.declared.rules.Layout.{Layout}

@@ -6,7 +6,6 @@ use Rattle.mrd_logic.specs.Answer.{answered, number}
 use Rattle.mrd_logic.specs.Choice.{pick}
 use Rattle.mrd_numbers.specs.Little.{num}
 use Rattle.mrd_format.specs.declared.kind.Kind.{Kind}
-use Rattle.mrd_format.specs.declared.kind.Kind
 use Rattle.mrd_format.specs.declared.rules.Layout.TheVariants.{Packed, Aligned}
 use Rattle.mrd_format.specs.Headers.{runs}
 use Rattle.mrd_format.specs.Kinds.{form_of, fixed_size}

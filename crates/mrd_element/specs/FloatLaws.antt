@@ -6,7 +6,6 @@ use Rattle.std.specs.Float.{binary32}
 use Rattle.std.specs.Float.Ieee.{of_bits, nan_bits}
 use Rattle.std.specs.Float.Ieee.Bits.{to_bits-of_bits, nan_bits_is, nan_bits_above}
 use Rattle.mrd_element.specs.declared.value.Value.{Value}
-use Rattle.mrd_element.specs.declared.value.Value
 use Rattle.mrd_element.specs.Element.{float}
 use Rattle.mrd_element.specs.ValueMeaning.{TellsValue}
 

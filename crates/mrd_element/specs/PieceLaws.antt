@@ -10,7 +10,6 @@ use Rattle.mrd_logic.specs.AnswerLaws.{answered-not-number, answered-not-stream}
 use Rattle.mrd_logic.specs.Choice.{pick, both, either}
 use Rattle.mrd_logic.specs.Lists.{Nth}
 use Rattle.mrd_format.specs.declared.kind.Kind.{Kind}
-use Rattle.mrd_format.specs.declared.kind.Kind
 use Rattle.mrd_format.specs.declared.rules.Layout.TheVariants.{Packed, Aligned}
 use Rattle.mrd_format.specs.Elements.{ElementType, u16, u32, u64, i32, f32, Run, width}
 use Rattle.mrd_format.specs.Headers.{Cell, field, length_of, gap, runs, run_size}

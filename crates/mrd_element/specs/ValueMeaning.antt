@@ -5,9 +5,7 @@ use Rattle.std.specs.Float.{binary32}
 use Rattle.std.specs.Float.Ieee.{to_bits, is_nan, nan_bits}
 use Rattle.mrd_logic.specs.Answer.{Answer, answered, number}
 use Rattle.mrd_element.specs.declared.value.Value.{Value}
-use Rattle.mrd_element.specs.declared.value.Value
 use Rattle.mrd_element.specs.declared.value.Element.{Element}
-use Rattle.mrd_element.specs.declared.value.Element
 use Rattle.mrd_element.specs.Element.{FieldValue, whole, signed, float}
 
 abbrev pub value_meaning : Value → FieldValue

@@ -12,14 +12,14 @@ use crate::letters::{acquisition, image, waveform};
 use mrd_format::Kind;
 
 // Where an element stands: its first byte, counted from the header's, and its size.
-#[derive(Drop)]
+#[derive(Clone, Copy)]
 pub struct ElementPlace {
     pub offset: usize,
     pub size: usize,
 }
 
 // What a header's byte belongs to.
-#[derive(Drop)]
+#[derive(Clone, Copy)]
 pub enum HeaderByte {
     Element(ElementPlace),
     // None: the byte carries nothing.

@@ -2,6 +2,8 @@
 //
 // `header_byte` asks that the byte lies in the header, `read_element` that the fixed part has its kind's length;
 // the callers, all proved, give it so. Assumes nothing.
+#![tactic(auto)]
+
 mod byte;
 mod element;
 mod letters;

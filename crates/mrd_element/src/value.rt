@@ -3,7 +3,7 @@
 // Assumes nothing.
 
 // What a header element holds.
-#[derive(Drop)]
+#[derive(Clone, Copy)]
 pub enum Value {
     // A whole number of 2, 4 or 8 bytes.
     Whole(u64),
@@ -16,7 +16,7 @@ pub enum Value {
 }
 
 // The header element at an offset.
-#[derive(Drop)]
+#[derive(Clone, Copy)]
 pub enum Element {
     Value(Value),
     // No header element starts there, or the record has no header: refusal 20.

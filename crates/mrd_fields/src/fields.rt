@@ -12,7 +12,7 @@ use mrd_record::{fixed_part, place_at};
 use mrd_stream::{Placed, Refusal};
 
 // The answer about a field.
-#[derive(Drop)]
+#[derive(Clone, Copy)]
 pub enum FieldAnswer {
     // What stands there.
     Value(Value),

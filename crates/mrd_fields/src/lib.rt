@@ -2,6 +2,8 @@
 //
 // No public function here has a `requires`: any bytes, any record number, any cursor and any offset get an
 // answer. Assumes nothing.
+#![tactic(auto)]
+
 mod fields;
 
 pub use fields::{FieldAnswer, field, field_at};

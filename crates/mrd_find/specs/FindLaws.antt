@@ -4,7 +4,6 @@ use Rattle.std.specs.Prelude.{ℕ, ◌+◌, ◌-◌, ◌≤◌, ◌<◌, ◌≡�
 use Rattle.std.proofs.Common.{arith, sym, ap, ◌∙◌, eqb-true, length-drop, length-append}
 use Rattle.mrd_format.specs.declared.kind.Kind.{Kind}
 use Rattle.mrd_format.specs.declared.rules.Rules.{Rules}
-use Rattle.mrd_format.specs.declared.kind.Kind
 use Rattle.mrd_format.specs.Kinds.{id_of, fixed_size}
 use Rattle.mrd_format.specs.KindLaws.{acquisition_of_id}
 use Rattle.mrd_format.specs.Acquisition.{counters_of}
@@ -19,7 +18,6 @@ use Rattle.mrd_stream.specs.StepLaws.{Passes, step-yields, On, on-start, on-next
 use Rattle.mrd_stream.specs.ReaderMeaning.{record_meaning, step_meaning}
 use Rattle.mrd_stream.specs.declared.answer.PlacedRecord.{PlacedRecord}
 use Rattle.mrd_stream.specs.declared.answer.Step.{Step}
-use Rattle.mrd_stream.specs.declared.answer.Step
 use Rattle.mrd_find.specs.Find.{candidate, first_match, find_of}
 use Rattle.mrd_logic.specs.Answer.{Answer, answered, unless_refused}
 use Rattle.mrd_logic.specs.Choice.{both}

@@ -2,7 +2,6 @@
 -- Assumes nothing.
 use Rattle.std.specs.Prelude.{ℕ}
 use Rattle.mrd_find.specs.declared.search.Found.{Found}
-use Rattle.mrd_find.specs.declared.search.Found
 use Rattle.mrd_logic.specs.Answer.{Answer, answered, stream, number}
 
 abbrev pub found_meaning : Found → Answer ℕ

@@ -2,6 +2,8 @@
 //
 // The public function has no `requires`: any bytes, any record number and any counters get an answer.
 // Nothing is copied, and one walk goes over the stream. Assumes nothing.
+#![tactic(auto)]
+
 mod search;
 
 pub use search::{Found, find};

@@ -12,7 +12,7 @@ use mrd_message::{COUNTER_COUNT, encoding_counter, fixed_part};
 use mrd_stream::{Checked, PlacedRecord, Refusal, Step, check_from};
 
 // The answer of find.
-#[derive(Drop)]
+#[derive(Clone, Copy)]
 pub enum Found {
     // The record's number.
     Record(usize),

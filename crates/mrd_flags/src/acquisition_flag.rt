@@ -2,7 +2,7 @@
 // take. Numbers 30 to 52 have no name.
 //
 // Assumes nothing.
-#[derive(Drop)]
+#[derive(Clone, Copy)]
 pub struct AcquisitionFlag {}
 
 impl AcquisitionFlag {

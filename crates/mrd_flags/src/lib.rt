@@ -1,6 +1,8 @@
 // The flags of an acquisition, by number: test, set and clear; and the numbers by their names.
 //
 // Assumes nothing.
+#![tactic(auto)]
+
 mod acquisition_flag;
 mod flags;
 

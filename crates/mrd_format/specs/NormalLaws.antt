@@ -7,7 +7,7 @@ use Rattle.std.specs.Prelude.{◌≡◌, refl, Bool, true, false, List, [], ◌�
 use Rattle.std.proofs.Math.ListN.{length-drop}
 use Rattle.std.proofs.lemmas.List.{length-replicate}
 use Rattle.std.proofs.Math.Seq.{length-take-le, take-take, drop_at}
-use Rattle.bytes.specs.Bytes.{index_of, index_after}
+use Rattle.mrd_bytes.specs.Bytes.{index_of, index_after}
 use Rattle.mrd_numbers.specs.Little.{to_bytes, num}
 use Rattle.mrd_numbers.specs.ToBytesLaws.{length-to_bytes}
 use Rattle.mrd_numbers.specs.Stored.{stored}
@@ -26,7 +26,7 @@ use Rattle.mrd_format.specs.ImageLaws.{restated-long, restated-id, restated-size
 use Rattle.mrd_format.specs.Waveform.{cleared}
 use Rattle.mrd_format.specs.WaveformLaws.{waveform-normal, filled-long, filled-same, other-long, other-id, other-checks, other-size, other-record, other-normal}
 use Rattle.mrd_format.specs.Kinds.{form_of}
-use Rattle.mrd_format.specs.Content.{segments_of, extent_of, contents_of, fields_of, record_of, normal_of}
+use Rattle.mrd_format.specs.Content.{segments_of, part_size, extent_of, contents_of, fields_of, record_of, normal_of}
 use Rattle.mrd_format.specs.AdjoinLaws.{all_plain, segments-joined, total-append}
 
 -- a byte is found where it is put after what stood before it
@@ -165,7 +165,7 @@ unfolding normal_of size_of body_size
 kept k m p whole =
     let h = fixed_part k m in
     let size = total-append (form_of k).fixed_segments ((form_of k).body_segments h) in
-    rw (segments-joined _ (form_of k).cells m h 2 (segments_of k h) p, take_all (total (segments_of k h)) (drop 2 m) (simp length-drop (omega (arith, size, whole))))
+    rw (segments-joined (part_size k h) (form_of k).cells m h 2 (segments_of k h) p, take_all (total (segments_of k h)) (drop 2 m) (simp length-drop (omega (arith, size, whole))))
     (take-append-drop 2 m)
 
 -- an image's message within the limit: its normal form has the true length in its header

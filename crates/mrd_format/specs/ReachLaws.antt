@@ -3,7 +3,7 @@
 -- Assumes nothing.
 use Rattle.std.specs.Prelude.{ℕ, suc, ◌+◌, ◌-◌, ◌*◌, ◌≤◌, ◌<◌, ◌≡◌, refl, Bool, true, false, ◌&&◌, ◌⊎◌, List, [], ◌∷◌, eqb, ltb, length, take, drop}
 use Rattle.std.proofs.Common.{mul-le-mul_right, suc-mul, arith, inl, inr, ⊎_elim, ltb-true, drop-drop}
-use Rattle.bytes.specs.Bytes.{index_of, index_after}
+use Rattle.mrd_bytes.specs.Bytes.{index_of, index_after}
 use Rattle.mrd_numbers.specs.Laws.{part-take}
 use Rattle.mrd_logic.specs.Every.{Every}
 use Rattle.mrd_logic.specs.Choice.{both}

@@ -1,7 +1,7 @@
 -- What a message is built of after its id, as a list of segments: from it follow its size, where each of its parts lies, and its bytes.
 -- Assumes nothing.
 use Rattle.std.specs.Prelude.{ℕ, zero, suc, ◌+◌, ◌-◌, ◌*◌, Bool, true, false, ◌&&◌, List, [], ◌∷◌, ◌++◌, ltb, length, replicate}
-use Rattle.bytes.specs.Bytes.{index_of}
+use Rattle.mrd_bytes.specs.Bytes.{index_of}
 use Rattle.mrd_numbers.specs.Little.{to_bytes}
 use Rattle.mrd_logic.specs.Checks.{Check}
 use Rattle.mrd_format.specs.Headers.{Cell}

@@ -3,7 +3,6 @@
 use Rattle.std.specs.Prelude.{ℕ, List, [], ◌∷◌}
 use Rattle.mrd_format.specs.Acquisition.{mask_number, mask_ones}
 use Rattle.mrd_format.specs.declared.kind.Kind.{Kind}
-use Rattle.mrd_format.specs.declared.kind.Kind
 use Rattle.mrd_format.specs.declared.shape.AcquisitionShape.{AcquisitionShape}
 use Rattle.mrd_format.specs.declared.shape.ImageShape.{ImageShape}
 use Rattle.mrd_format.specs.declared.shape.WaveformShape.{WaveformShape}

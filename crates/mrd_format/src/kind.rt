@@ -5,7 +5,7 @@ ghost use Rattle.mrd_format.specs.Kinds.{header_size};
 
 use crate::rules::{Layout, Rules};
 
-#[derive(Drop)]
+#[derive(Clone, Copy)]
 pub enum Kind {
     ConfigurationName,
     ConfigurationText,
@@ -19,7 +19,7 @@ pub enum Kind {
 }
 
 // What an id says.
-#[derive(Drop)]
+#[derive(Clone, Copy)]
 pub enum Identified {
     Known(Kind),
     Unknown,

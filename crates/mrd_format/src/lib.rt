@@ -3,6 +3,8 @@
 // and the rest of the format's definitions stand in specs/.
 //
 // Assumes nothing.
+#![tactic(auto)]
+
 mod kind;
 mod mask;
 pub mod refusal;

@@ -4,7 +4,7 @@ ghost use Rattle.mrd_format.specs.Acquisition.{mask_number, mask_ones};
 
 // Not stated where the mask is all zero; else whether it has as many ones as there are active channels, and how
 // many it has.
-#[derive(Drop)]
+#[derive(Clone, Copy)]
 pub enum Mask {
     NotStated,
     Agrees(u16),

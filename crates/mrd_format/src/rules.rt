@@ -3,7 +3,7 @@ ghost use Rattle.std.specs.Prelude.{◌≡◌, ◌≤◌};
 ghost use Rattle.mrd_format.specs.Waveform.{header_bytes, offsets_of, front_filler};
 
 // Where the elements of a waveform's header stand.
-#[derive(Drop)]
+#[derive(Clone, Copy)]
 pub enum Layout {
     // One after the other, in 32 bytes.
     Packed,
@@ -12,7 +12,7 @@ pub enum Layout {
 }
 
 // The offset of each element, counted from the header's first byte.
-#[derive(Drop)]
+#[derive(Clone, Copy)]
 pub struct WaveformOffsets {
     pub version: usize,
     pub flags: usize,
@@ -67,7 +67,7 @@ impl Layout {
 }
 
 // What is asked of the texts of a stream: names, the three kinds of texts, and attributes.
-#[derive(Drop)]
+#[derive(Clone, Copy)]
 pub enum Profile {
     // Any bytes.
     Plain,
@@ -76,7 +76,7 @@ pub enum Profile {
 }
 
 // The rules that a stream is read and written by.
-#[derive(Drop)]
+#[derive(Clone, Copy)]
 pub struct Rules {
     pub layout: Layout,
     pub profile: Profile,

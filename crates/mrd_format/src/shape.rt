@@ -7,12 +7,12 @@ use crate::mask::Mask;
 use crate::rules::Layout;
 
 // The length of a name or of a text, in bytes.
-#[derive(Drop)]
+#[derive(Clone, Copy)]
 pub struct TextShape {
     pub length: usize,
 }
 
-#[derive(Drop)]
+#[derive(Clone, Copy)]
 pub struct AcquisitionShape {
     pub number_of_samples: u16,
     pub active_channels: u16,
@@ -20,7 +20,7 @@ pub struct AcquisitionShape {
     pub mask: Mask,
 }
 
-#[derive(Drop)]
+#[derive(Clone, Copy)]
 pub struct ImageShape {
     pub matrix_size_x: u16,
     pub matrix_size_y: u16,
@@ -30,7 +30,7 @@ pub struct ImageShape {
     pub attribute_length: u64,
 }
 
-#[derive(Drop)]
+#[derive(Clone, Copy)]
 pub struct WaveformShape {
     pub layout: Layout,
     pub number_of_samples: u16,
@@ -38,7 +38,7 @@ pub struct WaveformShape {
 }
 
 // One of the eight kinds, with its own numbers.
-#[derive(Drop)]
+#[derive(Clone, Copy)]
 pub enum Shape {
     ConfigurationName(TextShape),
     ConfigurationText(TextShape),

@@ -8,7 +8,6 @@ use Rattle.mrd_logic.specs.AnswerLaws.{answered-not-number, answered-not-stream}
 use Rattle.mrd_logic.specs.Choice.{pick}
 use Rattle.mrd_logic.specs.Lists.{Nth}
 use Rattle.mrd_format.specs.declared.kind.Kind.{Kind}
-use Rattle.mrd_format.specs.declared.kind.Kind
 use Rattle.mrd_format.specs.Kinds.{fixed_size, header_size}
 use Rattle.mrd_format.specs.Message.{size_of, body_size}
 use Rattle.mrd_format.specs.Texts.{text_length}

@@ -12,7 +12,7 @@ use mrd_format::{Kind, Layout};
 use mrd_parts::{Extent, Part};
 
 // A part of a message.
-#[derive(Drop)]
+#[derive(Clone, Copy)]
 pub enum MessagePart {
     Id,
     // A text's length, or the 8-byte length of an image's attributes.
@@ -26,7 +26,7 @@ pub enum MessagePart {
 }
 
 // A part and where it lies in its message.
-#[derive(Drop)]
+#[derive(Clone, Copy)]
 pub struct HeldPart {
     pub part: MessagePart,
     pub extent: Extent,

@@ -2,6 +2,8 @@
 //
 // `part_holding` asks that the fixed part has its kind's length and gives the message's size, and that the byte lies
 // in the message; the callers, all proved, give it so. Assumes nothing.
+#![tactic(auto)]
+
 mod holding;
 
 pub use holding::{HeldPart, MessagePart, part_holding};

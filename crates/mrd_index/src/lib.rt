@@ -2,6 +2,8 @@
 //
 // `write_index` has no `requires`: any bytes and any output get an answer. The stream is checked first, and a refusal
 // writes no byte. Assumes nothing.
+#![tactic(auto)]
+
 mod entry;
 mod file;
 

@@ -7,7 +7,7 @@ use mrd_cursor::{Cursor, Phase};
 use mrd_format::{Identified, Kind, Rules, refusal};
 
 // A cursor, or the number of refusal.
-#[derive(Drop)]
+#[derive(Clone, Copy)]
 pub enum CursorAnswer {
     At(Cursor),
     Refused(u8),

@@ -10,7 +10,7 @@ pub const ENTRY: usize = 17;
 pub const END: usize = 7;
 
 // Where the record starts, its id and its scan counter.
-#[derive(Drop)]
+#[derive(Clone, Copy)]
 pub struct Entry {
     pub start: u64,
     pub id: u16,

@@ -2,6 +2,8 @@
 //
 // Each put asks that its field fits; the callers, all proved, have tested it before. A comparison takes any bytes.
 // Assumes nothing.
+#![tactic(auto)]
+
 mod entry;
 mod put;
 mod same;

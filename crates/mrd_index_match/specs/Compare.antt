@@ -8,9 +8,7 @@ use Rattle.mrd_cursor.specs.Cursors.{max_messages}
 use Rattle.mrd_stream.specs.Walk.{answer}
 use Rattle.mrd_stream.specs.Index.{Entry, entry_field, end_field, index, start_column, id_column, counter_column}
 use Rattle.mrd_index_match.specs.declared.compare.Form.{Form}
-use Rattle.mrd_index_match.specs.declared.compare.Form
 use Rattle.mrd_index_match.specs.declared.compare.Matched.{Matched}
-use Rattle.mrd_index_match.specs.declared.compare.Matched
 use Rattle.mrd_format.specs.declared.rules.Rules.{Rules}
 
 -- what each case of the enum says: the paper's number and values

@@ -15,7 +15,7 @@ use mrd_index_fields::{ENTRY, Entry, FRONT, entry_same, front_same};
 use mrd_stream::{Checked, PlacedRecord, Refusal, Step};
 
 // What a given index is found to be.
-#[derive(Drop)]
+#[derive(Clone, Copy)]
 pub enum Matched {
     // The index that the stream yields.
     Same,
@@ -60,7 +60,7 @@ pub fn columns_match(
 }
 
 // The two forms of an index.
-#[derive(Drop)]
+#[derive(Clone, Copy)]
 pub(crate) enum Form {
     File,
     Columns,

@@ -2,6 +2,8 @@
 //
 // No public function here has a `requires`: any bytes and any index get an answer. A comparison is one walk and
 // keeps nothing. Assumes nothing.
+#![tactic(auto)]
+
 mod compare;
 
 pub use compare::{Matched, columns_match, index_matches};

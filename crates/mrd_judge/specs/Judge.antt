@@ -11,7 +11,6 @@ use Rattle.mrd_format.specs.Message.{id_at, fixed_part, size_of, message_at}
 use Rattle.mrd_logic.specs.Checks.{first, unless}
 use Rattle.mrd_cursor.specs.declared.cursor.Cursor.{Cursor}
 use Rattle.mrd_judge.specs.declared.stages.Judgement.{Judgement}
-use Rattle.mrd_judge.specs.declared.stages.Judgement
 use Rattle.mrd_judge.specs.declared.sort.Sort.{Sort}
 use Rattle.mrd_judge.specs.Sorts.{sort_of}
 use Rattle.mrd_judge.specs.Stages.{fixed_checks, size_checks, text_checks, checks_as}

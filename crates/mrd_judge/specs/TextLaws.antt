@@ -21,7 +21,7 @@ use Rattle.mrd_judge.specs.declared.sort.Sort.{Sort}
 use Rattle.mrd_judge.specs.declared.sort.Sort.TheVariants.{ConfigurationName, ConfigurationText, HeaderText, Close, Text, Acquisition, Image, Waveform}
 use Rattle.mrd_judge.specs.Sorts.{kind_in}
 use Rattle.mrd_judge.specs.Stages.{front_checks, id_checks, fixed_checks, size_checks, text_checks, checks_as}
-use Rattle.mrd_judge.specs.Judge.{Judged, faulty, whole, passes, refused_by, sorted, judge_as, judge_by, judge}
+use Rattle.mrd_judge.specs.Judge.{faulty, whole, passes, refused_by, sorted, judge_as, judge_by, judge}
 use Rattle.mrd_judge.specs.WholeLaws.{judge-whole, not-both, found-whole, found-faulty, well_formed}
 
 -- kinds do not go by the profile

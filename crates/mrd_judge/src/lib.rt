@@ -2,6 +2,8 @@
 //
 // In the plain profile a message is judged by its fixed part and by how many bytes there are: no payload byte is read.
 // In the strict one its texts are read too, where all other checks passed. Assumes nothing.
+#![tactic(auto)]
+
 mod sort;
 mod stages;
 

@@ -5,7 +5,7 @@ ghost use Rattle.mrd_judge.specs.Sorts.{sort_of, kind_in};
 
 use mrd_format::{Kind, Rules};
 
-#[derive(Drop)]
+#[derive(Clone, Copy)]
 pub enum Sort {
     ConfigurationName,
     ConfigurationText,

@@ -18,7 +18,7 @@ use mrd_texts::message_is_utf8;
 pub const MAX_MESSAGES: usize = 1000000;
 
 // What judging a message finds. It is small, so that a check keeps it, and its cursor, in registers.
-#[derive(Drop)]
+#[derive(Clone, Copy)]
 pub enum Judgement {
     // Every check passed: the sort of its kind, and its size.
     Whole(Sort, usize),

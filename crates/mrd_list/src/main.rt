@@ -2,94 +2,103 @@
 // size, and ` mask` with the count of ones where a channel mask differs from the active channels; or one
 // line with the refusal. Waveform headers are packed, and texts may be any bytes. At most 65,536 bytes are listed; of more, nothing is,
 // and what comes after the first byte too many is not read.
-use libc::{STDIN_FILENO, STDOUT_FILENO};
+#![tactic(auto)]
+
+ghost use Rattle.std.specs.Prelude.{◌≤◌, length, IfOk};
+
 use mrd_cursor::Cursor;
 use mrd_format::{Layout, Mask, Profile, Rules, Shape};
 use mrd_stream::{Checked, PlacedRecord, Refusal, Step};
+use std::io::{self, Read};
 
 const LIMIT: usize = 65536;
 
-fn main() {
+fn main(rt: HostRuntime) -> io::Result<()> {
     // One byte more than the limit tells whether there is more.
     let mut input = [0u8; 65537];
-    let got = io::read_full(STDIN_FILENO, &mut input);
+    let got = read_full(&mut rt.reader(), &mut input)?;
     if LIMIT < got {
-        io::write_all(STDOUT_FILENO, b"input over 65536 bytes\n");
-        return;
+        println!(rt; "input over 65536 bytes")?;
+        return Ok(());
     }
-    list(&input[..got]);
+    list(&rt, &input[..got])
+}
+
+// How many bytes were read to the front of out: as many as there are, or as it holds.
+fn read_full<R: Read>(input: &mut R, out: &mut [u8]) -> io::Result<usize>
+    ensures { IfOk result (λ n. n ≤ length out.old) }
+{
+    let mut got: usize = 0;
+    for _ in 0..u64::MAX {
+        if out.len() <= got {
+            break;
+        }
+        let n = input.read(&mut out[got..])?;
+        if n == 0 {
+            break;
+        }
+        got += n;
+    }
+    Ok(got)
 }
 
 // The whole listing of s: nothing of a refused stream but its refusal.
-fn list(s: &[u8]) {
+fn list(rt: &impl Print, s: &[u8]) -> io::Result<()> {
     let rules = Rules {
         layout: Layout::Packed,
         profile: Profile::Plain,
     };
     match mrd_stream::check(rules, s) {
         Checked::Accepted(count) => {
-            io::write_all(STDOUT_FILENO, b"record id start bytes\n");
-            list_records(rules, s);
-            io::write_all(STDOUT_FILENO, b"ok ");
-            io::print_decimal(STDOUT_FILENO, count as u64);
-            io::write_all(STDOUT_FILENO, b" records ");
-            io::print_decimal(STDOUT_FILENO, s.len() as u64);
-            io::write_all(STDOUT_FILENO, b" bytes\n");
+            println!(rt; "record id start bytes")?;
+            list_records(rt, rules, s)?;
+            let bytes = s.len();
+            println!(rt; "ok {count} records {bytes} bytes")?;
         }
-        Checked::Refused(refusal) => {
-            list_refusal(refusal);
-        }
+        Checked::Refused(refusal) => list_refusal(rt, refusal)?,
     }
+    Ok(())
 }
 
 // A line for each record.
-fn list_records(rules: Rules, s: &[u8]) {
+fn list_records(rt: &impl Print, rules: Rules, s: &[u8]) -> io::Result<()> {
     let mut c = Cursor::beginning();
     loop {
         let step = mrd_stream::next(rules, c, s);
         match step {
             Step::Message(record, next) => {
-                list_record(record);
+                list_record(rt, record)?;
                 c = next;
             }
             Step::End(_) => {
-                return;
+                return Ok(());
             }
         }
     }
 }
 
-fn list_record(record: PlacedRecord) {
+fn list_record(rt: &impl Print, record: PlacedRecord) -> io::Result<()> {
     let place = record.place;
-    let shape = record.shape;
-    io::print_decimal(STDOUT_FILENO, place.number as u64);
-    io::write_all(STDOUT_FILENO, b" ");
-    io::print_decimal(STDOUT_FILENO, shape.kind().id() as u64);
-    io::write_all(STDOUT_FILENO, b" ");
-    io::print_decimal(STDOUT_FILENO, place.start as u64);
-    io::write_all(STDOUT_FILENO, b" ");
-    io::print_decimal(STDOUT_FILENO, place.size as u64);
-    list_mask(shape);
-    io::write_all(STDOUT_FILENO, b"\n");
+    let id = record.shape.kind().id();
+    let (number, start, size) = (place.number, place.start, place.size);
+    print!(rt; "{number} {id} {start} {size}")?;
+    list_mask(rt, record.shape)?;
+    println!(rt)?;
+    Ok(())
 }
 
 // Of an acquisition whose mask differs from its active channels: the ones that the mask has.
-fn list_mask(shape: Shape) {
+fn list_mask(rt: &impl Print, shape: Shape) -> io::Result<()> {
     if let Shape::Acquisition(acquisition) = shape {
-        let mask = acquisition.mask;
-        if let Mask::Differs(ones) = mask {
-            io::write_all(STDOUT_FILENO, b" mask ");
-            io::print_decimal(STDOUT_FILENO, ones as u64);
+        if let Mask::Differs(ones) = acquisition.mask {
+            print!(rt; " mask {ones}")?;
         }
     }
+    Ok(())
 }
 
-fn list_refusal(refusal: Refusal) {
-    io::write_all(STDOUT_FILENO, b"refused ");
-    io::print_decimal(STDOUT_FILENO, refusal.number as u64);
-    io::write_all(STDOUT_FILENO, b" at record ");
-    io::print_decimal(STDOUT_FILENO, refusal.record as u64);
-    io::write_all(STDOUT_FILENO, b" byte ");
-    io::print_decimal(STDOUT_FILENO, refusal.byte as u64);
-    io::write_all(STDOUT_FILENO, b"\n");
+fn list_refusal(rt: &impl Print, refusal: Refusal) -> io::Result<()> {
+    let (number, record, byte) = (refusal.number, refusal.record, refusal.byte);
+    println!(rt; "refused {number} at record {record} byte {byte}")?;
+    Ok(())
 }

@@ -3,6 +3,8 @@
 //
 // Each function asks for a fixed part of its kind's length, which the callers, all proved, have.
 // Assumes nothing.
+#![tactic(auto)]
+
 mod identity;
 mod message;
 

@@ -41,7 +41,7 @@ pub fn name_length(h: &[u8]) -> usize
     requires { length h.now ≡ fixed_size Kind.ConfigurationName }
     ensures { (result ≡ name_length h.now) × (result ≤ 1024) }
 {
-    bytes::scan::find(h, 0, Kind::NAME_FIXED, 0)
+    mrd_bytes::find(h, 0)
 }
 
 // A text's length, by its fixed part.

@@ -4,6 +4,8 @@
 // first, and a refusal writes no byte. Then a second walk copies each message and cleans it where it stands:
 // the filler after a configuration name and in a waveform's header is made zero, and an image's header gets
 // its attributes' length. Assumes nothing.
+#![tactic(auto)]
+
 mod messages;
 
 ghost use Rattle.std.specs.Prelude.{◌≡◌, ℕ, length};

@@ -50,7 +50,7 @@ fn put_message(kind: Kind, m: &[u8], out: &mut [u8])
     requires { MessageOf kind m.now × (length out.old ≡ length m.now) }
     ensures { out.new ≡ normal_of kind m.now }
 {
-    bytes::copy(m, out);
+    mrd_bytes::copy(m, out);
     match kind {
         Kind::ConfigurationName => fill_name(fixed_part(kind, m), out),
         Kind::Image => put_length(fixed_part(kind, m), out),

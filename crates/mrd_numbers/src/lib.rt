@@ -5,6 +5,8 @@
 //
 // A read puts two halves together by a shift and an 'or', of which the compiler makes one load
 // (`tests/reads/loads` looks at it).
+#![tactic(auto)]
+
 ghost use Rattle.std.specs.Prelude.{◌≡◌, ◌+◌, ◌≤◌, ◌<◌, ◌++◌, length, drop, replicate};
 ghost use Rattle.mrd_numbers.specs.Little.{num, to_bytes};
 

@@ -6,11 +6,11 @@ use Rattle.mrd_logic.specs.Answer.{Answer, answered, stream, number, unless_refu
 use Rattle.mrd_logic.specs.AnswerLaws.{answered-accepted}
 use Rattle.mrd_format.specs.declared.rules.Rules.{Rules}
 use Rattle.mrd_format.specs.Message.{fixed_part}
-use Rattle.mrd_format.specs.Holding.{holds, holding}
+use Rattle.mrd_format.specs.Holding.{holding}
 use Rattle.mrd_format.specs.HoldingLaws.{held, holding-here, holding-later, found-there}
 use Rattle.mrd_cursor.specs.declared.cursor.Cursor.{Cursor}
 use Rattle.mrd_cursor.specs.Cursors.{beginning}
-use Rattle.mrd_stream.specs.Walk.{Trace, message, trace, verdict, answer, from}
+use Rattle.mrd_stream.specs.Walk.{Trace, trace, verdict, answer, from}
 use Rattle.mrd_stream.specs.Places.{Located, located, places}
 use Rattle.mrd_stream.specs.StepLaws.{Passes, On, on-start, on-next, kept_next}
 use Rattle.mrd_cut.specs.CutPlaces.{part_at}

@@ -2,6 +2,8 @@
 //
 // `part_at` has no `requires`: any bytes and any byte number get an answer. Nothing is copied, and one walk goes over
 // the stream. Assumes nothing.
+#![tactic(auto)]
+
 mod holder;
 mod parts;
 

@@ -12,7 +12,7 @@ use mrd_stream::{Placed, PlacedRecord, Refusal};
 use mrd_views::Span;
 
 // A part of a record, and where it lies in the stream.
-#[derive(Drop)]
+#[derive(Clone, Copy)]
 pub struct PartPlace {
     pub record: PlacedRecord,
     pub part: MessagePart,
@@ -20,7 +20,7 @@ pub struct PartPlace {
 }
 
 // The answer about a byte.
-#[derive(Drop)]
+#[derive(Clone, Copy)]
 pub enum PartAnswer {
     At(PartPlace),
     // The stream itself is refused.

@@ -2,6 +2,8 @@
 //
 // `locate` asks that the fixed part has its kind's length and gives the message's size, `spanned` that the bytes are
 // there; the callers, all proved, give it so. Assumes nothing.
+#![tactic(auto)]
+
 mod parts;
 
 pub use parts::{Extent, Part, Sought, locate, spanned};

@@ -7,7 +7,7 @@ ghost use Rattle.mrd_parts.specs.Sought.{part_meaning, sought_meaning, Sized};
 
 use mrd_format::{Kind, Layout};
 
-#[derive(Drop)]
+#[derive(Clone, Copy)]
 pub enum Part {
     Name,
     Text,
@@ -20,13 +20,13 @@ pub enum Part {
 }
 
 // Where a part lies in its message: its first byte, counted from the id's, and its size.
-#[derive(Drop)]
+#[derive(Clone, Copy)]
 pub struct Extent {
     pub offset: usize,
     pub size: usize,
 }
 
-#[derive(Drop)]
+#[derive(Clone, Copy)]
 pub enum Sought {
     Lies(Extent),
     // The record has no such part or channel.

@@ -51,7 +51,7 @@ fn put_name(name: &[u8], out: &mut [u8])
     ensures { out.new ≡ front (name.now ++ replicate (fixed_size Kind.ConfigurationName - length name.now) 0) out.old }
 {
     let end = name.len();
-    bytes::copy(name, &mut out[0..]);
+    mrd_bytes::copy(name, &mut out[0..]);
     put_zeros(&mut out[end..], Kind::NAME_FIXED - end);
 }
 
@@ -61,7 +61,7 @@ fn put_text(text: &[u8], out: &mut [u8])
     ensures { out.new ≡ front (to_bytes 4 (length text.now) ++ text.now) out.old }
 {
     put_u32(&mut out[0..], text.len() as u32);
-    bytes::copy(text, &mut out[Kind::TEXT_FIXED..]);
+    mrd_bytes::copy(text, &mut out[Kind::TEXT_FIXED..]);
 }
 
 // An acquisition's header, its trajectory and its samples.
@@ -70,7 +70,7 @@ fn put_acquisition(header: &[u8], trajectory: &[u8], samples: &[u8], out: &mut [
     ensures { out.new ≡ front (header.now ++ (trajectory.now ++ samples.now)) out.old }
 {
     let body = header.len();
-    bytes::copy(header, &mut out[0..]);
+    mrd_bytes::copy(header, &mut out[0..]);
     put_joined(trajectory, samples, &mut out[body..]);
 }
 
@@ -96,7 +96,7 @@ fn put_image_header(header: &[u8], count: usize, out: &mut [u8])
         out.old }
 {
     let end = Kind::ATTRIBUTE_STRING_LEN;
-    bytes::copy(&header[0..end], &mut out[0..]);
+    mrd_bytes::copy(&header[0..end], &mut out[0..]);
     put_u32(&mut out[end..], count as u32);
     put_u64(&mut out[Kind::IMAGE_HEADER..], count as u64);
 }
@@ -116,6 +116,6 @@ fn put_joined(first: &[u8], second: &[u8], out: &mut [u8])
     ensures { out.new ≡ front (first.now ++ second.now) out.old }
 {
     let end = first.len();
-    bytes::copy(first, &mut out[0..]);
-    bytes::copy(second, &mut out[end..]);
+    mrd_bytes::copy(first, &mut out[0..]);
+    mrd_bytes::copy(second, &mut out[end..]);
 }

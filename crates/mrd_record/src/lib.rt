@@ -2,6 +2,8 @@
 //
 // `place_at` has no `requires`: any cursor gets an answer. `fixed_part` asks that the record lies in the
 // stream, as every answered place does. Nothing is copied. Assumes nothing.
+#![tactic(auto)]
+
 mod record;
 
 pub use record::{fixed_part, place_at};

@@ -13,7 +13,6 @@ use Rattle.mrd_stream.specs.Output.{output_by}
 use Rattle.mrd_cut.specs.Walked.{pieces_of}
 use Rattle.mrd_salvage.specs.declared.report.Report.{Report}
 use Rattle.mrd_salvage.specs.declared.report.Salvaged.{Salvaged}
-use Rattle.mrd_salvage.specs.declared.report.Salvaged
 
 -- 'every message before the faulty one', in order; of an accepted stream all
 abbrev pub before : Rules → List ℕ → List (List ℕ)

@@ -2,6 +2,8 @@
 //
 // No public function here has a `requires`: any bytes and any output get an answer, and 14 is the only refusal, which
 // writes no byte. One walk finds what is kept, one copy writes it. Assumes nothing.
+#![tactic(auto)]
+
 mod reach;
 mod report;
 
@@ -43,7 +45,7 @@ fn put_kept(kept: &[u8], add: bool, out: &mut [u8])
     requires { length kept.now + length (closing add) ≤ length out.old }
     ensures { out.new ≡ front (kept.now ++ closing add) out.old }
 {
-    bytes::copy(kept, out);
+    mrd_bytes::copy(kept, out);
     if add {
         put_u16(&mut out[kept.len()..], Kind::CLOSE);
     }

@@ -9,7 +9,7 @@ use mrd_judge::{Judgement, MAX_MESSAGES, judge, judge_text};
 
 // Where a walk stops, at the first fault or at the end: how many messages it has passed, where the last of them ends
 // and where it starts, and whether it is a close.
-#[derive(Drop)]
+#[derive(Clone, Copy)]
 pub(crate) struct Reach {
     pub number: usize,
     pub end: usize,

@@ -6,7 +6,7 @@ use mrd_format::Kind;
 
 // What is kept of a stream: how many of its messages; how many of its bytes are not; whether a close was added, which
 // is none of these messages; and the length of what is written.
-#[derive(Drop)]
+#[derive(Clone, Copy)]
 pub struct Report {
     pub messages_kept: usize,
     pub bytes_not_kept: usize,
@@ -15,7 +15,7 @@ pub struct Report {
 }
 
 // The answer of the call that writes.
-#[derive(Drop)]
+#[derive(Clone, Copy)]
 pub enum Salvaged {
     // The salvaged stream stands at the output's front.
     Written(Report),

@@ -7,7 +7,6 @@ use Rattle.mrd_format.specs.declared.rules.Rules.{Rules}
 use Rattle.mrd_format.specs.declared.rules.Layout.{Layout}
 use Rattle.mrd_format.specs.declared.rules.Profile.{Profile}
 use Rattle.mrd_format.specs.declared.rules.Profile.TheVariants.{Plain, Strict}
-use Rattle.mrd_format.specs.declared.kind.Kind
 use Rattle.mrd_format.specs.Kinds.{identified}
 use Rattle.mrd_format.specs.Profiles.{rules_by, encoded}
 use Rattle.mrd_utf8.specs.Fold.{begun, next, utf8_of}

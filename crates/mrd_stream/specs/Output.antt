@@ -6,7 +6,6 @@ use Rattle.std.proofs.Common.{sym}
 use Rattle.std.proofs.Math.Path.{ap}
 use borrow.Author.Tests.{lt-ltb, le-ltb}
 use Rattle.mrd_stream.specs.declared.answer.Written.{Written}
-use Rattle.mrd_stream.specs.declared.answer.Written
 use Rattle.mrd_logic.specs.Answer.{Verdict, accepted, refused, Answer, answered, stream, number, unless_refused}
 use Rattle.mrd_logic.specs.Choice.{pick}
 use Rattle.mrd_stream.specs.Walk.{answer}

@@ -2,11 +2,8 @@
 -- Assumes nothing.
 use Rattle.mrd_format.specs.Shapes.{kind_of, shape_numbers}
 use Rattle.mrd_stream.specs.declared.answer.Checked.{Checked}
-use Rattle.mrd_stream.specs.declared.answer.Checked
 use Rattle.mrd_stream.specs.declared.answer.Placed.{Placed}
-use Rattle.mrd_stream.specs.declared.answer.Placed
 use Rattle.mrd_stream.specs.declared.answer.Step.{Step}
-use Rattle.mrd_stream.specs.declared.answer.Step
 use Rattle.mrd_stream.specs.declared.answer.PlacedRecord.{PlacedRecord}
 use Rattle.mrd_logic.specs.Answer.{Verdict, accepted, refused, Answer, answered, stream, number}
 use Rattle.mrd_stream.specs.Places.{Located, Stepped, yields, over}

@@ -1,7 +1,7 @@
 -- A record's place found in one walk: what is held on the way, and that it is the place asked for.
 -- Assumes nothing.
 use Rattle.std.specs.Prelude.{ℕ, zero, suc, pred, ◌+◌, ◌<◌, ◌≡◌, refl, List, [], ◌∷◌, eqb}
-use Rattle.std.proofs.Common.{add-one, arith, sym, ap, subst, eq-eqb, ne_eqb}
+use Rattle.std.proofs.Common.{add-one, arith, sym, ap, ◌∙◌, subst, eq-eqb, ne_eqb}
 use Rattle.mrd_format.specs.declared.kind.Kind.{Kind}
 use Rattle.mrd_format.specs.declared.rules.Rules.{Rules}
 use Rattle.mrd_cursor.specs.declared.cursor.Cursor.{Cursor}
@@ -45,7 +45,7 @@ seek-ahead zero i (message c k m r) u =
     rw (eq-eqb c.number (i + 0) here) (seek-past (i + 0) (suc i) (answered (located c k m)) r u.1 (omega arith))
 seek-ahead (suc d) i (message c k m r) u =
     let next : i + suc d ≡ suc i + d = omega arith in
-    rw (ne_eqb c.number (i + suc d) (λ e. omega (arith, u.0)), next) (seek-ahead d (suc i) r u.1)
+    rw (ne_eqb c.number (i + suc d) (λ e. omega (arith, u.0))) (ap (λ (n : ℕ). seek n (number 16) r) next ∙ seek-ahead d (suc i) r u.1)
 
 -- the messages that a walk meets are numbered from its cursor's number on
 pub walk-numbered : (rules : Rules) (t : List ℕ) (k : ℕ) (c : Cursor) → Numbered c.number (walk rules t k c)

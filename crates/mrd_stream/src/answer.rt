@@ -4,7 +4,7 @@ use mrd_format::Shape;
 
 // Why a stream is refused: the number of refusal, the record it met, counted from 0, and the byte
 // where that message starts.
-#[derive(Drop)]
+#[derive(Clone, Copy)]
 pub struct Refusal {
     pub number: u8,
     pub record: usize,
@@ -12,7 +12,7 @@ pub struct Refusal {
 }
 
 // The stream's answer.
-#[derive(Drop)]
+#[derive(Clone, Copy)]
 pub enum Checked {
     // Accepted, with the number of its records.
     Accepted(usize),
@@ -20,7 +20,7 @@ pub enum Checked {
 }
 
 // Where a record lies: its number from 0, its first byte, and its size with the id.
-#[derive(Drop)]
+#[derive(Clone, Copy)]
 pub struct Place {
     pub number: usize,
     pub start: usize,
@@ -28,14 +28,14 @@ pub struct Place {
 }
 
 // A record's place, and beside it its kind with that kind's own numbers.
-#[derive(Drop)]
+#[derive(Clone, Copy)]
 pub struct PlacedRecord {
     pub place: Place,
     pub shape: Shape,
 }
 
 // What one step of a walk hands out.
-#[derive(Drop)]
+#[derive(Clone, Copy)]
 pub enum Step {
     // A message, and the cursor of what follows it.
     Message(PlacedRecord, Cursor),
@@ -44,7 +44,7 @@ pub enum Step {
 }
 
 // The answer about the place and kind of a record.
-#[derive(Drop)]
+#[derive(Clone, Copy)]
 pub enum Placed {
     Found(PlacedRecord),
     // The stream itself is refused.
@@ -54,7 +54,7 @@ pub enum Placed {
 }
 
 // The answer of a tool that writes to the front of an output.
-#[derive(Drop)]
+#[derive(Clone, Copy)]
 pub enum Written {
     // What was asked for stands at the output's front, with this length.
     Length(usize),

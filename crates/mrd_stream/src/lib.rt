@@ -2,6 +2,8 @@
 //
 // No public function here has a `requires`: any bytes, any number and any cursor get an answer. Nothing
 // is copied, nothing is kept, and no payload byte is read. Assumes nothing.
+#![tactic(auto)]
+
 mod answer;
 mod reader;
 

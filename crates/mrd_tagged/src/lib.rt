@@ -3,6 +3,8 @@
 //
 // Each function asks that its bytes lie in the slice; the callers, all proved, have tested the whole field before.
 // Assumes nothing.
+#![tactic(auto)]
+
 mod put;
 mod same;
 

@@ -2,6 +2,8 @@
 // one.
 //
 // `message_is_utf8` asks that the message has its kind's size; its callers, all proved, give it so. Assumes nothing.
+#![tactic(auto)]
+
 mod texts;
 
 pub use texts::{encoded, message_is_utf8};

@@ -2,6 +2,8 @@
 //
 // Any octets get an answer. One pass: blocks of ASCII by their highest octet, other text a whole character at a
 // time, and octet by octet only what a part ends with, and what follows a fault. Assumes nothing.
+#![tactic(auto)]
+
 ghost use Rattle.std.specs.Prelude.{◌≡◌, [], ◌∷◌, ◌≤◌, ◌<◌};
 ghost use Rattle.mrd_utf8.specs.Utf8.{rows, inside, tail};
 ghost use Rattle.mrd_utf8.specs.Fold.{never, begun, next, run, done, utf8_of};
@@ -13,7 +15,7 @@ const BLOCK: usize = 32;
 
 // What is known of the octets read so far: how many more are due to end the character, and the range of the
 // first of these; the others are tails. Where none is due the range says nothing.
-#[derive(Drop)]
+#[derive(Clone, Copy)]
 pub struct State {
     due: u8,
     lo: u8,

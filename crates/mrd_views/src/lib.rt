@@ -2,6 +2,8 @@
 //
 // No public function here has a `requires`: any bytes, any record number, any cursor and any part get an
 // answer. Nothing is copied: a view is a part of the given stream. Assumes nothing.
+#![tactic(auto)]
+
 mod at_cursor;
 mod views;
 

@@ -12,14 +12,14 @@ use mrd_record::fixed_part;
 use mrd_stream::{Placed, PlacedRecord, Refusal};
 
 // Where a view lies in the stream: its first byte and its length.
-#[derive(Drop)]
+#[derive(Clone, Copy)]
 pub struct Span {
     pub start: usize,
     pub length: usize,
 }
 
 // The answer about a view's place.
-#[derive(Drop)]
+#[derive(Clone, Copy)]
 pub enum ViewPlace {
     At(Span),
     // The stream itself is refused.

@@ -3,7 +3,7 @@
 use Rattle.std.specs.Prelude.{ℕ, zero, suc, ◌+◌, ◌-◌, ◌≤◌, ◌<◌, ◌≡◌, refl, Bool, true, false, List, [], ◌∷◌, ◌++◌, eqb, ltb, length, replicate}
 use Rattle.std.proofs.Common.{zero-add, add-zero, suc-add, not-suc-le-zero, le_of_suc-le-suc, arith, sym, ap, ◌∙◌, lt-ltb, le-ltb, ltb-false}
 use Rattle.std.proofs.lemmas.Bool.{lt-leb}
-use Rattle.bytes.specs.Bytes.{index_of, index_after}
+use Rattle.mrd_bytes.specs.Bytes.{index_of, index_after}
 use Rattle.mrd_logic.specs.Answer.{answered, number}
 use Rattle.mrd_logic.specs.Choice.{neither}
 use Rattle.mrd_logic.specs.Checks.{Check, ◌when◌, first, unless}

@@ -2,7 +2,7 @@
 -- kind, the given header, the given name and the given parts' lengths.
 -- Assumes nothing.
 use Rattle.std.specs.Prelude.{ℕ, ◌+◌, Bool, false, not, ◌||◌, ◌&&◌, List, [], ◌∷◌, ◌++◌, eqb, ltb, length}
-use Rattle.bytes.specs.Bytes.{index_of}
+use Rattle.mrd_bytes.specs.Bytes.{index_of}
 use Rattle.mrd_format.specs.declared.kind.Kind.{Kind}
 use Rattle.mrd_format.specs.Kinds.{form_of, fixed_size, header_size}
 use Rattle.mrd_format.specs.Parts as part
@@ -16,7 +16,6 @@ use Rattle.mrd_format.specs.Message.{limit, own_checks}
 use Rattle.mrd_format.specs.Content.{fixed_by}
 use Rattle.mrd_write_checks.specs.declared.lengths.Lengths.{Lengths}
 use Rattle.mrd_write_checks.specs.declared.contents.ContentsJudged.{ContentsJudged}
-use Rattle.mrd_write_checks.specs.declared.contents.ContentsJudged
 
 -- 'writer: name over 1,023 bytes or holding a zero'
 unfoldable pub name_unfit : List ℕ → Bool

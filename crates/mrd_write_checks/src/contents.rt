@@ -12,7 +12,7 @@ use mrd_acquisition::trajectory_size;
 use mrd_format::size::{MAX_MESSAGE_SIZE, cap};
 use mrd_format::{Kind, refusal};
 
-#[derive(Drop)]
+#[derive(Clone, Copy)]
 pub enum ContentsJudged {
     // The size of the message, id included.
     Size(usize),
@@ -66,7 +66,7 @@ fn checked_name(name: &[u8]) -> ContentsJudged
     if Kind::NAME_FIXED <= name.len() {
         return ContentsJudged::Refused(refusal::NAME);
     }
-    if bytes::scan::find(name, 0, name.len(), 0) < name.len() {
+    if mrd_bytes::find(name, 0) < name.len() {
         return ContentsJudged::Refused(refusal::NAME);
     }
     ContentsJudged::Size(Kind::ID_SIZE + Kind::NAME_FIXED)

@@ -2,7 +2,7 @@
 ghost use Rattle.std.specs.Prelude.{◌≡◌};
 ghost use Rattle.mrd_write_checks.specs.WriteChecks.{part_lengths, same_lengths};
 
-#[derive(Drop)]
+#[derive(Clone, Copy)]
 pub struct Lengths {
     pub name: usize,
     pub text: usize,

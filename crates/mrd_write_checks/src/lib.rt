@@ -2,6 +2,8 @@
 // in order, and then 18.
 //
 // The public function has no `requires`: any kind, header, name and lengths get an answer. Assumes nothing.
+#![tactic(auto)]
+
 mod contents;
 mod lengths;
 

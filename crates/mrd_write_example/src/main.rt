@@ -1,11 +1,13 @@
 // Writes a small stream message by message, each from the position that the one before it gave, has the
 // reader check it, and shows what the views of its records are.
+#![tactic(auto)]
+
 mod views;
 
-use libc::STDOUT_FILENO;
 use mrd_format::{Kind, Layout, Profile, Rules};
 use mrd_stream::Checked;
 use mrd_writer::WriteAnswer;
+use std::io;
 
 // Where elements of an acquisition's header start.
 const VERSION: usize = 0;
@@ -25,35 +27,31 @@ fn rules() -> Rules {
     }
 }
 
-fn main() {
+fn main(rt: HostRuntime) -> io::Result<()> {
     let mut out = [0u8; 2048];
-    let named = put_name(&mut out, 0);
-    let headed = put_header(&mut out, named);
-    let measured = put_readout(&mut out, headed);
-    let end = put_close(&mut out, measured);
-    read_back(&out, end);
+    let named = put_name(&rt, &mut out, 0)?;
+    let headed = put_header(&rt, &mut out, named)?;
+    let measured = put_readout(&rt, &mut out, headed)?;
+    let end = put_close(&rt, &mut out, measured)?;
+    read_back(&rt, &out, end)
 }
 
 // The position after a message, which is printed; where the message was refused, its number is printed
 // and the position stays.
-fn after(written: WriteAnswer, position: usize) -> usize {
+fn after(rt: &impl Print, written: WriteAnswer, position: usize) -> io::Result<usize> {
     match written {
         WriteAnswer::To(next) => {
-            io::write_all(STDOUT_FILENO, b"written to ");
-            io::print_decimal(STDOUT_FILENO, next as u64);
-            io::write_all(STDOUT_FILENO, b"\n");
-            next
+            println!(rt; "written to {next}")?;
+            Ok(next)
         }
         WriteAnswer::Refused(number) => {
-            io::write_all(STDOUT_FILENO, b"refused ");
-            io::print_decimal(STDOUT_FILENO, number as u64);
-            io::write_all(STDOUT_FILENO, b"\n");
-            position
+            println!(rt; "refused {number}")?;
+            Ok(position)
         }
     }
 }
 
-fn put_name(out: &mut [u8], position: usize) -> usize {
+fn put_name(rt: &impl Print, out: &mut [u8], position: usize) -> io::Result<usize> {
     let id = Kind::CONFIGURATION_NAME;
     let written = mrd_writer::write(
         rules(),
@@ -69,10 +67,10 @@ fn put_name(out: &mut [u8], position: usize) -> usize {
         out,
         position,
     );
-    after(written, position)
+    after(rt, written, position)
 }
 
-fn put_header(out: &mut [u8], position: usize) -> usize {
+fn put_header(rt: &impl Print, out: &mut [u8], position: usize) -> io::Result<usize> {
     let id = Kind::HEADER_TEXT;
     let written = mrd_writer::write(
         rules(),
@@ -88,12 +86,12 @@ fn put_header(out: &mut [u8], position: usize) -> usize {
         out,
         position,
     );
-    after(written, position)
+    after(rt, written, position)
 }
 
 // An acquisition of four samples in one of two channels, with no trajectory. Its samples, 8 bytes each, are words
 // here, so that they can be read where they are shown.
-fn put_readout(out: &mut [u8], position: usize) -> usize {
+fn put_readout(rt: &impl Print, out: &mut [u8], position: usize) -> io::Result<usize> {
     let mut header = [0u8; Kind::ACQUISITION_FIXED];
     header[VERSION] = 1;
     header[NUMBER_OF_SAMPLES] = 4;
@@ -115,10 +113,10 @@ fn put_readout(out: &mut [u8], position: usize) -> usize {
         out,
         position,
     );
-    after(written, position)
+    after(rt, written, position)
 }
 
-fn put_close(out: &mut [u8], position: usize) -> usize {
+fn put_close(rt: &impl Print, out: &mut [u8], position: usize) -> io::Result<usize> {
     let id = Kind::CLOSE;
     let written = mrd_writer::write(
         rules(),
@@ -134,24 +132,20 @@ fn put_close(out: &mut [u8], position: usize) -> usize {
         out,
         position,
     );
-    after(written, position)
+    after(rt, written, position)
 }
 
 // What the reader finds in out up to `end`.
-fn read_back(out: &[u8], end: usize) {
+fn read_back(rt: &impl Print, out: &[u8], end: usize) -> io::Result<()> {
     if out.len() < end {
-        return;
+        return Ok(());
     }
     match mrd_stream::check(rules(), &out[0..end]) {
-        Checked::Accepted(count) => {
-            io::write_all(STDOUT_FILENO, b"accepted, records ");
-            io::print_decimal(STDOUT_FILENO, count as u64);
-        }
+        Checked::Accepted(count) => println!(rt; "accepted, records {count}")?,
         Checked::Refused(refusal) => {
-            io::write_all(STDOUT_FILENO, b"refused ");
-            io::print_decimal(STDOUT_FILENO, refusal.number as u64);
+            let number = refusal.number;
+            println!(rt; "refused {number}")?;
         }
     }
-    io::write_all(STDOUT_FILENO, b"\n");
-    views::show(rules(), &out[0..end]);
+    views::show(rt, rules(), &out[0..end])
 }

@@ -2,7 +2,7 @@
 -- Assumes nothing.
 use Rattle.std.specs.Prelude.{ℕ, ◌+◌, ◌*◌, ◌≤◌, ◌<◌, ◌≡◌, refl, Bool, true, false, List, [], ◌∷◌, ◌++◌, eqb, length, take, drop}
 use Rattle.std.proofs.Common.{le_of_eq, arith, sym, ap, ap₂, subst, ◌∙◌, le-ltb, take-take}
-use Rattle.bytes.specs.Bytes.{index_of, index_after}
+use Rattle.mrd_bytes.specs.Bytes.{index_of, index_after}
 use Rattle.mrd_numbers.specs.Little.{to_bytes, Bytes}
 use Rattle.mrd_logic.specs.Every.{Every, every_split}
 use Rattle.mrd_logic.specs.Checks.{Check, ◌when◌, first, Passed}

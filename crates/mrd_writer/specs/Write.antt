@@ -15,7 +15,6 @@ use Rattle.mrd_format.specs.Content.{message_of}
 use Rattle.mrd_format.specs.Profiles.{texts_in, encoded}
 use Rattle.mrd_write_checks.specs.WriteChecks.{lengths_of, given_size, given_checks, judged}
 use Rattle.mrd_writer.specs.declared.answer.WriteAnswer.{WriteAnswer}
-use Rattle.mrd_writer.specs.declared.answer.WriteAnswer
 
 -- what each case of the enum says: the position after the message, or 'the number alone'
 abbrev pub write_meaning : WriteAnswer → Answer ℕ

@@ -1,6 +1,6 @@
 // What the writer answers.
 
-#[derive(Drop)]
+#[derive(Clone, Copy)]
 pub enum WriteAnswer {
     // The message was written up to this position, the first after it.
     To(usize),

@@ -2,6 +2,8 @@
 //
 // The public function has no `requires`: any id, header, parts, output and position get an answer. A
 // refusal changes no byte of the output, and a message no byte before or after itself. Assumes nothing.
+#![tactic(auto)]
+
 mod answer;
 mod writer;
 

@@ -2,6 +2,8 @@
 // the same bytes, and a benchmark times both. This is no part of the library.
 //
 // No exported function has a `requires`: any slice and any place get an answer. Assumes nothing.
+#![tactic(auto)]
+
 mod old;
 
 ghost use Rattle.std.specs.Prelude.{◌≡◌, ◌+◌, leb};

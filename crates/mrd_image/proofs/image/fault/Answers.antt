@@ -1,0 +1,31 @@
+-- `mrd_image::image::fault` meets its contract: the header's checks decide, and then check 9.
+-- Assumes nothing.
+use Prim.Native.Nat.{ℕ}
+use mathlib.Core.Path.{◌≡◌, refl, sym, ◌∙◌}
+use mathlib.Core.Bool.{Bool}
+use mathlib.Core.List.{List, [], ◌∷◌}
+use Rattle.mrd_logic.specs.Checks.{◌when◌, first}
+use Rattle.mrd_logic.specs.CheckLaws.{first_decides, first_next}
+use Rattle.mrd_format.specs.Image.{lengths_differ, header_checks, checks}
+use Rattle.mrd_image.proofs.image.fault.Goals as goal
+
+-- where the header passes, check 9 decides
+last : (h : List ℕ) {b : Bool} → first (header_checks h) ≡ 0 → b ≡ lengths_differ h → first ((9 when b) ∷ []) ≡ first (checks h)
+unfolding checks header_checks
+last h passed e = rw e (sym (first_next (header_checks h) ((9 when lengths_differ h) ∷ []) refl passed))
+
+pub returns-then-header-ne0 : goal.returns-then-header-ne0
+unfolding checks
+returns-then-header-ne0 c =
+    let h = c.args.h.now in
+    sym (first_decides (header_checks h) _ (sym c.header_fault-header.ensures) c.if-header-ne0.true)
+
+pub returns-then-lengths_differ : goal.returns-then-lengths_differ
+returns-then-lengths_differ c =
+    last c.args.h.now (sym c.header_fault-header.ensures ∙ c.if-header-ne0.false)
+    (sym c.if-lengths_differ.true ∙ c.lengths_differ.ensures)
+
+pub returns : goal.returns
+returns c =
+    last c.args.h.now (sym c.header_fault-header.ensures ∙ c.if-header-ne0.false)
+    (sym c.if-lengths_differ.false ∙ c.lengths_differ.ensures)

@@ -1,0 +1,11 @@
+-- `mrd_image::image::lengths_differ` meets its contract: the two tests are the definition's, of the numbers read at their offsets.
+-- Assumes nothing.
+use borrow.Author.Tests.{ne_eqb, eq-eqb}
+use Rattle.mrd_image.proofs.image.lengths_differ.Goals as goal
+
+pub returns-then-number-eq0 : goal.returns-then-number-eq0
+returns-then-number-eq0 c = simp (← c.read_u32-number.ensures, eq-eqb _ _ c.if-number-eq0.true)
+
+pub returns : goal.returns
+returns c =
+    simp (← c.read_u32-number.ensures, ne_eqb _ _ c.if-number-eq0.false, ← c.attribute_length.ensures)

@@ -1,0 +1,13 @@
+-- `mrd_normal::messages::put_messages` meets its contract. The loop's invariant: out holds the normal form of the messages that were passed, and
+-- then what was there before. The measure is the bytes of the stream left.
+-- Assumes nothing.
+use Prim.Native.Nat.{◌-◌}
+use lib.ListN.{length}
+use Rattle.mrd_normal.specs.Putting.{Putting}
+use Rattle.mrd_normal.proofs.messages.put_messages.Given as goal
+
+abbrev pub invariant-loop-rules : goal.invariant-loop-rules
+invariant-loop-rules l = Putting l.rules l.s l.initial.out l.c l.out
+
+abbrev pub decreases-loop-rules : goal.decreases-loop-rules
+decreases-loop-rules l = length l.s - l.c.start

@@ -1,0 +1,10 @@
+-- `mrd_stream::reader::concluded` meets its contract: it goes by the stream's answer.
+-- Assumes nothing.
+use mathlib.Core.Path.{sym, ap}
+use Rattle.mrd_logic.specs.Answer.{unless_refused}
+use Rattle.mrd_stream.specs.ReaderMeaning.{placed_meaning, checked_meaning}
+use Rattle.mrd_stream.proofs.reader.concluded.Goals as goal
+
+pub returns-in-Refused : goal.returns-in-Refused
+returns-in-Refused c = let a = c.args in sym
+    (ap (λ v. unless_refused (checked_meaning v) (placed_meaning a.found)) c.in-Refused.is)

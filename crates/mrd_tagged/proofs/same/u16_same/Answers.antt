@@ -1,0 +1,12 @@
+-- `mrd_tagged::u16_same` meets its contract: bytes that make the number are its bytes.
+-- Assumes nothing.
+use mathlib.Core.Path.{sym, ap, ◌∙◌}
+use lib.Dec.{eqb}
+use Rattle.mrd_tagged.specs.TaggedLaws.{number_same}
+use Rattle.mrd_tagged.proofs.same.u16_same.Goals as goal
+
+pub returns : goal.returns
+returns c =
+    let a = c.args in
+    ap (λ n. eqb n a.v) c.read_u16.ensures ∙
+    sym (number_same 2 a.v a.s.now a.at c.shared_slice_known-1.given c.requires c.ranges.v.fits)

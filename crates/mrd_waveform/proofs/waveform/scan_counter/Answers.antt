@@ -1,0 +1,15 @@
+-- `mrd_waveform::scan_counter` meets its contract: the number is read at its offset.
+-- Assumes nothing.
+use native.Mathlib.Omega.{arith}
+use Rattle.mrd_format.specs.Waveform.{scan-counter}
+use Rattle.mrd_format.specs.WaveformLaws.{elements-within, offset_in_lem, read_there}
+use Rattle.mrd_waveform.proofs.waveform.scan_counter.Goals as goal
+
+pub read_u32-requires : goal.read_u32-requires
+read_u32-requires c =
+    omega (arith, offset_in_lem c.args.layout scan-counter c.offsets-at.ensures, c.requires, (elements-within c.args.layout).1.1.1.0)
+
+pub returns : goal.returns
+returns c =
+    let a = c.args in
+    read_there a.layout scan-counter a.h.now (offset_in_lem a.layout scan-counter c.offsets-at.ensures) c.read_u32.ensures

@@ -7,7 +7,7 @@ use Rattle.mrd_logic.specs.Answer.{Verdict, accepted, refused, Answer, answered,
 use Rattle.mrd_stream.specs.Walk.{answer}
 use Rattle.mrd_stream.specs.Index.{index}
 use Rattle.mrd_stream.specs.Places.{place}
-use Rattle.mrd_cut.specs.Walked.{refused-not-accepted}
+use Rattle.mrd_cut.proofs.WalkedLaws.{refused-not-accepted}
 use Rattle.mrd_index_match.specs.Compare.{file_match, columns_match}
 use Rattle.mrd_index_match.specs.Exactly.{Held, Accepted, Exactly, believed-exactly}
 use Rattle.mrd_views.specs.Views.{view_of}

@@ -9,8 +9,8 @@ use Rattle.mrd_format.specs.declared.rules.Rules.{Rules}
 use Rattle.mrd_logic.specs.Every.{Every}
 use Rattle.mrd_format.specs.WellFormed.{WellFormed}
 use Rattle.mrd_format.specs.Content.{Record, record_of, normal_of, bytes_of}
-use Rattle.mrd_format.specs.Rewritten.{record_writes}
-use Rattle.mrd_format.specs.NormalLaws.{well-normalised, normal-well}
+use Rattle.mrd_format.proofs.Rewritten.{record_writes}
+use Rattle.mrd_format.proofs.NormalLaws.{well-normalised, normal-well}
 use Rattle.mrd_logic.specs.Joined.{joined}
 use Rattle.mrd_cut.specs.Cut.{kinds_in}
 use Rattle.mrd_cut.specs.Each.{each_in, each-count}

@@ -9,7 +9,7 @@ use Rattle.mrd_format.specs.Message.{fixed_part, numbers_of}
 use Rattle.mrd_format.specs.MessageLaws.{well-least}
 use Rattle.mrd_stream.specs.Places.{Located, place}
 use Rattle.mrd_cut.specs.CutPlaces.{part_at}
-use Rattle.mrd_cut.specs.Inside.{place_inside}
+use Rattle.mrd_cut.proofs.InsideLaws.{place_inside}
 use Rattle.mrd_format.specs.declared.rules.Rules.{Rules}
 
 -- the fixed part of record i is the bytes after its id

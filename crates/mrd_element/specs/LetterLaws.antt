@@ -11,7 +11,8 @@ use Rattle.mrd_format.specs.Elements.{ElementType, u16, u32, u64, i32, f32, widt
 use Rattle.mrd_format.specs.declared.rules.Layout.{Layout}
 use Rattle.mrd_format.specs.declared.rules.WaveformOffsets.{WaveformOffsets}
 use Rattle.mrd_format.specs.Waveform.{Field, type_of, offset, offsets_of}
-use Rattle.mrd_format.specs.WaveformLaws.{offset_in, offset_in_lem}
+use Rattle.mrd_format.specs.Waveform.{offset_in}
+use Rattle.mrd_format.proofs.WaveformLaws.{offset_in_lem}
 use Rattle.mrd_element.specs.Element.{Start, starts, none, starts_among, type_at}
 use Rattle.mrd_element.specs.Letters.{letter_of, letter_among}
 

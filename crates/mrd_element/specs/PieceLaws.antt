@@ -13,12 +13,14 @@ use Rattle.mrd_format.specs.declared.kind.Kind.{Kind}
 use Rattle.mrd_format.specs.declared.rules.Layout.TheVariants.{Packed, Aligned}
 use Rattle.mrd_format.specs.Elements.{ElementType, u16, u32, u64, i32, f32, Run, width}
 use Rattle.mrd_format.specs.Headers.{Cell, field, length_of, gap, runs, run_size}
-use Rattle.mrd_format.specs.HeaderLaws.{lawful, acquisition-lawful, image_lawful, waveform-lawful}
+use Rattle.mrd_format.specs.Lawful.{lawful}
+use Rattle.mrd_format.proofs.HeaderLaws.{acquisition-lawful, image_lawful, waveform-lawful}
 use Rattle.mrd_format.specs.Parts.{Extent, extent}
 use Rattle.mrd_format.specs.Kinds.{form_of, header_size}
 use Rattle.mrd_format.specs.Holding.{holds, holding, evenly}
-use Rattle.mrd_format.specs.AdjoinLaws.{Adjoins, adjoins_append, evenly-adjoin}
-use Rattle.mrd_format.specs.HoldingLaws.{holds_true, held, held-once, found-held, found-there}
+use Rattle.mrd_format.specs.Adjoining.{Adjoins}
+use Rattle.mrd_format.proofs.AdjoinLaws.{adjoins_append, evenly-adjoin}
+use Rattle.mrd_format.proofs.HoldingLaws.{holds_true, held, held-once, found-held, found-there}
 use Rattle.mrd_element.specs.declared.byte.ElementPlace.{ElementPlace}
 use Rattle.mrd_element.specs.declared.byte.HeaderByte.TheVariants.{Element, Filler}
 use Rattle.mrd_element.specs.Element.{Start, starts, none, starts_among, type_at, element_at}

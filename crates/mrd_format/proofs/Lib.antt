@@ -1,1 +1,11 @@
 pub mod Arms
+pub mod HeaderLaws
+pub mod AdjoinLaws
+pub mod HoldingLaws
+pub mod ExtentLaws
+pub mod ReachLaws
+pub mod ImageLaws
+pub mod WaveformLaws
+pub mod NormalLaws
+pub mod Made
+pub mod Rewritten

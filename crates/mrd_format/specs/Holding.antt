@@ -25,3 +25,13 @@ pub record OnlyIn {A : Type 0} (f : A → Extent) (xs : List A) (i n : ℕ) (x :
 abbrev pub evenly : ℕ → ℕ → ℕ → List Extent
 evenly zero at z = []
 evenly (suc n) at z = extent at z ∷ evenly n (at + z) z
+
+-- what the laws of places say of some things, each of which lies where f says
+module _ {A : Type 0} (f : A → Extent) where
+  -- byte i is found in one of them, and lies in no other
+  abbrev pub Once : List A → ℕ → Type 0
+  Once xs i = (n : ℕ) × ((x : A) × ((holding f xs i ≡ answered x) × OnlyIn f xs i n x))
+
+  -- x is one of them and holds byte i
+  abbrev pub Found : List A → ℕ → A → Type 0
+  Found xs i x = (n : ℕ) × (Nth xs n x × (holds (f x) i ≡ true))

@@ -1,6 +1,6 @@
 -- The image header (1022) with the 8-byte attribute length after it, the checks that it must pass, and the sizes it gives.
 -- Assumes nothing.
-use Rattle.std.specs.Prelude.{ℕ, ◌*◌, Bool, not, ◌||◌, List, [], ◌∷◌, ◌++◌, map, eqb, ltb, get_or}
+use Rattle.std.specs.Prelude.{ℕ, ◌+◌, ◌*◌, ◌≤◌, ◌≡◌, Bool, not, ◌||◌, List, [], ◌∷◌, ◌++◌, map, eqb, ltb, get_or}
 use Rattle.mrd_numbers.specs.Little.{num}
 use Rattle.mrd_format.specs.Elements.{Run, one, many, element, u16, u32, u64, i32, f32}
 use Rattle.mrd_format.specs.Headers.{Cell, field, length_of, runs}
@@ -122,3 +122,7 @@ form =
       counter = λ h. 0;
       uid = get measurement-uid;
     }
+
+-- headers that agree in every number of the record's fields pass the same checks, and have the same pixels
+abbrev pub Agree : List ℕ → List ℕ → Type 0
+Agree g h = (w i : ℕ) → i + w ≤ 194 → num w g i ≡ num w h i

@@ -118,3 +118,15 @@ form l =
       counter = get l scan-counter;
       uid = get l measurement-uid;
     }
+
+-- the offset of a field among those that the code has
+abbrev pub offset_in : WaveformOffsets → Field → ℕ
+offset_in w version = w.version
+offset_in w flags = w.flags
+offset_in w measurement-uid = w.measurement_uid
+offset_in w scan-counter = w.scan_counter
+offset_in w time-stamp = w.time_stamp
+offset_in w number-of-samples = w.number_of_samples
+offset_in w channels = w.channels
+offset_in w sample-time-us = w.sample_time_us
+offset_in w waveform-id = w.waveform_id

@@ -16,8 +16,8 @@ use Rattle.mrd_format.specs.Parts.{Part, channel, header, same, extent}
 use Rattle.mrd_format.specs.Segments.{PlacedPart, placed_part, channels_from}
 use Rattle.mrd_format.specs.Content.{placed_parts}
 use Rattle.mrd_format.specs.Holding.{holds, holding}
-use Rattle.mrd_format.specs.ReachLaws.{parts-adjoin}
-use Rattle.mrd_format.specs.HoldingLaws.{holds_true, found-held, found-there}
+use Rattle.mrd_format.proofs.ReachLaws.{parts-adjoin}
+use Rattle.mrd_format.proofs.HoldingLaws.{holds_true, found-held, found-there}
 use Rattle.mrd_element.specs.declared.byte.HeaderByte.{HeaderByte}
 use Rattle.mrd_element.specs.Pieces.{header_byte_of}
 use Rattle.mrd_parts.specs.Sought.{Sized}

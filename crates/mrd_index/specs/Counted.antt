@@ -9,7 +9,7 @@ use Rattle.mrd_stream.specs.Walk.{Trace, message, done, trace, answer}
 use Rattle.mrd_logic.specs.Answer.{accepted}
 use Rattle.mrd_stream.specs.Index.{entries_of, entries}
 use Rattle.mrd_cut.specs.Walked.{pieces_of}
-use Rattle.mrd_cut.specs.Accepted.{accepted-cut}
+use Rattle.mrd_cut.proofs.AcceptedLaws.{accepted-cut}
 use Rattle.mrd_format.specs.declared.rules.Rules.{Rules}
 
 one_each : (r : Trace) → length (entries_of r) ≡ length (pieces_of r)

@@ -16,10 +16,13 @@ use Rattle.mrd_cursor.specs.Cursors.{max_messages}
 use Rattle.mrd_stream.specs.Walk.{Trace}
 use Rattle.mrd_stream.specs.Places.{Located, located, places, place, step_at, step}
 use Rattle.mrd_stream.specs.Index.{Entry, entries_of, entries, start_column, id_column}
-use Rattle.mrd_cut.specs.Walked.{Walks, ends, faults, meets, walks}
-use Rattle.mrd_cut.specs.Steps.{step-well}
+use Rattle.mrd_cut.specs.Walked.{Walks}
+use Rattle.mrd_cut.specs.Walked.{ends, faults, meets}
+use Rattle.mrd_cut.proofs.WalkedLaws.{walks}
+use Rattle.mrd_cut.proofs.StepsLaws.{step-well}
 use Rattle.mrd_cut.specs.CutPlaces.{part_at}
-use Rattle.mrd_cut.specs.Inside.{Inside, place-nth, place_inside}
+use Rattle.mrd_cut.specs.Inside.{Inside}
+use Rattle.mrd_cut.proofs.InsideLaws.{place-nth, place_inside}
 use Rattle.mrd_record.specs.AtCursor.{place_by, place_at}
 use Rattle.mrd_views.specs.Views.{view_by, view_of}
 use Rattle.mrd_fields.specs.Fields.{field_by, field_of}

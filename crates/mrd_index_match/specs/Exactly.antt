@@ -9,7 +9,7 @@ use Rattle.mrd_logic.specs.Answer.{Verdict, accepted, refused, Answer, answered,
 use Rattle.mrd_logic.specs.AnswerLaws.{answered-not-number, answered-not-stream, stream-not-number}
 use Rattle.mrd_stream.specs.Walk.{answer}
 use Rattle.mrd_stream.specs.Index.{index, start_column, id_column, counter_column}
-use Rattle.mrd_cut.specs.Walked.{refused-not-accepted}
+use Rattle.mrd_cut.proofs.WalkedLaws.{refused-not-accepted}
 use Rattle.mrd_index_match.specs.Compare.{believed, file_match, columns_match}
 use Rattle.mrd_format.specs.declared.rules.Rules.{Rules}
 

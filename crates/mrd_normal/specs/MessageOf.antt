@@ -21,9 +21,10 @@ use Rattle.mrd_format.specs.Message.{limit, fixed_part, name_length, body_size, 
 use Rattle.mrd_format.specs.WellFormed.{WellFormed}
 use Rattle.mrd_format.specs.MessageLaws.{well-least}
 use Rattle.mrd_format.specs.Content.{normal_of}
-use Rattle.mrd_format.specs.NormalLaws.{name_bytes, name_short, name-ends, well-normalised}
-use Rattle.mrd_format.specs.ImageLaws.{image_normal}
-use Rattle.mrd_format.specs.WaveformLaws.{waveform-normal, cleared-long}
+use Rattle.mrd_format.specs.Normalised.{name_bytes}
+use Rattle.mrd_format.proofs.NormalLaws.{name_short, name-ends, well-normalised}
+use Rattle.mrd_format.proofs.ImageLaws.{image_normal}
+use Rattle.mrd_format.proofs.WaveformLaws.{waveform-normal, cleared-long}
 
 -- m is a well-formed message of kind k, by some rules
 abbrev pub MessageOf : Kind → List ℕ → Type 0

@@ -7,14 +7,14 @@ use Rattle.mrd_logic.specs.AnswerLaws.{answered-accepted}
 use Rattle.mrd_format.specs.declared.rules.Rules.{Rules}
 use Rattle.mrd_format.specs.Message.{fixed_part}
 use Rattle.mrd_format.specs.Holding.{holding}
-use Rattle.mrd_format.specs.HoldingLaws.{held, holding-here, holding-later, found-there}
+use Rattle.mrd_format.proofs.HoldingLaws.{held, holding-here, holding-later, found-there}
 use Rattle.mrd_cursor.specs.declared.cursor.Cursor.{Cursor}
 use Rattle.mrd_cursor.specs.Cursors.{beginning}
 use Rattle.mrd_stream.specs.Walk.{Trace, trace, verdict, answer, from}
 use Rattle.mrd_stream.specs.Places.{Located, located, places}
 use Rattle.mrd_stream.specs.StepLaws.{Passes, On, on-start, on-next, kept_next}
 use Rattle.mrd_cut.specs.CutPlaces.{part_at}
-use Rattle.mrd_cut.specs.Inside.{nth_inside}
+use Rattle.mrd_cut.proofs.InsideLaws.{nth_inside}
 use Rattle.mrd_parts.specs.Sought.{Sized}
 use Rattle.mrd_views.specs.ViewLaws.{fixed-sized}
 use Rattle.mrd_holding.specs.Held.{Held, part_holding}

@@ -16,9 +16,9 @@ use Rattle.mrd_format.specs.Acquisition as acquisition
 use Rattle.mrd_format.specs.Waveform.{header_bytes, cleared}
 use Rattle.mrd_format.specs.Kinds.{header_size}
 use Rattle.mrd_format.specs.Parts.{Contents, part_length}
-use Rattle.mrd_format.specs.HeaderLaws.{whole-settled, acquisition-lawful}
-use Rattle.mrd_format.specs.WaveformLaws.{cleared-long}
-use Rattle.mrd_format.specs.ImageLaws.{image_settled}
+use Rattle.mrd_format.proofs.HeaderLaws.{whole-settled, acquisition-lawful}
+use Rattle.mrd_format.proofs.WaveformLaws.{cleared-long}
+use Rattle.mrd_format.proofs.ImageLaws.{image_settled}
 use Rattle.mrd_format.specs.Content.{fixed_of, body_of, bytes_after_id}
 use Rattle.mrd_put.specs.Room.{Ready}
 

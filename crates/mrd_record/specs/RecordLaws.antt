@@ -15,8 +15,10 @@ use Rattle.mrd_stream.specs.Walk.{Trace, message, done, trace, verdict, answer}
 use Rattle.mrd_stream.specs.Places.{Located, located, places, nth, place, Stepped, yields, over, step}
 use Rattle.mrd_stream.specs.StepLaws.{Passes, over-not-yields, step-yields}
 use Rattle.mrd_cut.specs.CutPlaces.{part_at}
-use Rattle.mrd_cut.specs.Inside.{Inside, place_inside}
-use Rattle.mrd_cut.specs.Steps.{Yields, steps_follow}
+use Rattle.mrd_cut.specs.Inside.{Inside}
+use Rattle.mrd_cut.proofs.InsideLaws.{place_inside}
+use Rattle.mrd_cut.specs.Steps.{Yields}
+use Rattle.mrd_cut.proofs.StepsLaws.{steps_follow}
 use Rattle.mrd_record.specs.AtCursor.{place_by, place_at, LiesIn, Reached}
 use Rattle.mrd_format.specs.declared.rules.Rules.{Rules}
 

@@ -2,6 +2,5 @@ pub mod Salvage
 pub mod Examples
 pub mod Reached
 pub mod ReachLaws
-pub mod KeptLaws
-pub mod SavedLaws
-pub mod LongestLaws
+pub mod Saved
+pub mod Torn

@@ -17,7 +17,9 @@ use Rattle.mrd_stream.specs.Walk.{Trace, trace}
 use Rattle.mrd_stream.specs.Places.{Located, located}
 use Rattle.mrd_stream.specs.StepLaws.{Passes, On, on-start, on-next, on-end, step-yields}
 use Rattle.mrd_stream.specs.NextLaws as laws
-use Rattle.mrd_cut.specs.Walked.{Walks, ends, faults, meets, walks, met, pieces_of}
+use Rattle.mrd_cut.specs.Walked.{Walks, pieces_of}
+use Rattle.mrd_cut.specs.Walked.{ends, faults, meets}
+use Rattle.mrd_cut.proofs.WalkedLaws.{walks, met}
 use Rattle.mrd_salvage.specs.Salvage.{before, phase_in, close_added}
 use Rattle.mrd_salvage.specs.Reached.{reach_at, reach_from, reached}
 

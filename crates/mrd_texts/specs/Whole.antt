@@ -10,7 +10,7 @@ use Rattle.mrd_format.specs.Message.{limit, fixed_part, size_of}
 use Rattle.mrd_format.specs.MessageLaws.{size-least}
 use Rattle.mrd_format.specs.Parts.{Part, Reach, lies, lacks}
 use Rattle.mrd_format.specs.Content.{extent_of}
-use Rattle.mrd_format.specs.ReachLaws.{part-within}
+use Rattle.mrd_format.proofs.ReachLaws.{part-within}
 use Rattle.mrd_parts.specs.Sought.{Sized}
 
 -- m is as long as a message of kind k with its fixed part, and within the limit

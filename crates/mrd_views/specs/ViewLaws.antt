@@ -6,7 +6,7 @@ use Rattle.mrd_logic.specs.Answer.{Answer, answered, stream, number}
 use Rattle.mrd_format.specs.Message.{fixed_part, size_of}
 use Rattle.mrd_format.specs.Parts.{Part, Reach, lies, lacks}
 use Rattle.mrd_format.specs.Content.{extent_of}
-use Rattle.mrd_format.specs.ReachLaws.{part-within}
+use Rattle.mrd_format.proofs.ReachLaws.{part-within}
 use Rattle.mrd_parts.specs.declared.parts.Part as asked
 use Rattle.mrd_parts.specs.Sought.{part_meaning, Sized}
 use Rattle.mrd_stream.specs.Places.{Located}

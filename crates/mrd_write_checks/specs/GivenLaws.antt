@@ -18,10 +18,10 @@ use Rattle.mrd_format.specs.Waveform as waveform
 use Rattle.mrd_format.specs.Waveform.{cleared}
 use Rattle.mrd_format.specs.Kinds.{form_of, header_size}
 use Rattle.mrd_format.specs.Parts as part
-use Rattle.mrd_format.specs.HeaderLaws.{whole-settled, acquisition-lawful}
-use Rattle.mrd_format.specs.WaveformLaws.{same-checks, cleared-fields}
+use Rattle.mrd_format.proofs.HeaderLaws.{whole-settled, acquisition-lawful}
+use Rattle.mrd_format.proofs.WaveformLaws.{same-checks, cleared-fields}
 use Rattle.mrd_format.specs.Headers.{settled}
-use Rattle.mrd_format.specs.ImageLaws.{agree-checks, made-agrees}
+use Rattle.mrd_format.proofs.ImageLaws.{agree-checks, made-agrees}
 use Rattle.mrd_format.specs.Sizes.{capped}
 use Rattle.mrd_format.specs.Message.{limit, own_checks, body_size, size_of}
 use Rattle.mrd_write_checks.specs.declared.lengths.Lengths.{Lengths}

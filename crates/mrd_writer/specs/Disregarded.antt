@@ -14,11 +14,13 @@ use Rattle.mrd_format.specs.declared.kind.Identified.TheVariants.{Known}
 use Rattle.mrd_format.specs.Kinds.{id_of, identified}
 use Rattle.mrd_format.specs.Parts.{Parts, Contents, part_length}
 use Rattle.mrd_format.specs.Headers.{field, settled}
-use Rattle.mrd_format.specs.HeaderLaws.{SameFields, front-fields, settled_same}
+use Rattle.mrd_format.specs.Lawful.{SameFields}
+use Rattle.mrd_format.proofs.HeaderLaws.{front-fields, settled_same}
 use Rattle.mrd_format.specs.Image as image
-use Rattle.mrd_format.specs.ImageLaws.{Agree, agree-pixels}
+use Rattle.mrd_format.specs.Image.{Agree}
+use Rattle.mrd_format.proofs.ImageLaws.{agree-pixels}
 use Rattle.mrd_format.specs.Waveform as waveform
-use Rattle.mrd_format.specs.WaveformLaws as waveforms
+use Rattle.mrd_format.proofs.WaveformLaws as waveforms
 use Rattle.mrd_format.specs.Content.{fixed_of, body_of, bytes_after_id, message_of}
 use Rattle.mrd_write_checks.specs.WriteChecks.{given_fixed, given_own_checks, given_size, due_lengths, sized_checks, given_checks}
 use Rattle.mrd_writer.specs.Write.{contents_size, contents_checks, write_checks, answer_as, output_as, write_answer, write_output}

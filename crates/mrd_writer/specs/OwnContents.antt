@@ -18,13 +18,15 @@ use Rattle.mrd_format.specs.Message.{limit, fixed_part, own_checks, body_size, s
 use Rattle.mrd_format.specs.WellFormed.{WellFormed}
 use Rattle.mrd_format.specs.Content.{extent_of, contents_of, record_of, normal_of, message_of}
 use Rattle.mrd_format.specs.Profiles.{texts_in, Encoded}
-use Rattle.mrd_format.specs.NormalLaws.{name_bytes, name_short}
-use Rattle.mrd_format.specs.Rewritten.{part_length_lem, rewritten_normal}
+use Rattle.mrd_format.specs.Normalised.{name_bytes}
+use Rattle.mrd_format.proofs.NormalLaws.{name_short}
+use Rattle.mrd_format.proofs.Rewritten.{part_length_lem, rewritten_normal}
 use Rattle.mrd_format.specs.Parts.{Part, part_length}
 use Rattle.mrd_format.specs.Headers.{settled}
-use Rattle.mrd_format.specs.HeaderLaws.{whole-settled, acquisition-lawful}
-use Rattle.mrd_format.specs.WaveformLaws.{waveform-settled, cleared-fields, same-checks}
-use Rattle.mrd_format.specs.ImageLaws.{Agree, agree-checks, agree-pixels, agree-header, made-agrees}
+use Rattle.mrd_format.proofs.HeaderLaws.{whole-settled, acquisition-lawful}
+use Rattle.mrd_format.proofs.WaveformLaws.{waveform-settled, cleared-fields, same-checks}
+use Rattle.mrd_format.specs.Image.{Agree}
+use Rattle.mrd_format.proofs.ImageLaws.{agree-checks, agree-pixels, agree-header, made-agrees}
 use Rattle.mrd_format.specs.Acquisition as acquisition
 use Rattle.mrd_format.specs.Image as image
 use Rattle.mrd_format.specs.Waveform as waveform

@@ -20,12 +20,12 @@ use Rattle.mrd_format.specs.Parts.{Contents}
 use Rattle.mrd_format.specs.Content.{record_of, message_of, contents_record}
 use Rattle.mrd_format.specs.Profiles.{texts_in, Encoded}
 use Rattle.mrd_format.specs.ProfileLaws.{encoded-exactly}
-use Rattle.mrd_format.specs.Made.{made-record}
+use Rattle.mrd_format.proofs.Made.{made-record}
 use Rattle.mrd_cursor.specs.declared.cursor.Cursor.{Cursor}
 use Rattle.mrd_cursor.specs.Order.{allowed}
 use Rattle.mrd_cursor.specs.Cursors.{max_messages, after}
 use Rattle.mrd_stream.specs.Walk.{message, walk, from}
-use Rattle.mrd_cut.specs.Walked.{walk-well}
+use Rattle.mrd_cut.proofs.WalkedLaws.{walk-well}
 use Rattle.mrd_write_checks.specs.WriteChecks.{lengths_of}
 use Rattle.mrd_write_checks.specs.GivenLaws.{unless-answered, given-numbered}
 use Rattle.mrd_writer.specs.Write.{contents_size, contents_checks, text_checks, room_checks, write_checks, answer_as, output_as, write_answer, write_output}

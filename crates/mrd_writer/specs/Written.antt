@@ -23,12 +23,14 @@ use Rattle.mrd_format.specs.Acquisition as acquisition
 use Rattle.mrd_format.specs.Image as image
 use Rattle.mrd_format.specs.Waveform as waveform
 use Rattle.mrd_format.specs.Headers.{Cell, settled}
-use Rattle.mrd_format.specs.HeaderLaws.{lawful, acquisition-lawful, image_lawful, waveform-lawful, settled-long, whole-settled}
-use Rattle.mrd_format.specs.WaveformLaws.{waveform-settled, cleared-fields, same_size}
-use Rattle.mrd_format.specs.ImageLaws.{agree-pixels, made-agrees, made-number, made-count, number-passes}
+use Rattle.mrd_format.specs.Lawful.{lawful}
+use Rattle.mrd_format.proofs.HeaderLaws.{acquisition-lawful, image_lawful, waveform-lawful, settled-long, whole-settled}
+use Rattle.mrd_format.proofs.WaveformLaws.{waveform-settled, cleared-fields, same_size}
+use Rattle.mrd_format.proofs.ImageLaws.{agree-pixels, made-agrees, made-number, made-count, number-passes}
 use Rattle.mrd_format.specs.Content.{segments_of, extent_of, part_size, settled_by, fixed_of, bytes_after_id, message_of, Record, record_of, contents_record}
 use Rattle.mrd_format.specs.Profiles.{texts_in, Encoded}
-use Rattle.mrd_format.specs.Made.{Holds, Fitting, made-length, fixed-length, made-fixed, made-record}
+use Rattle.mrd_format.specs.Fitting.{Holds, Fitting}
+use Rattle.mrd_format.proofs.Made.{made-length, fixed-length, made-fixed, made-record}
 use Rattle.mrd_write_checks.specs.declared.lengths.Lengths.{Lengths}
 use Rattle.mrd_write_checks.specs.WriteChecks.{given_fixed, of_writer, given_own_checks, given_size, part_lengths, length_list, lengths_by, lengths_of, due_lengths}
 use Rattle.mrd_write_checks.specs.NameLaws.{name_bounds, name-ends}

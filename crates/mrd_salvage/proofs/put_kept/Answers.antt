@@ -1,6 +1,6 @@
 -- `mrd_salvage::put_kept` meets its contract: the bytes that are kept take the front, and the close's id follows them.
 -- Assumes nothing.
-use Rattle.mrd_salvage.specs.KeptLaws.{close_fits, put-closed, put_open}
+use Rattle.mrd_salvage.proofs.KeptLaws.{close_fits, put-closed, put_open}
 use Rattle.mrd_salvage.proofs.put_kept.Goals as goal
 
 pub put_u16-requires : goal.put_u16-requires

@@ -1,7 +1,7 @@
 -- `mrd_salvage::salvage` meets its contract: an output too short for what is saved is left as it is; else the bytes that are kept are put.
 -- Assumes nothing.
 use native.Mathlib.Nat.{sub-zero}
-use Rattle.mrd_salvage.specs.KeptLaws.{lost-within, output-short, room, output-fits}
+use Rattle.mrd_salvage.proofs.KeptLaws.{lost-within, output-short, room, output-fits}
 use Rattle.mrd_salvage.proofs.salvage.Goals as goal
 
 pub returns-then-out-report-clause-result_value : goal.returns-then-out-report-clause-result_value

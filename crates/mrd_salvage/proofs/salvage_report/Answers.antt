@@ -3,7 +3,7 @@
 use mathlib.Core.Path.{◌∙◌}
 use borrow.Author.Rules.{rules}
 use Rattle.mrd_salvage.specs.ReachLaws.{reached-within}
-use Rattle.mrd_salvage.specs.KeptLaws.{report-reached}
+use Rattle.mrd_salvage.proofs.KeptLaws.{report-reached}
 use Rattle.mrd_salvage.proofs.salvage_report.Goals as goal
 
 pub report-requires : goal.report-requires

@@ -7,7 +7,7 @@ use Rattle.mrd_format.specs.declared.kind.Kind.{Kind}
 use Rattle.mrd_format.specs.declared.kind.Kind.TheVariants.{ConfigurationText, HeaderText, Close, Text, Acquisition}
 use Rattle.mrd_format.specs.Message.{fixed_part, size_of}
 use Rattle.mrd_format.specs.Content.{normal_of}
-use Rattle.mrd_format.specs.NormalLaws.{kept}
+use Rattle.mrd_format.proofs.NormalLaws.{kept}
 use Rattle.mrd_format.proofs.Arms.{arm}
 use Rattle.mrd_normal.specs.MessageOf.{its-size, its-least, copied-whole, name-ready, image-ready, name_done, image-done, waveform-ready, waveform-done}
 use borrow.Enum.Refused.{opened}

@@ -5,7 +5,7 @@ use native.Mathlib.Omega.{arith}
 use mathlib.Core.Path.{ap, ap₂, ◌∙◌}
 use borrow.Author.Rules.{rules}
 use Rattle.mrd_format.specs.Waveform.{channels, number-of-samples, body_size}
-use Rattle.mrd_format.specs.WaveformLaws.{elements-within, offset_in_lem, read_there}
+use Rattle.mrd_format.proofs.WaveformLaws.{elements-within, offset_in_lem, read_there}
 use Rattle.mrd_waveform.proofs.waveform.body_size.Goals as goal
 
 pub read_u16-requires : goal.read_u16-requires

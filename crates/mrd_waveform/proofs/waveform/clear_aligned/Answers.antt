@@ -3,7 +3,7 @@
 use mathlib.Core.Path.{◌∙◌}
 use lib.ListN.{replicate}
 use Rattle.mrd_numbers.specs.Stored.{stored-part}
-use Rattle.mrd_format.specs.WaveformLaws.{aligned_stored}
+use Rattle.mrd_format.proofs.WaveformLaws.{aligned_stored}
 use Rattle.mrd_waveform.proofs.waveform.clear_aligned.Goals as goal
 
 pub returns : goal.returns

@@ -1,7 +1,7 @@
 -- `mrd_waveform::clear_filler` meets its contract: a packed header has no filler, and an aligned one is cleared.
 -- Assumes nothing.
 use mathlib.Core.Path.{sym}
-use Rattle.mrd_format.specs.WaveformLaws.{packed_front}
+use Rattle.mrd_format.proofs.WaveformLaws.{packed_front}
 use Rattle.mrd_waveform.proofs.waveform.clear_filler.Goals as goal
 
 pub clear_aligned-requires : goal.clear_aligned-requires

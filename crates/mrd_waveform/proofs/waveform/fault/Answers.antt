@@ -3,7 +3,7 @@
 use native.Mathlib.Omega.{arith}
 use borrow.Author.Tests.{ne_eqb, eq-eqb}
 use Rattle.mrd_format.specs.Waveform.{version, checks}
-use Rattle.mrd_format.specs.WaveformLaws.{elements-within, offset_in_lem, read_there}
+use Rattle.mrd_format.proofs.WaveformLaws.{elements-within, offset_in_lem, read_there}
 use Rattle.mrd_waveform.proofs.waveform.fault.Goals as goal
 
 pub read_u16-requires : goal.read_u16-requires

@@ -2,7 +2,7 @@
 -- Assumes nothing.
 use native.Mathlib.Omega.{arith}
 use Rattle.mrd_format.specs.Waveform.{measurement-uid}
-use Rattle.mrd_format.specs.WaveformLaws.{elements-within, offset_in_lem, read_there}
+use Rattle.mrd_format.proofs.WaveformLaws.{elements-within, offset_in_lem, read_there}
 use Rattle.mrd_waveform.proofs.waveform.measurement_uid.Goals as goal
 
 pub read_u32-requires : goal.read_u32-requires

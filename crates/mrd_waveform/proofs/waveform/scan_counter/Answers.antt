@@ -2,7 +2,7 @@
 -- Assumes nothing.
 use native.Mathlib.Omega.{arith}
 use Rattle.mrd_format.specs.Waveform.{scan-counter}
-use Rattle.mrd_format.specs.WaveformLaws.{elements-within, offset_in_lem, read_there}
+use Rattle.mrd_format.proofs.WaveformLaws.{elements-within, offset_in_lem, read_there}
 use Rattle.mrd_waveform.proofs.waveform.scan_counter.Goals as goal
 
 pub read_u32-requires : goal.read_u32-requires

@@ -5,7 +5,7 @@ use native.Mathlib.Omega.{arith}
 use mathlib.Core.Path.{refl, ap₂}
 use mathlib.Core.List.{[], ◌∷◌}
 use Rattle.mrd_format.specs.Waveform.{channels, number-of-samples, numbers}
-use Rattle.mrd_format.specs.WaveformLaws.{elements-within, offset_in_lem, read_there}
+use Rattle.mrd_format.proofs.WaveformLaws.{elements-within, offset_in_lem, read_there}
 use Rattle.mrd_waveform.proofs.waveform.shape.Goals as goal
 
 pub read_u16-requires : goal.read_u16-requires

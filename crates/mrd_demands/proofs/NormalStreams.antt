@@ -16,8 +16,11 @@ use Rattle.mrd_logic.specs.Joined.{joined}
 use Rattle.mrd_cut.specs.Cut.{Cut}
 use Rattle.mrd_cut.specs.Each.{each_same}
 use Rattle.mrd_cut.specs.Unique.{cut_unique}
-use Rattle.mrd_cut.specs.Walked.{Walks, ends, faults, meets, walks, pieces_of}
-use Rattle.mrd_cut.specs.Accepted.{Acceptable, accepted-cut, cut-accepted}
+use Rattle.mrd_cut.specs.Walked.{Walks, pieces_of}
+use Rattle.mrd_cut.specs.Walked.{ends, faults, meets}
+use Rattle.mrd_cut.proofs.WalkedLaws.{walks}
+use Rattle.mrd_cut.specs.Accepted.{Acceptable}
+use Rattle.mrd_cut.proofs.AcceptedLaws.{accepted-cut, cut-accepted}
 use Rattle.mrd_demands.specs.Messages.{records_in, normals_in, normals_well, normals_count, normals_long, normals_kinds, normals_records, normals_own, records_write}
 use Rattle.mrd_format.specs.declared.rules.Rules.{Rules}
 

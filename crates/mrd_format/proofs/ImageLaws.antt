@@ -21,23 +21,21 @@ use Rattle.mrd_format.specs.Parts as part
 use Rattle.mrd_format.specs.Parts.{Part}
 use Rattle.mrd_format.specs.Segments.{counted}
 use Rattle.mrd_format.specs.Headers.{field, length_of, settled}
-use Rattle.mrd_format.specs.HeaderLaws.{image_lawful, SameFields, front-fields, values_same, settled-long, front-settled}
-use Rattle.mrd_format.specs.AdjoinLaws.{segments-joined}
+use Rattle.mrd_format.specs.Lawful.{SameFields}
+use Rattle.mrd_format.proofs.HeaderLaws.{image_lawful, front-fields, values_same, settled-long, front-settled}
+use Rattle.mrd_format.proofs.AdjoinLaws.{segments-joined}
 use Rattle.mrd_format.specs.Image.{Field, layout, get, fields, cells, attribute-string-len, attribute_length, lengths_differ, header_checks, checks, pixel_count, pixels_size, body}
 use Rattle.mrd_format.specs.Message.{limit, id_at, fixed_part, own_checks, body_size, size_of}
 use Rattle.mrd_format.specs.MessageLaws.{num-fixed}
 use Rattle.mrd_format.specs.OwnCheckLaws.{own-numbered}
 use Rattle.mrd_format.specs.Content.{extent_of, part_size, contents_of, fields_of, record_of, normal_of}
+use Rattle.mrd_format.specs.Image.{Agree}
 
 -- the header with the true length in it
 pub image_settled : (z : Part → ℕ) (h : List ℕ) → settled z cells h ≡ take 194 h ++ to_bytes 4 (z part.attributes)
 image_settled z h =
     front-settled z 194 (map (λ (f : Field). field (layout f)) fields) (length_of part.attributes (layout attribute-string-len) ∷ []) h refl refl ∙
     ap (λ (b : List ℕ). take 194 h ++ b) (append-nil (to_bytes 4 (z part.attributes)))
-
--- headers that agree in every number of the record's fields pass the same checks, and have the same pixels
-abbrev pub Agree : List ℕ → List ℕ → Type 0
-Agree g h = (w i : ℕ) → i + w ≤ 194 → num w g i ≡ num w h i
 
 pub agree-checks : (g h : List ℕ) → Agree g h → header_checks g ≡ header_checks h
 unfolding header_checks

@@ -11,12 +11,13 @@ use Rattle.mrd_format.specs.Image.{attribute_length}
 use Rattle.mrd_format.specs.Message.{fixed_part, size_of}
 use Rattle.mrd_format.specs.WellFormed.{WellFormed}
 use Rattle.mrd_format.specs.MessageLaws.{num-fixed, well-least}
-use Rattle.mrd_format.specs.ImageLaws.{restated-long, restated-id, restated-size, restated-sound, restated-record, restated-normal}
+use Rattle.mrd_format.proofs.ImageLaws.{restated-long, restated-id, restated-size, restated-sound, restated-record, restated-normal}
 use Rattle.mrd_stream.specs.Walk.{answer}
 use Rattle.mrd_stream.specs.Places.{Located, place}
 use Rattle.mrd_cut.specs.CutPlaces.{part_at}
-use Rattle.mrd_cut.specs.Inside.{place_inside}
-use Rattle.mrd_demands.specs.Replaced.{SameMeaning, replaced-same}
+use Rattle.mrd_cut.proofs.InsideLaws.{place_inside}
+use Rattle.mrd_demands.specs.Replaced.{SameMeaning}
+use Rattle.mrd_demands.proofs.ReplacedLaws.{replaced-same}
 use Rattle.mrd_format.specs.declared.rules.Rules.{Rules}
 
 -- an image's message with 0 or the true length in its header is well formed

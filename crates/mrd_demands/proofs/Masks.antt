@@ -16,8 +16,8 @@ use Rattle.mrd_format.specs.ProfileLaws.{textless-encoded}
 use Rattle.mrd_stream.specs.Walk.{answer}
 use Rattle.mrd_stream.specs.Places.{Located, place}
 use Rattle.mrd_cut.specs.CutPlaces.{part_at}
-use Rattle.mrd_cut.specs.Inside.{place_inside}
-use Rattle.mrd_demands.specs.Replaced.{replaced-accepted}
+use Rattle.mrd_cut.proofs.InsideLaws.{place_inside}
+use Rattle.mrd_demands.proofs.ReplacedLaws.{replaced-accepted}
 use Rattle.mrd_format.specs.declared.rules.Rules.{Rules}
 
 -- an acquisition's message m with other bytes w in place of its mask, which stands after the id and 40 bytes of the header

@@ -16,7 +16,8 @@ use Rattle.mrd_format.specs.Parts as part
 use Rattle.mrd_format.specs.Parts.{Part, same, is_channel, channel_of, Extent, extent, Reach, lies, lacks, bytes_at, bytes_in, part_in, record_parts}
 use Rattle.mrd_format.specs.Segments.{Segment, fixed, counted, padded, sized, channels, size_in, total, name_length, or_else, reach_if, reach_in, reach_from}
 use Rattle.mrd_format.specs.Content.{segments_of, placed_parts, extent_of, contents_of, record_of}
-use Rattle.mrd_format.specs.AdjoinLaws.{total-append, Adjoins, Fits, places_of, segments-adjoin}
+use Rattle.mrd_format.specs.Adjoining.{Adjoins, Fits, places_of}
+use Rattle.mrd_format.proofs.AdjoinLaws.{total-append, segments-adjoin}
 
 -- a name is no longer than its bytes
 index-within : (b : ℕ) (xs : List ℕ) → index_of b xs ≤ length xs

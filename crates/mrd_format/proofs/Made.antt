@@ -1,11 +1,11 @@
 -- The message that is made of contents, read again: where each segment's bytes are as many as the segment says, each part lies where the
 -- segments say, and has the bytes that were given.
 -- Assumes nothing.
-use Rattle.std.specs.Prelude.{ℕ, ◌+◌, ◌-◌, ◌*◌, ◌≤◌, ◌≡◌, Bool, true, false, ◌&&◌, ltb, length, replicate}
+use Rattle.std.specs.Prelude.{ℕ, ◌+◌, ◌-◌, ◌*◌, ◌≡◌, Bool, true, false, ◌&&◌, ltb, length, replicate}
 use Rattle.std.proofs.Common.{le_of_eq, arith, sym, ◌∙◌, true≢false, eqb-true, length-append, drop_at}
 use Rattle.std.proofs.Math.Path.{refl, ap}
 use Rattle.std.proofs.Math.Logic.{⊎_elim}
-use mathlib.Core.List.{List, [], ◌∷◌, ◌++◌, map, append-nil, append_assoc}
+use mathlib.Core.List.{List, [], ◌∷◌, ◌++◌, append-nil, append_assoc}
 use Rattle.std.proofs.lemmas.List.{length-replicate}
 use Rattle.std.proofs.Math.Seq.{take_at}
 use Rattle.mrd_numbers.specs.Little.{to_bytes}
@@ -22,23 +22,12 @@ use Rattle.mrd_format.specs.Message.{size_of, fixed_part}
 use Rattle.mrd_format.specs.Parts as part
 use Rattle.mrd_format.specs.Parts.{Part, tag, same, is_channel, channel_of, Extent, Reach, lies, lacks, bytes_at, bytes_in, Parts, part_in, parts_by, record_parts, Contents, part_length}
 use Rattle.mrd_format.specs.Segments.{Segment, fixed, counted, padded, sized, channels, size_in, total, name_length, reach_if, reach_in, reach_from, reach_size, segment_bytes, segments_bytes}
-use Rattle.mrd_format.specs.Content.{segments_of, extent_of, part_size, contents_of, fields_of, record_of, settled_by, fixed_of, body_of, bytes_after_id, message_of, contents_record}
+use Rattle.mrd_format.specs.Content.{segments_of, extent_of, contents_of, fields_of, record_of, settled_by, fixed_of, body_of, bytes_after_id, message_of, contents_record}
 use Rattle.mrd_format.specs.Headers.{Cell, values, settled}
-use Rattle.mrd_format.specs.HeaderLaws.{lawful, acquisition-lawful, image_lawful, waveform-lawful, values_same, settled-fields}
-use Rattle.mrd_format.specs.ReachLaws.{size_segments, reach_if_lem, or_else_lem, not_there}
-
--- a segment's bytes, of the contents c, are as many as it says; h is the fixed part, which shows a name's length
-abbrev pub Holds : List ℕ → Contents → Segment → Type 0
-Holds h c (fixed n) = length c.header ≡ n
-Holds h c (counted w p) = Unit {0}
-Holds h c (padded n) = (name_length h ≡ length c.parts.name) × (length c.parts.name ≤ n)
-Holds h c (sized p n) = length (part_in c.parts p) ≡ n
-Holds h c (channels k n) = length c.parts.samples ≡ k * n
-
--- a part that a record has: none of the others
-abbrev pub Recorded : Part → Type 0
-Recorded p =
-    (same p part.id ≡ false) × (same p part.count ≡ false) × (same p part.header ≡ false) × (same p part.filler ≡ false) × (is_channel p ≡ false)
+use Rattle.mrd_format.specs.Lawful.{lawful}
+use Rattle.mrd_format.proofs.HeaderLaws.{acquisition-lawful, image_lawful, waveform-lawful, values_same, settled-fields}
+use Rattle.mrd_format.proofs.ReachLaws.{size_segments, reach_if_lem, or_else_lem, not_there}
+use Rattle.mrd_format.specs.Fitting.{Holds, Recorded, Fitting}
 
 -- its bytes go by its tag
 same-part : (ps : Parts) (p q : Part) → same p q ≡ true → part_in ps q ≡ part_in ps p
@@ -104,13 +93,6 @@ module _ (z : Part → ℕ) (h : List ℕ) (c : Contents) where
 none : (x : List ℕ) → 0 ≡ length x → [] ≡ x
 none [] e = refl
 none (b ∷ x) e = absurd (omega arith)
-
--- contents whose header has its kind's length, whose segments, the true lengths in the header, are as long as they say, and whose other parts are
--- empty
-pub record Fitting (k : Kind) (c : Contents) : Type 0 where
-  pub header : length c.header ≡ header_size k
-  pub holds : Every (Holds (fixed_of k c) (settled_by k (part_length c) c)) (segments_of k (fixed_of k c))
-  pub sizes : map (part_size k (fixed_of k c)) record_parts ≡ map (part_length c) record_parts
 
 -- a header with the true lengths in it, alone, has the fields of the given one
 settled-values : (c : Contents) (n : ℕ) (cs : List Cell) → lawful 0 n cs ≡ true → length c.header ≡ n →

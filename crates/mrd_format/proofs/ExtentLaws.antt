@@ -15,11 +15,9 @@ use Rattle.mrd_format.specs.Parts as part
 use Rattle.mrd_format.specs.Parts.{Part, same, is_channel, channel_of, extent, lies, lacks}
 use Rattle.mrd_format.specs.Segments.{Segment, fixed, counted, padded, sized, channels, size_in, PlacedPart, channels_from, segment_parts, segments_parts, reach_if, reach_in, reach_from}
 use Rattle.mrd_format.specs.Content.{segments_of, placed_parts, extent_of}
-use Rattle.mrd_format.specs.AdjoinLaws.{Adjoins, places_of, channels-adjoin}
-
--- a part is found at its place
-abbrev pub FoundAt : Kind → List ℕ → PlacedPart → Type 0
-FoundAt k h q = extent_of q.part k h ≡ lies q.place
+use Rattle.mrd_format.specs.Adjoining.{Adjoins, places_of}
+use Rattle.mrd_format.proofs.AdjoinLaws.{channels-adjoin}
+use Rattle.mrd_format.specs.PartSearch.{FoundAt, NoneIs}
 
 -- of an acquisition with the fixed part h: where its channels begin, how many they are, and how long each is
 module _ (h : List ℕ) where
@@ -56,10 +54,6 @@ parts-found Text h = (refl, (refl, (refl, tt)))
 parts-found Acquisition h = (refl, (refl, (refl, channels-found h (count h) 0 (first h) (omega arith) (omega (arith, zero-mul (each h))))))
 parts-found Image h = (refl, (refl, (refl, (refl, (refl, tt)))))
 parts-found (Waveform l) h = (refl, (refl, (refl, tt)))
-
--- a name that no part of a list has
-abbrev pub NoneIs : Part → List PlacedPart → Type 0
-NoneIs p qs = Every (λ (q : PlacedPart). same p q.part ≡ false) qs
 
 module _ (p : Part) (h : List ℕ) (apart : same p part.samples ≡ false) where
   no-channel : (n c at z : ℕ) → NoneIs p (channels_from n c at z) → is_channel p ≡ true → channel_of p < c + n → channel_of p < c

@@ -1,6 +1,6 @@
 -- The parts of a message adjoin, from its first byte to its last; joined, they are the message.
 -- Assumes nothing.
-use Rattle.std.specs.Prelude.{ℕ, zero, suc, ◌+◌, ◌*◌, ◌≤◌, ◌≡◌, refl, Bool, true, false, not, ◌||◌, ◌&&◌, List, [], ◌∷◌, ◌++◌, map, take, drop}
+use Rattle.std.specs.Prelude.{ℕ, zero, suc, ◌+◌, ◌*◌, ◌≡◌, refl, true, ◌||◌, List, [], ◌∷◌, ◌++◌, map, take, drop}
 use Rattle.std.proofs.Common.{zero-add, add-zero, add_assoc, zero-mul, suc-mul, arith, sym, ap, ◌∙◌, append-nil, take-take}
 use Rattle.std.proofs.lemmas.List.{map-append}
 use Rattle.std.proofs.lemmas.Bool.{not-true}
@@ -8,29 +8,19 @@ use Rattle.mrd_logic.specs.Every.{Every}
 use Rattle.mrd_logic.specs.Choice.{both, neither}
 use Rattle.mrd_logic.specs.Joined.{joined, joined-append}
 use Rattle.mrd_format.specs.Headers.{Cell, settled}
-use Rattle.mrd_format.specs.HeaderLaws.{all_fields, lawful, all_settled, take_next, take-parts}
+use Rattle.mrd_format.specs.Lawful.{all_fields, lawful}
+use Rattle.mrd_format.proofs.HeaderLaws.{all_settled, take_next, take-parts}
 use Rattle.mrd_format.specs.Parts.{Part, header, filler, same, Extent, extent}
-use Rattle.mrd_format.specs.Segments.{Segment, fixed, counted, padded, sized, channels, size_in, total, name_length, PlacedPart, channels_from, segment_parts, segments_parts}
+use Rattle.mrd_format.specs.Segments.{Segment, fixed, counted, padded, sized, channels, size_in, total, channels_from, segment_parts, segments_parts}
 use Rattle.mrd_format.specs.Content.{normal_part}
 use Rattle.mrd_format.specs.Holding.{evenly}
+use Rattle.mrd_format.specs.Adjoining.{plain, all_plain, Adjoins, Fits, places_of}
 
 pub total-append : (ss ts : List Segment) → total (ss ++ ts) ≡ total ss + total ts
 total-append [] ts = sym (zero-add (total ts))
 total-append (s ∷ []) [] = sym (add-zero (size_in s))
 total-append (s ∷ []) (t ∷ ts) = refl
 total-append (s ∷ (u ∷ ss)) ts = rw (total-append (u ∷ ss) ts) (sym (add_assoc (size_in s) (total (u ∷ ss)) (total ts)))
-
--- whether a segment's parts are kept by the normal form, in a message whose header is built of cs
-abbrev pub plain : List Cell → Segment → Bool
-plain cs (fixed n) = all_fields cs && lawful 0 n cs
-plain cs (counted w p) = true
-plain cs (padded n) = false
-plain cs (sized p n) = not (same p filler || same p header)
-plain cs (channels c n) = true
-
-abbrev pub all_plain : List Cell → List Segment → Bool
-all_plain cs [] = true
-all_plain cs (s ∷ ss) = plain cs s && all_plain cs ss
 
 module _ (l : Part → ℕ) (cs : List Cell) (m : List ℕ) where
   -- the bytes of a message's channels
@@ -65,25 +55,9 @@ module _ (l : Part → ℕ) (cs : List Cell) (m h : List ℕ) where
         segments-joined (at + size_in s) (t ∷ ss) p.1,
       ) (sym (take_next (size_in s) (total (t ∷ ss)) at m))
 
--- extents that adjoin from a to b
-abbrev pub Adjoins : ℕ → ℕ → List Extent → Type 0
-Adjoins a b [] = a ≡ b
-Adjoins a b (e ∷ es) = (e.offset ≡ a) × Adjoins (a + e.size) b es
-
 pub adjoins_append : (a b c : ℕ) (ds es : List Extent) → Adjoins a b ds → Adjoins b c es → Adjoins a c (ds ++ es)
 adjoins_append a b c [] es p q = rw p q
 adjoins_append a b c (d ∷ ds) es p q = (p.0, adjoins_append (a + d.size) b c ds es p.1 q)
-
--- a name is within the bytes that it is filled up to
-abbrev pub Fits : List ℕ → Segment → Type 0
-Fits h (fixed n) = Unit {0}
-Fits h (counted w p) = Unit {0}
-Fits h (padded n) = name_length h ≤ n
-Fits h (sized p n) = Unit {0}
-Fits h (channels c n) = Unit {0}
-
-abbrev pub places_of : List PlacedPart → List Extent
-places_of ps = map (λ (p : PlacedPart). p.place) ps
 
 -- places of one length, one after the other, adjoin
 pub evenly-adjoin : (n at z : ℕ) → Adjoins at (at + n * z) (evenly n at z)

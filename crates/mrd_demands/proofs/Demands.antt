@@ -25,9 +25,10 @@ use Rattle.mrd_format.specs.Acquisition as acquisition
 use Rattle.mrd_format.specs.Image as image
 use Rattle.mrd_format.specs.Waveform as waveform
 use Rattle.mrd_format.specs.Kinds.{header_size}
-use Rattle.mrd_format.specs.HeaderLaws.{SameFields}
+use Rattle.mrd_format.specs.Lawful.{SameFields}
 use Rattle.mrd_format.specs.WellFormed.{WellFormed}
-use Rattle.mrd_format.specs.HoldingLaws.{Once, held-once}
+use Rattle.mrd_format.specs.Holding.{Once}
+use Rattle.mrd_format.proofs.HoldingLaws.{held-once}
 use Rattle.mrd_format.specs.Message.{numbers_of}
 use Rattle.mrd_cursor.specs.declared.cursor.Cursor.{Cursor}
 use Rattle.mrd_cursor.specs.Cursors.{beginning}
@@ -39,12 +40,15 @@ use Rattle.mrd_stream.specs.Index.{index}
 use Rattle.mrd_stream.specs.Output.{output_by}
 use Rattle.mrd_logic.specs.Joined.{joined}
 use Rattle.mrd_cut.specs.Cut.{Cut}
-use Rattle.mrd_cut.specs.Accepted.{Acceptable, accepted_iff}
-use Rattle.mrd_cut.specs.Refused.{RefusedAt, refused_iff}
-use Rattle.mrd_cut.specs.CutPlaces.{AnsweredCut, places-cut}
+use Rattle.mrd_cut.specs.Accepted.{Acceptable}
+use Rattle.mrd_cut.proofs.AcceptedLaws.{accepted_iff}
+use Rattle.mrd_cut.specs.Refused.{RefusedAt}
+use Rattle.mrd_cut.proofs.RefusedLaws.{refused_iff}
+use Rattle.mrd_cut.specs.CutPlaces.{AnsweredCut}
+use Rattle.mrd_cut.proofs.CutPlacesLaws.{places-cut}
 use Rattle.mrd_cut.specs.Unique.{cut_unique}
 use Rattle.mrd_cut.specs.Steps.{Yields}
-use Rattle.mrd_cut.specs.Steps as steps
+use Rattle.mrd_cut.proofs.StepsLaws as steps
 use Rattle.mrd_record.specs.AtCursor.{Reached, place_at}
 use Rattle.mrd_record.specs.RecordLaws as records-at
 use Rattle.mrd_index_match.specs.Compare.{file_match, columns_match}
@@ -66,7 +70,7 @@ use Rattle.mrd_ask.specs.ShownLaws.{asked-fits, indexed-fits}
 use Rattle.mrd_ask.specs.Belief.{Believed}
 use Rattle.mrd_ask.specs.BeliefLaws.{ask_believed}
 use Rattle.mrd_salvage.specs.Salvage.{kept, closing, salvaged, report, salvage_answer, salvage_output}
-use Rattle.mrd_salvage.specs.SavedLaws as salvage
+use Rattle.mrd_salvage.proofs.SavedLaws as salvage
 use Rattle.mrd_writer.specs.Write.{write_answer, write_output}
 use Rattle.mrd_writer.specs.WriteLaws.{never_9}
 use Rattle.mrd_writer.specs.Disregarded.{given, WrittenAlike, number-disregarded, filler_disregarded}
@@ -74,21 +78,22 @@ use Rattle.mrd_writer.specs.ReadBack.{ReadsBack}
 use Rattle.mrd_writer.specs.ReadBack as writer
 use Rattle.mrd_demands.specs.Refusals.{Refusal, output-kept, written-kept, saved-kept}
 use Rattle.mrd_demands.specs.RecordViews.{ViewsOf, EachPart}
-use Rattle.mrd_demands.specs.RecordViews as views
+use Rattle.mrd_demands.proofs.RecordViewLaws as views
 use Rattle.mrd_demands.specs.Messages.{records_in}
 use Rattle.mrd_demands.specs.Told.{numbers-told}
-use Rattle.mrd_demands.specs.Masks as masks
+use Rattle.mrd_demands.proofs.Masks as masks
 use Rattle.mrd_demands.specs.Replaced.{SameMeaning}
-use Rattle.mrd_demands.specs.AttributeLengths as attribute-lengths
-use Rattle.mrd_demands.specs.Layouts as layouts
+use Rattle.mrd_demands.proofs.AttributeLengths as attribute-lengths
+use Rattle.mrd_demands.proofs.Layouts as layouts
 use Rattle.mrd_demands.specs.StrictTexts.{TextsAreUtf8, ReadAlike}
-use Rattle.mrd_demands.specs.StrictTexts as texts
+use Rattle.mrd_demands.proofs.StrictTextLaws as texts
 use Rattle.mrd_demands.specs.NamedBytes.{PartsInOrder, NamedOnce}
-use Rattle.mrd_demands.specs.NamedBytes as named
+use Rattle.mrd_demands.proofs.NamedByteLaws as named
 use Rattle.mrd_demands.specs.Saved.{SavedOf, ByRefusal, TornSaved}
-use Rattle.mrd_demands.specs.Saved as saved
-use Rattle.mrd_demands.specs.NormalStreams.{accepted-again, normal-long, normal-records, normal-own, normal-written, records-cut}
+use Rattle.mrd_demands.proofs.SavedLaws as saved
+use Rattle.mrd_demands.proofs.NormalStreams.{accepted-again, normal-long, normal-records, normal-own, normal-written, records-cut}
 use Rattle.mrd_format.specs.declared.rules.Rules.{Rules}
+use Rattle.mrd_demands.specs.NormalForm.{NormalForm}
 
 -- Demand 1: a refusal changes no output byte
 
@@ -178,13 +183,6 @@ normal_iff_records rules s t m n b c p q = (
   λ e. sym (normal-records rules s p) ∙ ap (records rules) e ∙ normal-records rules t q,
   λ e. sym (normal-written rules s p b) ∙ ap (λ (rs : List Record). joined (map bytes_of rs)) e ∙ normal-written rules t q c,
 )
-
--- the normal form of a stream accepted with the count n
-pub record NormalForm (rules : Rules) (s : List ℕ) (n : ℕ) : Type 0 where
-  pub accepted-too : answer rules (normal rules s) ≡ accepted n
-  pub same_length : length (normal rules s) ≡ length s
-  pub same-records : records rules (normal rules s) ≡ records rules s
-  pub its_own : normal rules (normal rules s) ≡ normal rules s
 
 -- is accepted with that count, has the stream's length and records, and is its own normal form
 pub normal-accepted : (rules : Rules) (s : List ℕ) (n : ℕ) → answer rules s ≡ accepted n → NormalForm rules s n

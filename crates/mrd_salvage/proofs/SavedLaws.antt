@@ -32,12 +32,17 @@ use Rattle.mrd_cursor.specs.Cursors.{max_messages, after}
 use Rattle.mrd_stream.specs.Walk.{ended_as, ended, Trace, walk, trace, answer}
 use Rattle.mrd_cut.specs.Cut.{kinds_in, close, Lacks, InOrder, EndsInClose}
 use Rattle.mrd_cut.specs.Each.{kind_unique, kinds-same, kinds-append, kinds-first}
-use Rattle.mrd_cut.specs.OrderRule.{phase_from, phase_after, AllowedFrom, in_order_iff, allowed_iff_in_order, closed_iff_ends, open_iff_lacks_close}
+use Rattle.mrd_cut.specs.OrderRule.{phase_from, phase_after, AllowedFrom}
+use Rattle.mrd_cut.proofs.OrderRuleLaws.{in_order_iff, allowed_iff_in_order, closed_iff_ends, open_iff_lacks_close}
 use Rattle.mrd_cut.specs.Unique.{not-empty}
-use Rattle.mrd_cut.specs.Walked.{Walks, ends, faults, meets, walks, walk-well, refused-not-accepted, Stops, cursor_after, met, pieces_of}
-use Rattle.mrd_cut.specs.Accepted.{Acceptable, accepted-cut, cut-accepted}
+use Rattle.mrd_cut.specs.Walked.{Walks, Stops, cursor_after, pieces_of}
+use Rattle.mrd_cut.specs.Walked.{ends, faults, meets}
+use Rattle.mrd_cut.proofs.WalkedLaws.{walks, walk-well, refused-not-accepted, met}
+use Rattle.mrd_cut.specs.Accepted.{Acceptable}
+use Rattle.mrd_cut.proofs.AcceptedLaws.{accepted-cut, cut-accepted}
 use Rattle.mrd_salvage.specs.Salvage.{before, phase_in, close_added, most_kept, kept, closing, salvaged}
-use Rattle.mrd_salvage.specs.KeptLaws.{kept-first}
+use Rattle.mrd_salvage.proofs.KeptLaws.{kept-first}
+use Rattle.mrd_salvage.specs.Saved.{added_messages, AcceptableAs}
 
 -- a close is a well-formed message
 pub close_encoded : (f : Profile) → Encoded f (texts_in (record_of Close (closing true)).parts)
@@ -142,14 +147,6 @@ taken-few : {A : Type 0} (n : ℕ) (xs : List A) → length (take n xs) ≤ n
 taken-few zero xs = omega arith
 taken-few (suc n) [] = omega arith
 taken-few (suc n) (x ∷ xs) = let r = taken-few n xs in omega (arith, r)
-
--- the message that is added, where one is
-abbrev pub added_messages : Bool → List (List ℕ)
-added_messages add = pick add (closing true ∷ []) []
-
--- s is acceptable, with these messages
-abbrev pub AcceptableAs : Rules → List ℕ → List (List ℕ) → Type 0
-AcceptableAs rules s ms = (a : Acceptable rules s) × (a.cut.pieces ≡ ms)
 
 -- well-formed messages in order without a close are acceptable with one after them
 with_close_lem : (rules : Rules) (ms : List (List ℕ)) (w : Every (WellFormed rules) ms) → InOrder (kinds_in rules ms w) → Lacks close (kinds_in rules ms w) →

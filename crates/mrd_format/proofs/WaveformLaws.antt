@@ -17,13 +17,15 @@ use Rattle.mrd_format.specs.declared.rules.WaveformOffsets.{WaveformOffsets}
 use Rattle.mrd_format.specs.declared.kind.Kind.TheVariants.{Waveform}
 use Rattle.mrd_format.specs.Elements.{ElementType, Run, width, one, element}
 use Rattle.mrd_format.specs.Headers.{run_size, run_bytes, settled}
-use Rattle.mrd_format.specs.HeaderLaws.{waveform-lawful, elements_lie, SameFields, values_same, settled_same, settled-fields, settled-long, fields-settled, whole-settled}
+use Rattle.mrd_format.specs.Lawful.{SameFields}
+use Rattle.mrd_format.proofs.HeaderLaws.{waveform-lawful, elements_lie, values_same, settled_same, settled-fields, settled-long, fields-settled, whole-settled}
 use Rattle.mrd_format.specs.Parts.{Part}
 use Rattle.mrd_format.specs.Waveform.{Field, version, flags, measurement-uid, scan-counter, time-stamp, number-of-samples, channels, sample-time-us, waveform-id, type_of, offset, offsets_of, front_filler, header_bytes, run, table, cells, cleared, get, checks, body_size}
 use Rattle.mrd_format.specs.Message as message
 use Rattle.mrd_format.specs.Message.{id_at, fixed_part, size_of}
 use Rattle.mrd_format.specs.MessageLaws.{id-kept}
 use Rattle.mrd_format.specs.Content.{extent_of, contents_of, fields_of, record_of, normal_of}
+use Rattle.mrd_format.specs.Waveform.{offset_in}
 
 -- an element goes by its bytes
 number_of_bytes : (at : ℕ) (t : ElementType) (h : List ℕ) → element (one at t) 0 h ≡ num (width t) (run_bytes (one at t) h) 0
@@ -60,18 +62,6 @@ module _ (l : Layout) (h : List ℕ) (long : length h ≡ header_bytes l) where
   unfolding cleared
   cleared-fields =
       rw append-nil at (settled-fields (λ (p : Part). 0) (header_bytes l) (cells l) h [] (waveform-lawful l) (le_of_eq (sym long)))
-
--- the offset of a field among those that the code has
-abbrev pub offset_in : WaveformOffsets → Field → ℕ
-offset_in w version = w.version
-offset_in w flags = w.flags
-offset_in w measurement-uid = w.measurement_uid
-offset_in w scan-counter = w.scan_counter
-offset_in w time-stamp = w.time_stamp
-offset_in w number-of-samples = w.number_of_samples
-offset_in w channels = w.channels
-offset_in w sample-time-us = w.sample_time_us
-offset_in w waveform-id = w.waveform_id
 
 pub offset_in_lem : (l : Layout) (f : Field) {w : WaveformOffsets} → w ≡ offsets_of l → offset_in w f ≡ offset l f
 offset_in_lem l f e = ap (λ (w : WaveformOffsets). offset_in w f) e ∙ by f

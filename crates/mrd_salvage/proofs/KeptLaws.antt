@@ -15,7 +15,7 @@ use Rattle.mrd_numbers.specs.Little.{to_bytes}
 use Rattle.mrd_numbers.specs.Stored.{front, part_from, returned, length_part, front-next}
 use Rattle.mrd_format.specs.declared.rules.Rules.{Rules}
 use Rattle.mrd_stream.specs.Output.{output_by}
-use Rattle.mrd_cut.specs.Walked.{met}
+use Rattle.mrd_cut.proofs.WalkedLaws.{met}
 use Rattle.mrd_salvage.specs.declared.reach.Reach.{Reach}
 use Rattle.mrd_salvage.specs.declared.report.Report.{Report}
 use Rattle.mrd_salvage.specs.Salvage.{before, close_added, most_kept, kept, closing, salvaged, report, salvage_answer, salvage_output}

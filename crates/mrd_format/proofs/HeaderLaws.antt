@@ -1,7 +1,7 @@
 -- A header is fixed by its fields and its parts' lengths: the cells of each header leave no byte out, so headers that agree in the fields of the
 -- record, with the true lengths put in and the filler zero, are the same bytes; and the fields' numbers, written, are such a header.
 -- Assumes nothing.
-use Rattle.std.specs.Prelude.{ℕ, zero, suc, ◌+◌, ◌-◌, ◌*◌, ◌≤◌, ◌≡◌, refl, Bool, true, false, ◌&&◌, List, [], ◌∷◌, ◌++◌, eqb, length, take, drop, replicate}
+use Rattle.std.specs.Prelude.{ℕ, zero, suc, ◌+◌, ◌-◌, ◌*◌, ◌≤◌, ◌≡◌, refl, true, List, [], ◌∷◌, ◌++◌, eqb, length, take, drop, replicate}
 use Rattle.std.proofs.Common.{add_comm, zero-mul, suc-mul, le_of_eq, arith, sym, ap, ap₂, ◌∙◌, append-nil, append_assoc, eqb-true, length-append, length-drop, length-take-le, take-add, take_all, take_at, drop_at, drop-drop}
 use Rattle.std.proofs.lemmas.List.{length-replicate}
 use Rattle.mrd_numbers.specs.Little.{to_bytes, Bytes}
@@ -18,6 +18,7 @@ use Rattle.mrd_format.specs.declared.rules.Layout.TheVariants.{Packed, Aligned}
 use Rattle.mrd_format.specs.Acquisition as acquisition
 use Rattle.mrd_format.specs.Image as image
 use Rattle.mrd_format.specs.Waveform as waveform
+use Rattle.mrd_format.specs.Lawful.{stands_at, cell_size, lawful, SameFields, all_fields}
 
 -- the bytes of two parts, the second after the first
 pub take_next : (a b at : ℕ) (m : List ℕ) → take (a + b) (drop at m) ≡ take a (drop at m) ++ take b (drop (at + a) m)
@@ -26,22 +27,6 @@ take_next a b at m = rw (take-add, drop-drop)
 -- the bytes of n parts of w bytes each are those of the first, and then those of the others
 pub take-parts : (n w at : ℕ) (m : List ℕ) → take (suc n * w) (drop at m) ≡ take w (drop at m) ++ take (n * w) (drop (at + w) m)
 take-parts n w at m = rw (suc-mul n w, add_comm (n * w) w) (take_next w (n * w) at m)
-
--- whether a cell stands at the byte `at`: filler does wherever the cell before it ends
-abbrev pub stands_at : ℕ → Cell → Bool
-stands_at at (field r) = eqb r.offset at
-stands_at at (length_of p r) = eqb r.offset at
-stands_at at (gap n) = true
-
-abbrev pub cell_size : Cell → ℕ
-cell_size (field r) = run_size r
-cell_size (length_of p r) = run_size r
-cell_size (gap n) = n
-
--- whether the cells stand one after the other from the byte `at` to the byte `end`, and leave no byte out
-abbrev pub lawful : ℕ → ℕ → List Cell → Bool
-lawful at end [] = eqb at end
-lawful at end (c ∷ cs) = stands_at at c && lawful (at + cell_size c) end cs
 
 pub acquisition-lawful : lawful 0 340 acquisition.cells ≡ true
 acquisition-lawful = refl
@@ -80,13 +65,6 @@ elements_lie at end (r ∷ rs) p =
     let after = lawful-next at end (gap n) (field r ∷ cs) p in
     let here = field_at (at + n) end r cs after in
     (here.1, elements_lie (r.offset + run_size r) end rs (rw (← here.0) at (lawful-next (at + n) end (field r) cs after)))
-
--- headers g and h agree in the bytes of every field of the record
-abbrev pub SameFields : List Cell → List ℕ → List ℕ → Type 0
-SameFields [] g h = Unit {0}
-SameFields (field r ∷ cs) g h = (run_bytes r g ≡ run_bytes r h) × SameFields cs g h
-SameFields (length_of p r ∷ cs) g h = SameFields cs g h
-SameFields (gap n ∷ cs) g h = SameFields cs g h
 
 -- the elements of a run go by its bytes
 elements-within : (n w k z : ℕ) (s : List ℕ) → k + n * w ≤ z → elements_from n w k (take z s) ≡ elements_from n w k s
@@ -275,13 +253,6 @@ built_written at end (gap n ∷ cs) h p b fits = (
 pub written-fields : (end : ℕ) (cs : List Cell) (h : List ℕ) → lawful 0 end cs ≡ true → Bytes h → end ≤ length h →
     SameFields cs (written cs (values cs h)) h
 written-fields end cs h p b fits = built_fields end h [] cs (written cs (values cs h)) p fits (built_written 0 end cs h p b fits)
-
--- whether every byte is one of a field of the record
-abbrev pub all_fields : List Cell → Bool
-all_fields [] = true
-all_fields (field r ∷ cs) = all_fields cs
-all_fields (length_of p r ∷ cs) = false
-all_fields (gap n ∷ cs) = eqb n 0 && all_fields cs
 
 -- such cells keep their bytes
 pub fields-settled : (z : Part → ℕ) (at end : ℕ) (cs ds : List Cell) (h : List ℕ) → all_fields cs ≡ true → lawful at end cs ≡ true →

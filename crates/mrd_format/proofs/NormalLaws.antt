@@ -22,12 +22,14 @@ use Rattle.mrd_format.specs.WellFormed.{WellFormed}
 use Rattle.mrd_format.specs.MessageLaws.{id-kept}
 use Rattle.mrd_format.specs.Segments.{total}
 use Rattle.mrd_format.specs.Image.{attribute_length}
-use Rattle.mrd_format.specs.ImageLaws.{restated-long, restated-id, restated-size, restated-sound, restated-record, restated-normal, image_normal, true_length}
+use Rattle.mrd_format.proofs.ImageLaws.{restated-long, restated-id, restated-size, restated-sound, restated-record, restated-normal, image_normal, true_length}
 use Rattle.mrd_format.specs.Waveform.{cleared}
-use Rattle.mrd_format.specs.WaveformLaws.{waveform-normal, filled-long, filled-same, other-long, other-id, other-checks, other-size, other-record, other-normal}
+use Rattle.mrd_format.proofs.WaveformLaws.{waveform-normal, filled-long, filled-same, other-long, other-id, other-checks, other-size, other-record, other-normal}
 use Rattle.mrd_format.specs.Kinds.{form_of}
 use Rattle.mrd_format.specs.Content.{segments_of, part_size, extent_of, contents_of, fields_of, record_of, normal_of}
-use Rattle.mrd_format.specs.AdjoinLaws.{all_plain, segments-joined, total-append}
+use Rattle.mrd_format.specs.Adjoining.{all_plain}
+use Rattle.mrd_format.proofs.AdjoinLaws.{segments-joined, total-append}
+use Rattle.mrd_format.specs.Normalised.{filled, Normalised, name_bytes}
 
 -- a byte is found where it is put after what stood before it
 index-put : (b : ℕ) (h rest : List ℕ) → index_of b (take (index_of b h) h ++ (b ∷ rest)) ≡ index_of b h
@@ -39,10 +41,6 @@ index-put b (x ∷ h) rest = here (eqb x b) refl (index-put b h rest)
         index_of b (take (index_of b (x ∷ h)) (x ∷ h) ++ (b ∷ rest)) ≡ index_of b (x ∷ h)
     here true e ih = rw e (rw (eq-eqb b b refl))
     here false e ih = rw e (rw e (ap suc ih))
-
--- a name's 1,024 bytes with those after the first zero made zero
-abbrev pub filled : List ℕ → List ℕ
-filled h = take (name_length h) h ++ replicate (1024 - name_length h) 0
 
 module _ (h : List ℕ) (long : length h ≡ 1024) (short : name_length h < 1024) where
   name-taken : length (take (name_length h) h) ≡ name_length h
@@ -61,22 +59,9 @@ module _ (h : List ℕ) (long : length h ≡ 1024) (short : name_length h < 1024
       let some : 1024 - name_length h ≡ suc (1023 - name_length h) = omega arith in
       rw some (index-put 0 h (replicate (1023 - name_length h) 0))
 
--- what holds of a message's normal form
-pub record Normalised (k : Kind) (m : List ℕ) : Type 0 where
-  pub long : length (normal_of k m) ≡ length m
-  pub id : id_at (normal_of k m) ≡ id_at m
-  pub sound : first (own_checks k (fixed_part k (normal_of k m))) ≡ 0
-  pub size : size_of k (fixed_part k (normal_of k m)) ≡ size_of k (fixed_part k m)
-  pub same : record_of k (normal_of k m) ≡ record_of k m
-  pub own : normal_of k (normal_of k m) ≡ normal_of k m
-
 -- a message that is its normal form
 unchanged : (k : Kind) (m : List ℕ) → first (own_checks k (fixed_part k m)) ≡ 0 → normal_of k m ≡ m → Normalised k m
 unchanged k m sound e = record { long = rw e; id = rw e; sound = rw e sound; size = rw e; same = rw e; own = rw e e }
-
--- a configuration name's 1,024 bytes
-abbrev pub name_bytes : List ℕ → List ℕ
-name_bytes m = fixed_part ConfigurationName m
 
 -- check 5 passed: a zero is among them
 pub name_short : (m : List ℕ) → first (own_checks ConfigurationName (name_bytes m)) ≡ 0 → name_length (name_bytes m) < 1024

@@ -18,12 +18,15 @@ use Rattle.mrd_cursor.specs.Cursors.{max_messages, beginning}
 use Rattle.mrd_stream.specs.Walk.{walk, trace, answer}
 use Rattle.mrd_cut.specs.Cut.{kinds_in, close, Lacks, InOrder, EndsInClose}
 use Rattle.mrd_cut.specs.Each.{kinds-same, kinds-append, kinds-first}
-use Rattle.mrd_cut.specs.OrderRule.{in_order_iff}
-use Rattle.mrd_cut.specs.Walked.{met, pieces_of}
-use Rattle.mrd_cut.specs.Accepted.{Acceptable, kinds_of, accepted-cut}
+use Rattle.mrd_cut.proofs.OrderRuleLaws.{in_order_iff}
+use Rattle.mrd_cut.specs.Walked.{pieces_of}
+use Rattle.mrd_cut.proofs.WalkedLaws.{met}
+use Rattle.mrd_cut.specs.Accepted.{Acceptable, kinds_of}
+use Rattle.mrd_cut.proofs.AcceptedLaws.{accepted-cut}
 use Rattle.mrd_salvage.specs.Salvage.{before, close_added, most_kept, kept}
-use Rattle.mrd_salvage.specs.KeptLaws.{kept-front}
-use Rattle.mrd_salvage.specs.SavedLaws.{its-kinds, added-lacks, unadded-ends, order_front, ends-not-lacks, front_of, met-first, kept-added, kept-unadded, kept-well}
+use Rattle.mrd_salvage.proofs.KeptLaws.{kept-front}
+use Rattle.mrd_salvage.proofs.SavedLaws.{its-kinds, added-lacks, unadded-ends, order_front, ends-not-lacks, front_of, met-first, kept-added, kept-unadded, kept-well}
+use Rattle.mrd_salvage.specs.Torn.{TornAt}
 
 -- more are taken than stand in the first of two lists: all of these, and then of the others
 take_beyond : {A : Type 0} (n : ℕ) (xs ys : List A) → length xs ≤ n → take n (xs ++ ys) ≡ xs ++ take (n - length xs) ys
@@ -87,18 +90,6 @@ module _ (rules : Rules) (s : List ℕ) (ms : List (List ℕ)) (w : Every (WellF
       by false u = (before-first.0, kept-unadded rules s u ∙ before-first.1)
       by true u =
           (take (most_kept - length ms) before-first.0, kept-added rules s u ∙ ap (take most_kept) before-first.1 ∙ take_beyond most_kept ms before-first.0 (not-all u))
-
--- byte b of joined messages lies in one of them: those before it, the part of it before that byte, and what follows of it
-pub record TornAt (ms : List (List ℕ)) (b : ℕ) : Type 0 where
-  pub front : List (List ℕ)
-  pub message : List ℕ
-  pub back : List (List ℕ)
-  pub part : List ℕ
-  pub lost : List ℕ
-  pub cut : ms ≡ front ++ (message ∷ back)
-  pub torn : take b (joined ms) ≡ joined front ++ part
-  pub halves : part ++ lost ≡ message
-  pub some : 0 < length lost
 
 torn-at : (ms : List (List ℕ)) (b : ℕ) → b < length (joined ms) → TornAt ms b
 torn-at [] b h = absurd (omega arith)

@@ -8,9 +8,9 @@ use Rattle.mrd_logic.specs.Choice.{pick, both}
 use Rattle.mrd_logic.specs.Joined.{joined}
 use Rattle.mrd_logic.specs.Lists.{Nth}
 use Rattle.mrd_format.specs.Parts.{Extent, bytes_at}
-use Rattle.mrd_format.specs.HeaderLaws.{take_next}
-use Rattle.mrd_format.specs.AdjoinLaws.{Adjoins}
-use Rattle.mrd_format.specs.Holding.{holds, holding, OnlyIn}
+use Rattle.mrd_format.proofs.HeaderLaws.{take_next}
+use Rattle.mrd_format.specs.Adjoining.{Adjoins}
+use Rattle.mrd_format.specs.Holding.{holds, holding, OnlyIn, Once, Found}
 
 -- a place that holds a byte
 pub held : (e : Extent) (i : ℕ) → holds e i ≡ true → (e.offset ≤ i) × (i < e.offset + e.size)
@@ -62,15 +62,11 @@ module _ {A : Type 0} (f : A → Extent) where
   only-later x xs i n past o zero y h e = absurd (omega (arith, held (f x) i (rw h e), past))
   only-later x xs i n past o (suc m) y h e = ap suc (o.only m y h e)
 
-  -- each byte of theirs is found in one, and lies in no other
-  abbrev pub Once : List A → ℕ → Type 0
-  Once xs i = (n : ℕ) × ((x : A) × ((holding f xs i ≡ answered x) × OnlyIn f xs i n x))
-
-  pub held-once : (xs : List A) (a b i : ℕ) → Adjoins a b (map f xs) → a ≤ i → i < b → Once xs i
+  pub held-once : (xs : List A) (a b i : ℕ) → Adjoins a b (map f xs) → a ≤ i → i < b → Once f xs i
   held-once [] a b i p low high = absurd (omega (arith, p))
   held-once (x ∷ xs) a b i p low high = by-test (λ past. held-once xs (a + (f x).size) b i p.1 past high) (ltb i (a + (f x).size)) refl
     where
-      by-test : (a + (f x).size ≤ i → Once xs i) → (t : Bool) → ltb i (a + (f x).size) ≡ t → Once (x ∷ xs) i
+      by-test : (a + (f x).size ≤ i → Once f xs i) → (t : Bool) → ltb i (a + (f x).size) ≡ t → Once f (x ∷ xs) i
       by-test later true e =
           let from : (f x).offset ≤ i = omega (arith, p.0) in
           let to : i < (f x).offset + (f x).size = omega (arith, p.0, ltb-true i (a + (f x).size) e) in
@@ -120,15 +116,11 @@ module _ {A : Type 0} (f : A → Extent) where
       let past : (f y).offset + (f y).size ≤ i = omega (arith, p.0, adjoins-from xs (a + (f y).size) b n p.1 h, held (f x) i e) in
       holding-later y xs i past ∙ found-held xs (a + (f y).size) b i n x p.1 h e
 
-  -- and what is found is one of them and holds the byte
-  abbrev pub Found : List A → ℕ → A → Type 0
-  Found xs i x = (n : ℕ) × (Nth xs n x × (holds (f x) i ≡ true))
-
-  pub found-there : (xs : List A) (i : ℕ) {x : A} → holding f xs i ≡ answered x → Found xs i x
+  pub found-there : (xs : List A) (i : ℕ) {x : A} → holding f xs i ≡ answered x → Found f xs i x
   found-there [] i e = absurd (answered-not-number (sym e))
   found-there (y ∷ xs) i {x} e = by-test (found-there xs i) (holds (f y) i) refl e
     where
-      by-test : (holding f xs i ≡ answered x → Found xs i x) → (t : Bool) → holds (f y) i ≡ t → pick t (answered y) (holding f xs i) ≡ answered x → Found (y ∷ xs) i x
+      by-test : (holding f xs i ≡ answered x → Found f xs i x) → (t : Bool) → holds (f y) i ≡ t → pick t (answered y) (holding f xs i) ≡ answered x → Found f (y ∷ xs) i x
       by-test later true h e = let same : y ≡ x = cc in (0, (same, rw (← same) h))
       by-test later false h e = let r = later e in (suc r.0, (r.1.0, r.1.1))
 

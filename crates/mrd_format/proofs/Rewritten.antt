@@ -22,10 +22,12 @@ use Rattle.mrd_format.specs.Image as image
 use Rattle.mrd_format.specs.Waveform as waveform
 use Rattle.mrd_format.specs.Parts.{Part, attributes, Parts, Contents, part_length}
 use Rattle.mrd_format.specs.Headers.{Cell, values, settled, written}
-use Rattle.mrd_format.specs.AdjoinLaws.{joined-channels}
-use Rattle.mrd_format.specs.HeaderLaws.{lawful, acquisition-lawful, image_lawful, waveform-lawful, SameFields, front-fields, settled_same, written-fields}
-use Rattle.mrd_format.specs.ImageLaws.{image_settled}
-use Rattle.mrd_format.specs.NormalLaws.{name_bytes, name_short}
+use Rattle.mrd_format.proofs.AdjoinLaws.{joined-channels}
+use Rattle.mrd_format.specs.Lawful.{lawful, SameFields}
+use Rattle.mrd_format.proofs.HeaderLaws.{acquisition-lawful, image_lawful, waveform-lawful, front-fields, settled_same, written-fields}
+use Rattle.mrd_format.proofs.ImageLaws.{image_settled}
+use Rattle.mrd_format.specs.Normalised.{name_bytes}
+use Rattle.mrd_format.proofs.NormalLaws.{name_short}
 
 -- a part that lies in the message has its size
 pub part_length_lem : (m : List ℕ) (at n : ℕ) → at + n ≤ length m → length (take n (drop at m)) ≡ n

@@ -10,9 +10,9 @@ use Rattle.mrd_format.specs.declared.rules.Layout.TheVariants.{Aligned}
 use Rattle.mrd_format.specs.declared.rules.Rules.{Rules}
 use Rattle.mrd_format.specs.declared.kind.Kind.TheVariants.{Waveform}
 use Rattle.mrd_format.specs.IdLaws.{known-layout}
-use Rattle.mrd_format.specs.HeaderLaws.{SameFields}
+use Rattle.mrd_format.specs.Lawful.{SameFields}
 use Rattle.mrd_format.specs.Waveform.{header_bytes, cells}
-use Rattle.mrd_format.specs.WaveformLaws.{other, other-long, other-id, other-checks, other-size, other-record, other-normal}
+use Rattle.mrd_format.proofs.WaveformLaws.{other, other-long, other-id, other-checks, other-size, other-record, other-normal}
 use Rattle.mrd_format.specs.Message.{id_at, fixed_part, own_checks, size_of}
 use Rattle.mrd_format.specs.WellFormed.{WellFormed}
 use Rattle.mrd_format.specs.MessageLaws.{well-least}
@@ -20,10 +20,11 @@ use Rattle.mrd_element.specs.ElementLaws.{filler, none_in_filler}
 use Rattle.mrd_stream.specs.Walk.{answer}
 use Rattle.mrd_stream.specs.Places.{Located, place}
 use Rattle.mrd_cut.specs.CutPlaces.{part_at}
-use Rattle.mrd_cut.specs.Inside.{place_inside}
+use Rattle.mrd_cut.proofs.InsideLaws.{place_inside}
 use Rattle.mrd_fields.specs.Fields.{field_of}
 use Rattle.mrd_demands.specs.Told.{fixed-there}
-use Rattle.mrd_demands.specs.Replaced.{SameMeaning, replaced-same}
+use Rattle.mrd_demands.specs.Replaced.{SameMeaning}
+use Rattle.mrd_demands.proofs.ReplacedLaws.{replaced-same}
 
 -- a waveform of a stream has the layout that the rules say
 pub layout_said : (rules : Rules) (s : List ℕ) (i : ℕ) {l : Located} → place rules s i ≡ answered l → {k : Layout} → l.kind ≡ Waveform k →

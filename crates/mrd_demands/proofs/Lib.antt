@@ -1,0 +1,10 @@
+pub mod NormalStreams
+pub mod RecordViewLaws
+pub mod NamedByteLaws
+pub mod ReplacedLaws
+pub mod SavedLaws
+pub mod StrictTextLaws
+pub mod Masks
+pub mod AttributeLengths
+pub mod Layouts
+pub mod Demands

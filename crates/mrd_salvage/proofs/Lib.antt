@@ -1,0 +1,3 @@
+pub mod KeptLaws
+pub mod SavedLaws
+pub mod LongestLaws

@@ -32,6 +32,7 @@ const DISCARD_POST: usize = 170;
 const TRAJECTORY_DIMENSIONS: usize = 176;
 
 // The number of the first of checks 4, 6 and 7 that refuses the header, or 0.
+#[tactic(auto, unfolding(mrd_format::specs::Acquisition::checks))]
 pub fn fault(h: &[u8]) -> u8
     requires { length h.now ≡ fixed_size Acquisition }
     ensures { result ≡ first (checks h.now) }

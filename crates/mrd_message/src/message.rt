@@ -26,6 +26,7 @@ pub fn fault(kind: Kind, h: &[u8]) -> u8
 }
 
 // 5 where the name's bytes hold no zero, or 0.
+#[tactic(auto, unfolding(mrd_format::specs::Message::own_checks))]
 fn name_fault(h: &[u8]) -> u8
     requires { length h.now ≡ fixed_size Kind.ConfigurationName }
     ensures { result ≡ first (own_checks Kind.ConfigurationName h.now) }

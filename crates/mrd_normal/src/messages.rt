@@ -27,7 +27,8 @@ pub(crate) fn put_messages(rules: Rules, s: &[u8], out: &mut [u8])
     let mut c = Cursor::beginning();
     loop {
         let start = c.start;
-        if s.len() <= start {
+        let ended = s.len() <= start;
+        if ended {
             return;
         }
         let judgement = judge(rules, c, &s[start..]);

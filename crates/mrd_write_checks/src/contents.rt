@@ -111,7 +111,8 @@ fn checked_image(header: &[u8], attributes: usize) -> ContentsJudged
     }
     let head = (Kind::ID_SIZE + Kind::IMAGE_FIXED) as u64;
     let size = head + (cap(attributes as u64) + mrd_image::pixels_size(header));
-    if MAX_MESSAGE_SIZE < size {
+    let too_large = MAX_MESSAGE_SIZE < size;
+    if too_large {
         return ContentsJudged::Refused(refusal::TOO_LARGE);
     }
     ContentsJudged::Size(size as usize)

@@ -53,14 +53,14 @@ returns-in-72 c =
     let at-u16 :
     FoundElement c.args.kind c.args.h.now c.args.offset u16 =
     found-by_letter _ _ _ u16 c.requires (sym c.letter.ensures ∙ c.in-72.is) in
-    record { says = ap answered (ap whole c.read_u16.ensures) ∙ sym at-u16.value; apart = tt }
+    record { says = cc at-u16.value; apart = tt }
 
 pub returns-in-73 : goal.returns-in-73
 returns-in-73 c =
     let at-u32 :
     FoundElement c.args.kind c.args.h.now c.args.offset u32 =
     found-by_letter _ _ _ u32 c.requires (sym c.letter.ensures ∙ c.in-73.is) in
-    record { says = ap answered (ap whole c.read_u32.ensures) ∙ sym at-u32.value; apart = tt }
+    record { says = cc at-u32.value; apart = tt }
 
 pub returns-in-81 : goal.returns-in-81
 returns-in-81 c =

@@ -19,13 +19,13 @@ use Rattle.mrd_normal.proofs.messages.put_messages.Goals as goal
 pub loop-rules-init : goal.loop-rules-init
 loop-rules-init c = rw c.beginning-c.ensures (start c.requires)
 
-pub shape_of-out-then-s-start : goal.shape_of-out-then-s-start
-shape_of-out-then-s-start c = same_size c.loop-rules.invariant
+pub shape_of-out-then-ended : goal.shape_of-out-then-ended
+shape_of-out-then-ended c = same_size c.loop-rules.invariant
 
-pub returns-then-s-start : goal.returns-then-s-start
-returns-then-s-start c =
+pub returns-then-ended : goal.returns-then-ended
+returns-then-ended c =
     let loop = c.loop-rules in
-    finish loop.invariant c.if-s-start.true (laws.step-ended _ loop.c c.args.s.now c.if-s-start.true)
+    finish loop.invariant c.if-ended.true (laws.step-ended _ loop.c c.args.s.now c.if-ended.true)
 
 pub overflow_add-end : goal.overflow_add-end
 overflow_add-end c =
@@ -39,9 +39,9 @@ overflow_add-end c =
     let s = a.s.now in
     let told = rw part-from at (rw c.in-Whole.is at c.judge-judgement.ensures) in
     let accepted : (f : ℕ) → judge a.rules loop.c (drop loop.c.start s) ≡ faulty f → ⊥ =
-    λ f e. never-refused loop.invariant (laws.step-faulty a.rules loop.c s c.if-s-start.false e) in
+    λ f e. never-refused loop.invariant (laws.step-faulty a.rules loop.c s c.if-ended.false e) in
     let due = rw (← c.kind-kind.ensures) at (never-faulty a.rules loop.c (drop loop.c.start s) told accepted) in
-    step-yields a.rules loop.c s (laws.step-whole a.rules loop.c s c.if-s-start.false due) in
+    step-yields a.rules loop.c s (laws.step-whole a.rules loop.c s c.if-ended.false due) in
     let ends :
     let loop = c.loop-rules in
     let s = c.args.s.now in
@@ -63,9 +63,9 @@ slice_bounds-put_message-end c =
     let s = a.s.now in
     let told = rw part-from at (rw c.in-Whole.is at c.judge-judgement.ensures) in
     let accepted : (f : ℕ) → judge a.rules loop.c (drop loop.c.start s) ≡ faulty f → ⊥ =
-    λ f e. never-refused loop.invariant (laws.step-faulty a.rules loop.c s c.if-s-start.false e) in
+    λ f e. never-refused loop.invariant (laws.step-faulty a.rules loop.c s c.if-ended.false e) in
     let due = rw (← c.kind-kind.ensures) at (never-faulty a.rules loop.c (drop loop.c.start s) told accepted) in
-    step-yields a.rules loop.c s (laws.step-whole a.rules loop.c s c.if-s-start.false due) in
+    step-yields a.rules loop.c s (laws.step-whole a.rules loop.c s c.if-ended.false due) in
     let ends :
     let loop = c.loop-rules in
     let s = c.args.s.now in
@@ -87,9 +87,9 @@ slice_bounds-put_message-end-in-Whole c =
     let s = a.s.now in
     let told = rw part-from at (rw c.in-Whole.is at c.judge-judgement.ensures) in
     let accepted : (f : ℕ) → judge a.rules loop.c (drop loop.c.start s) ≡ faulty f → ⊥ =
-    λ f e. never-refused loop.invariant (laws.step-faulty a.rules loop.c s c.if-s-start.false e) in
+    λ f e. never-refused loop.invariant (laws.step-faulty a.rules loop.c s c.if-ended.false e) in
     let due = rw (← c.kind-kind.ensures) at (never-faulty a.rules loop.c (drop loop.c.start s) told accepted) in
-    step-yields a.rules loop.c s (laws.step-whole a.rules loop.c s c.if-s-start.false due) in
+    step-yields a.rules loop.c s (laws.step-whole a.rules loop.c s c.if-ended.false due) in
     let ends :
     let loop = c.loop-rules in
     let s = c.args.s.now in
@@ -111,9 +111,9 @@ put_message-requires c =
     let s = a.s.now in
     let told = rw part-from at (rw c.in-Whole.is at c.judge-judgement.ensures) in
     let accepted : (f : ℕ) → judge a.rules loop.c (drop loop.c.start s) ≡ faulty f → ⊥ =
-    λ f e. never-refused loop.invariant (laws.step-faulty a.rules loop.c s c.if-s-start.false e) in
+    λ f e. never-refused loop.invariant (laws.step-faulty a.rules loop.c s c.if-ended.false e) in
     let due = rw (← c.kind-kind.ensures) at (never-faulty a.rules loop.c (drop loop.c.start s) told accepted) in
-    step-yields a.rules loop.c s (laws.step-whole a.rules loop.c s c.if-s-start.false due) in
+    step-yields a.rules loop.c s (laws.step-whole a.rules loop.c s c.if-ended.false due) in
     let ends :
     let loop = c.loop-rules in
     let s = c.args.s.now in
@@ -140,9 +140,9 @@ after-c-requires c =
     let s = a.s.now in
     let told = rw part-from at (rw c.in-Whole.is at c.judge-judgement.ensures) in
     let accepted : (f : ℕ) → judge a.rules loop.c (drop loop.c.start s) ≡ faulty f → ⊥ =
-    λ f e. never-refused loop.invariant (laws.step-faulty a.rules loop.c s c.if-s-start.false e) in
+    λ f e. never-refused loop.invariant (laws.step-faulty a.rules loop.c s c.if-ended.false e) in
     let due = rw (← c.kind-kind.ensures) at (never-faulty a.rules loop.c (drop loop.c.start s) told accepted) in
-    step-yields a.rules loop.c s (laws.step-whole a.rules loop.c s c.if-s-start.false due) in
+    step-yields a.rules loop.c s (laws.step-whole a.rules loop.c s c.if-ended.false due) in
     let ends :
     let loop = c.loop-rules in
     let s = c.args.s.now in
@@ -166,9 +166,9 @@ loop-rules-smaller c =
     let s = a.s.now in
     let told = rw part-from at (rw c.in-Whole.is at c.judge-judgement.ensures) in
     let accepted : (f : ℕ) → judge a.rules loop.c (drop loop.c.start s) ≡ faulty f → ⊥ =
-    λ f e. never-refused loop.invariant (laws.step-faulty a.rules loop.c s c.if-s-start.false e) in
+    λ f e. never-refused loop.invariant (laws.step-faulty a.rules loop.c s c.if-ended.false e) in
     let due = rw (← c.kind-kind.ensures) at (never-faulty a.rules loop.c (drop loop.c.start s) told accepted) in
-    step-yields a.rules loop.c s (laws.step-whole a.rules loop.c s c.if-s-start.false due) in
+    step-yields a.rules loop.c s (laws.step-whole a.rules loop.c s c.if-ended.false due) in
     let s = c.args.s.now in
     rw c.after-c.ensures (on_less s passes)
 
@@ -184,9 +184,9 @@ loop-rules-preserved c =
     let s = a.s.now in
     let told = rw part-from at (rw c.in-Whole.is at c.judge-judgement.ensures) in
     let accepted : (f : ℕ) → judge a.rules loop.c (drop loop.c.start s) ≡ faulty f → ⊥ =
-    λ f e. never-refused loop.invariant (laws.step-faulty a.rules loop.c s c.if-s-start.false e) in
+    λ f e. never-refused loop.invariant (laws.step-faulty a.rules loop.c s c.if-ended.false e) in
     let due = rw (← c.kind-kind.ensures) at (never-faulty a.rules loop.c (drop loop.c.start s) told accepted) in
-    step-yields a.rules loop.c s (laws.step-whole a.rules loop.c s c.if-s-start.false due) in
+    step-yields a.rules loop.c s (laws.step-whole a.rules loop.c s c.if-ended.false due) in
     rw c.after-c.ensures
     (next c.loop-rules.invariant passes c.put_message.ensures)
 
@@ -199,7 +199,7 @@ shape_of-out-in-Faulty c =
     let s = c.args.s.now in
     let told = rw part-from at (rw c.in-Faulty.is at c.judge-judgement.ensures) in
     let due = faulty-too rules loop.c (drop loop.c.start s) told in
-    never-refused loop.invariant (laws.step-faulty rules loop.c s c.if-s-start.false due) in
+    never-refused loop.invariant (laws.step-faulty rules loop.c s c.if-ended.false due) in
     absurd never
 
 pub returns-in-Faulty : goal.returns-in-Faulty
@@ -211,5 +211,5 @@ returns-in-Faulty c =
     let s = c.args.s.now in
     let told = rw part-from at (rw c.in-Faulty.is at c.judge-judgement.ensures) in
     let due = faulty-too rules loop.c (drop loop.c.start s) told in
-    never-refused loop.invariant (laws.step-faulty rules loop.c s c.if-s-start.false due) in
+    never-refused loop.invariant (laws.step-faulty rules loop.c s c.if-ended.false due) in
     absurd never

@@ -30,13 +30,13 @@ returns-then-fault-ne0 c =
     let h = a.header.now in
     sym (own-decides (header_checks h) (image_size h a.attributes) _ (sym c.header_fault-fault.ensures) c.if-fault-ne0.true)
 
-pub returns-then-size-gt-MAX_MESSAGE_SIZE : goal.returns-then-size-gt-MAX_MESSAGE_SIZE
-returns-then-size-gt-MAX_MESSAGE_SIZE c =
+pub returns-then-too_large : goal.returns-then-too_large
+returns-then-too_large c =
     let a = c.args in
     let h = a.header.now in
     sym
     (over-limit (header_checks h) (image_size h a.attributes) (counted h) (sym c.header_fault-fault.ensures ∙ c.if-fault-ne0.false) _
-    (size-capped h a.attributes _ _ c.cap.ensures c.pixels_size.ensures.0) c.if-size-gt-MAX_MESSAGE_SIZE.true)
+    (size-capped h a.attributes _ _ c.cap.ensures c.pixels_size.ensures.0) c.if-too_large.true)
 
 pub returns : goal.returns
 returns c =
@@ -44,4 +44,4 @@ returns c =
     let h = a.header.now in
     sym
     (within-limit (header_checks h) (image_size h a.attributes) (counted h) (sym c.header_fault-fault.ensures ∙ c.if-fault-ne0.false) _
-    (size-capped h a.attributes _ _ c.cap.ensures c.pixels_size.ensures.0) c.if-size-gt-MAX_MESSAGE_SIZE.false)
+    (size-capped h a.attributes _ _ c.cap.ensures c.pixels_size.ensures.0) c.if-too_large.false)

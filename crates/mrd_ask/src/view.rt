@@ -1,5 +1,5 @@
 // A view itself: the part of the stream that a reply says.
-ghost use Rattle.std.specs.Prelude.{◌≡◌, ◌+◌, length as List·length};
+ghost use Rattle.std.specs.Prelude.{◌≡◌, ◌+◌, length};
 ghost use Rattle.mrd_ask.specs.Replies.{meaning};
 ghost use Rattle.mrd_ask.specs.Shown.{empty_span, span_of, fitted, spanned};
 
@@ -9,8 +9,8 @@ use mrd_views::Span;
 // That part of s where the reply is a view's place; of any other reply, and of a place outside s, the empty
 // part at the front of s.
 pub fn reply_view(s: &[u8], reply: Reply) -> &[u8]
-    ensures result_value { result.now ≡ spanned (fitted (List·length s.now) (span_of (meaning reply))) s.now }
-    ensures ref_ptr_value { (result.ref_ptr.0 ≡ s.entry.ref_ptr.0) × (result.ref_ptr.1 ≡ s.entry.ref_ptr.1 + (fitted (List·length s.now) (span_of (meaning reply))).start) }
+    ensures result_value { result.now ≡ spanned (fitted (length s.now) (span_of (meaning reply))) s.now }
+    ensures ref_ptr_value { (result.ref_ptr.0 ≡ s.entry.ref_ptr.0) × (result.ref_ptr.1 ≡ s.entry.ref_ptr.1 + (fitted (length s.now) (span_of (meaning reply))).start) }
 {
     let span = span_of(reply);
     part_at(s, span)
@@ -40,8 +40,8 @@ fn nothing() -> Span
 
 // The bytes of s at this place, where s has them.
 fn part_at(s: &[u8], span: Span) -> &[u8]
-    ensures result_value { result.now ≡ spanned (fitted (List·length s.now) span) s.now }
-    ensures ref_ptr_value { (result.ref_ptr.0 ≡ s.entry.ref_ptr.0) × (result.ref_ptr.1 ≡ s.entry.ref_ptr.1 + (fitted (List·length s.now) span).start) }
+    ensures result_value { result.now ≡ spanned (fitted (length s.now) span) s.now }
+    ensures ref_ptr_value { (result.ref_ptr.0 ≡ s.entry.ref_ptr.0) × (result.ref_ptr.1 ≡ s.entry.ref_ptr.1 + (fitted (length s.now) span).start) }
 {
     let start = span.start;
     let length = span.length;

@@ -1,5 +1,5 @@
 // Views: a part of a record, as that part of the given stream itself.
-ghost use Rattle.std.specs.Prelude.{◌≡◌, ◌+◌, ◌<◌, ◌≤◌, ◌^◌, take, drop, length as List·length};
+ghost use Rattle.std.specs.Prelude.{◌≡◌, ◌+◌, ◌<◌, ◌≤◌, ◌^◌, take, drop};
 ghost use Rattle.mrd_logic.specs.Answer.{answered};
 ghost use Rattle.mrd_stream.specs.ReaderMeaning.{record_meaning, placed_meaning};
 ghost use Rattle.mrd_parts.specs.Sought.{sought_meaning};

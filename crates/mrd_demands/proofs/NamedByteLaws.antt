@@ -46,11 +46,11 @@ use Rattle.mrd_views.specs.Views.{span}
 use Rattle.mrd_views.specs.ViewLaws.{fixed-sized}
 use Rattle.mrd_holding.specs.Held.{Held, whole, in_header, told, part_holding}
 use Rattle.mrd_holding.specs.HeldLaws.{told_same}
-use Rattle.mrd_part_at.specs.PartAt.{extent_at, record_holding, parts_at, NamedByte, part_of_byte}
+use Rattle.mrd_part_at.specs.PartAt.{extent_at, record_holding, parts_at, part_of_byte}
 use Rattle.mrd_fields.specs.Fields.{field_of}
 use Rattle.mrd_demands.specs.RecordViews.{ViewOfPart}
 use Rattle.mrd_demands.proofs.RecordViewLaws.{each-part-shown}
-use Rattle.mrd_demands.specs.NamedBytes.{stream_place, Belongs, Tells, NamedOnce, PartsInOrder}
+use Rattle.mrd_demands.specs.NamedBytes.{stream_place, Belongs, NamedOnce, PartsInOrder}
 
 -- places that adjoin, as extents
 adjoin_extents : (a b : ℕ) (ls : List Located) → Adjoin a ls b → Adjoins a b (map extent_at ls)

@@ -3,19 +3,18 @@
 use Rattle.std.specs.Prelude.{ℕ, ◌+◌, ◌*◌, ◌≤◌, ◌≡◌, refl, List, [], ◌∷◌, ◌++◌, map, length, take, drop, false}
 use Rattle.std.proofs.Common.{arith, sym, ap, ap₂, ◌∙◌, append_assoc, length-append, drop-drop, drop_at}
 use Rattle.std.proofs.Math.Seq.{take-append_seam}
-use Rattle.mrd_logic.specs.Every.{Every, every_map}
+use Rattle.mrd_logic.specs.Every.{every_map}
 use Rattle.mrd_logic.specs.Lists.{Nth}
 use Rattle.mrd_logic.specs.ListLaws.{nth-map}
 use Rattle.mrd_logic.specs.AnswerLaws.{answered-not-number}
-use Rattle.mrd_logic.specs.Answer.{answered, number}
+use Rattle.mrd_logic.specs.Answer.{answered}
 use Rattle.mrd_numbers.specs.Laws.{part-take}
 use Rattle.mrd_format.specs.Message.{fixed_part, size_of}
 use Rattle.mrd_format.specs.Parts as part
 use Rattle.mrd_format.specs.Parts.{Part, Reach, lies, lacks, bytes_in}
 use Rattle.mrd_format.specs.Content.{extent_of, contents_of, Record, record_of}
-use Rattle.mrd_format.specs.Segments.{PlacedPart}
 use Rattle.mrd_format.proofs.ReachLaws.{part-within, channel_is_share}
-use Rattle.mrd_format.specs.PartSearch.{FoundAt, NoneIs}
+use Rattle.mrd_format.specs.PartSearch.{FoundAt}
 use Rattle.mrd_format.proofs.ExtentLaws.{parts-found, others-lacking}
 use Rattle.mrd_parts.specs.declared.parts.Part as parts
 use Rattle.mrd_parts.specs.declared.parts.Part.TheVariants as asked

@@ -1,6 +1,6 @@
 -- What is saved of a torn recording: what is kept, what the report says, and the records.
 -- Assumes nothing.
-use Rattle.std.specs.Prelude.{ℕ, ◌+◌, ◌-◌, ◌≤◌, ◌<◌, ◌≡◌, Bool, ◌⊎◌}
+use Rattle.std.specs.Prelude.{ℕ, ◌+◌, ◌-◌, ◌≤◌, ◌<◌, ◌≡◌, Bool}
 use Rattle.std.proofs.Math.Decide.{dec_le}
 use Rattle.std.proofs.Math.Nat.{sub_self}
 use Rattle.std.proofs.Common.{arith, sym, subst, ◌∙◌, inr, take_all, length-take-le}
@@ -25,12 +25,10 @@ use Rattle.mrd_cut.specs.Unique.{cut_unique}
 use Rattle.mrd_cut.proofs.WalkedLaws.{met}
 use Rattle.mrd_cut.specs.Accepted.{Acceptable}
 use Rattle.mrd_cut.proofs.AcceptedLaws.{accepted-cut, cut-accepted}
-use Rattle.mrd_salvage.specs.declared.report.Report.{Report}
 use Rattle.mrd_salvage.specs.Salvage.{before, close_added, most_kept, kept, closing, salvaged, report}
 use Rattle.mrd_salvage.proofs.KeptLaws.{kept-first, kept-front}
 use Rattle.mrd_salvage.specs.Saved.{added_messages}
 use Rattle.mrd_salvage.proofs.SavedLaws.{close_well, kept-added, kept-unadded, kept-well, saved, accepted-unadded, accepted-whole, accepted-count, accepted-unchanged, refused-counts}
-use Rattle.mrd_salvage.specs.Torn.{TornAt}
 use Rattle.mrd_salvage.proofs.LongestLaws.{tear, torn-bytes, torn-kept, torn-added, kept-longest}
 use Rattle.mrd_demands.specs.Records.{records}
 use Rattle.mrd_demands.specs.Messages.{records_in}

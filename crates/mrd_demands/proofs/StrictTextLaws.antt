@@ -2,7 +2,6 @@
 -- Assumes nothing.
 use Rattle.std.specs.Prelude.{ℕ, ◌≡◌, refl, true, ◌↔◌, List, [], ◌∷◌}
 use Rattle.std.proofs.Common.{arith, sym, ap, ◌∙◌}
-use Rattle.mrd_utf8.specs.Utf8.{Utf8}
 use Rattle.mrd_logic.specs.Every.{Every, every_append}
 use Rattle.mrd_logic.specs.Answer.{accepted, refused}
 use Rattle.mrd_logic.specs.CheckLaws.{lacking, Never, lacking-each, never_first, fault-first}
@@ -12,14 +11,13 @@ use Rattle.mrd_format.specs.declared.kind.Identified.{Identified}
 use Rattle.mrd_format.specs.declared.kind.Identified.TheVariants.{Known, Unknown}
 use Rattle.mrd_format.specs.declared.rules.Layout.{Layout}
 use Rattle.mrd_format.specs.declared.rules.Profile.TheVariants.{Plain, Strict}
-use Rattle.mrd_format.specs.declared.rules.Rules.{Rules}
 use Rattle.mrd_format.specs.Kinds.{identified}
 use Rattle.mrd_format.specs.Acquisition as acquisition
 use Rattle.mrd_format.specs.Image as image
 use Rattle.mrd_format.specs.Waveform as waveform
 use Rattle.mrd_format.specs.Message.{id_at, fixed_part, own_checks}
-use Rattle.mrd_format.specs.Content.{Record, record_of}
-use Rattle.mrd_format.specs.Profiles.{rules_by, texts_in, encoded}
+use Rattle.mrd_format.specs.Content.{record_of}
+use Rattle.mrd_format.specs.Profiles.{rules_by, encoded}
 use Rattle.mrd_format.specs.WellFormed.{WellFormed}
 use Rattle.mrd_cursor.specs.declared.cursor.Cursor.{Cursor}
 use Rattle.mrd_judge.specs.Stages.{front_checks, id_checks, fixed_checks, size_checks, text_checks, checks_as}

@@ -272,7 +272,9 @@ pub fn header_file(kind: &str) -> String {
 /// The header of a kind that has one layout.
 fn header(sources: &Sources, kind: &str) -> Header {
     let text = sources.text(&header_file(kind));
-    let from = text.find("fixed_segments = fixed ").expect("a fixed header");
+    let from = text
+        .find("fixed_segments = fixed ")
+        .expect("a fixed header");
     Header {
         kind: kind.to_string(),
         name: kind.to_string(),
@@ -424,7 +426,10 @@ pub fn flags(sources: &Sources) -> Vec<Named> {
 
 /// The element sizes of image data types 1 to 8.
 pub fn element_sizes(sources: &Sources) -> Vec<usize> {
-    let right = value_of(sources.text("mrd_format/specs/Image.antt"), "element_size t");
+    let right = value_of(
+        sources.text("mrd_format/specs/Image.antt"),
+        "element_size t",
+    );
     let (list, _) = right.split_once(')').expect("a list");
     let sizes = numbers(list);
     assert_eq!(

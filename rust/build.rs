@@ -38,7 +38,7 @@ fn main() {
     let library = folder.unwrap_or_default().join("libcotterleaf.a");
     if !library.is_file() {
         eprintln!(
-            "libcotterleaf.a is not {}; build it in Cotterleaf's repository (rt staticlib cotterleaf), install it \
+            "libcotterleaf.a is not {}; build it in Cotterleaf's repository (bash scripts/build library), install it \
              (bash scripts/install PREFIX, with PREFIX/lib/pkgconfig in PKG_CONFIG_PATH), or name its folder in \
              COTTERLEAF_LIB",
             match named() {

@@ -1,6 +1,6 @@
 /* Holds include/cotterleaf.h to the Rattle sources when it is compiled: offset and type of every member of every
  * struct, and the type of every function, which are declared here once more.
- * Written by tests/names from the functions marked #[no_mangle]: change those, not this file. */
+ * Written by tests/names from the functions marked #[unsafe(no_mangle)]: change those, not this file. */
 #include "cotterleaf.h"
 
 #define AT(of, member, offset) \

@@ -1,4 +1,4 @@
-//! Links the archive of crates/reads_compared, which `rt staticlib reads_compared` builds.
+//! Links the archive of crates/reads_compared, which `scripts/build reads` builds.
 
 use std::path::Path;
 

@@ -1,6 +1,6 @@
 //! Holds the declarations of raw.rs to the Rattle sources when it is compiled: offset and type of every member of
 //! every struct, and the type of every function.
-//! Written by tests/names from the functions marked #[no_mangle]: change those, not this file.
+//! Written by tests/names from the functions marked #[unsafe(no_mangle)]: change those, not this file.
 
 use super::*;
 use std::mem::{offset_of, size_of};

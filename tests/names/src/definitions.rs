@@ -115,7 +115,8 @@ pub struct Order {
 /// The files of the repository that definitions are read from.
 pub struct Sources {
     root: PathBuf,
-    /// Every file of crates/NAME/specs and crates/NAME/src, by its path from `crates/` on.
+    /// Every file of crates/NAME/specs and crates/NAME/src, and every file of laws right in crates/NAME/proofs, by its
+    /// path from `crates/` on.
     files: BTreeMap<String, String>,
 }
 
@@ -123,9 +124,13 @@ impl Sources {
     pub fn of(root: &Path) -> Sources {
         let mut files = BTreeMap::new();
         for name in folder(&root.join("crates")) {
-            for part in ["specs", "src"] {
+            for part in ["specs", "src", "proofs"] {
                 for file in folder(&root.join("crates").join(&name).join(part)) {
                     let path = format!("{name}/{part}/{file}");
+                    let of_a_function = part == "proofs" && !file.ends_with(".antt");
+                    if of_a_function {
+                        continue;
+                    }
                     let text = std::fs::read_to_string(root.join("crates").join(&path));
                     files.insert(path, text.expect("a text file"));
                 }
@@ -179,7 +184,7 @@ impl Sources {
     /// The one file of definitions that declares this name.
     pub fn home(&self, name: &str) -> &str {
         let mut found = self.declaring(name);
-        found.retain(|path| path.ends_with(".antt"));
+        found.retain(|path| path.contains("/specs/"));
         match found[..] {
             [path] => path,
             _ => panic!("`{name}` is declared in {found:?}, not in one file"),
@@ -232,12 +237,12 @@ fn numbers(text: &str) -> Vec<usize> {
     digits.filter_map(|word| word.parse().ok()).collect()
 }
 
-/// The bytes that a form's `fixedSegments` take: each segment's first number is its size.
+/// The bytes that a form's `fixed_segments` take: each segment's first number is its size.
 fn fixed_size(text: &str, form: &str) -> usize {
     let from = text.find(&format!("\n{form} =")).expect("the form");
     let line = text[from..]
         .lines()
-        .find(|line| line.contains("fixedSegments ="));
+        .find(|line| line.contains("fixed_segments ="));
     numbers(line.expect("its fixed segments")).iter().sum()
 }
 
@@ -267,7 +272,9 @@ pub fn header_file(kind: &str) -> String {
 /// The header of a kind that has one layout.
 fn header(sources: &Sources, kind: &str) -> Header {
     let text = sources.text(&header_file(kind));
-    let from = text.find("fixedSegments = fixed ").expect("a fixed header");
+    let from = text
+        .find("fixed_segments = fixed ")
+        .expect("a fixed header");
     Header {
         kind: kind.to_string(),
         name: kind.to_string(),
@@ -278,7 +285,7 @@ fn header(sources: &Sources, kind: &str) -> Header {
 
 /// The layouts of a kind that has several, with the bytes that the header has in each.
 fn layouts(text: &str) -> Vec<(&str, usize)> {
-    let lines = lines_of(text, "headerBytes");
+    let lines = lines_of(text, "header_bytes");
     lines
         .map(|(layout, size)| (layout, size.parse().expect("a size")))
         .collect()
@@ -301,7 +308,7 @@ fn headers_by_layout(sources: &Sources, kind: &str) -> Vec<Header> {
             "Packed" => kind.to_string(),
             _ => format!("{layout}{kind}"),
         },
-        fields: lines_of(text, "typeOf")
+        fields: lines_of(text, "type_of")
             .map(|(name, element)| field(layout, name, element))
             .collect(),
         size,
@@ -348,7 +355,7 @@ pub fn kinds(sources: &Sources) -> Vec<Kind> {
     let text = sources.text("mrd_format/specs/Kinds.antt");
     let kind = |(case, id): (&str, &str)| {
         let name = kind_name(case);
-        let fixed = match value_of(text, &format!("formOf {case}")) {
+        let fixed = match value_of(text, &format!("form_of {case}")) {
             form if form.ends_with(".form l") => {
                 let sizes = layouts(sources.text(&header_file(name)));
                 sizes.into_iter().map(|(_, size)| size).collect()
@@ -367,7 +374,7 @@ pub fn kinds(sources: &Sources) -> Vec<Kind> {
             fixed,
         }
     };
-    lines_of(text, "idOf").map(kind).collect()
+    lines_of(text, "id_of").map(kind).collect()
 }
 
 /// The constants of a program text, with the comments right above them.
@@ -419,7 +426,10 @@ pub fn flags(sources: &Sources) -> Vec<Named> {
 
 /// The element sizes of image data types 1 to 8.
 pub fn element_sizes(sources: &Sources) -> Vec<usize> {
-    let right = value_of(sources.text("mrd_format/specs/Image.antt"), "elementSize t");
+    let right = value_of(
+        sources.text("mrd_format/specs/Image.antt"),
+        "element_size t",
+    );
     let (list, _) = right.split_once(')').expect("a list");
     let sizes = numbers(list);
     assert_eq!(
@@ -436,17 +446,17 @@ pub fn number(sources: &Sources, name: &str) -> usize {
     right.parse().expect("a number")
 }
 
-/// The order of messages, as the definitions `allowed` and `nextPhase` give it.
+/// The order of messages, as the definitions `allowed` and `next_phase` give it.
 pub fn order(sources: &Sources) -> Order {
     let text = sources.text(sources.home("allowed"));
-    let phases: Vec<String> = lines_of(text, "isOpen")
+    let phases: Vec<String> = lines_of(text, "is_open")
         .map(|(phase, _)| phase.to_string())
         .collect();
     let kinds = lines_of(text, "allowed").map(|(kind, test)| {
         let kind = kind.trim_end_matches(" p");
         let test = test.trim_end_matches(" p");
         let may = |phase: &String| value_of(text, &format!("{test} {phase}")) == "true";
-        let next = value_of(text, &format!("nextPhase {kind} p"));
+        let next = value_of(text, &format!("next_phase {kind} p"));
         let next = (next != "p").then(|| next.to_string());
         (
             kind_name(kind).to_string(),
@@ -492,7 +502,7 @@ pub fn stage_checks(sources: &Sources, name: &str) -> Vec<usize> {
 /// The checks of a kind's own fixed part.
 pub fn own_checks(sources: &Sources, kind: &str) -> Vec<usize> {
     let forms = sources.text("mrd_format/specs/Kinds.antt");
-    let form = lines_of(forms, "formOf").find(|(case, _)| kind_name(case) == kind);
+    let form = lines_of(forms, "form_of").find(|(case, _)| kind_name(case) == kind);
     let (_, form) = form.expect("the kind's form");
     match form.contains(".form") {
         true => header_checks(sources.text(&header_file(kind))),
@@ -513,8 +523,8 @@ fn header_checks(text: &str) -> Vec<usize> {
         "\nchecks h ="
     };
     let own = checks_in(text, start, "\n\n");
-    match text.contains("\nchecks h = headerChecks h ++") {
-        true => [checks_in(text, "\nheaderChecks h =", "\n\n"), own].concat(),
+    match text.contains("\nchecks h = header_checks h ++") {
+        true => [checks_in(text, "\nheader_checks h =", "\n\n"), own].concat(),
         false => own,
     }
 }

@@ -8,7 +8,7 @@ use std::collections::BTreeMap;
 /// How tests/c/interface.c begins. A member is held to its type by `_Generic`, to which an array would be a pointer.
 const C_BEGINNING: &str = r##"/* Holds include/cotterleaf.h to the Rattle sources when it is compiled: offset and type of every member of every
  * struct, and the type of every function, which are declared here once more.
- * Written by tests/names from the functions marked #[no_mangle]: change those, not this file. */
+ * Written by tests/names from the functions marked #[unsafe(no_mangle)]: change those, not this file. */
 #include "cotterleaf.h"
 
 #define AT(of, member, offset) \
@@ -25,7 +25,7 @@ const C_BEGINNING: &str = r##"/* Holds include/cotterleaf.h to the Rattle source
 
 const RUST_BEGINNING: &str = r##"//! Holds the declarations of raw.rs to the Rattle sources when it is compiled: offset and type of every member of
 //! every struct, and the type of every function.
-//! Written by tests/names from the functions marked #[no_mangle]: change those, not this file.
+//! Written by tests/names from the functions marked #[unsafe(no_mangle)]: change those, not this file.
 
 use super::*;
 use std::mem::{offset_of, size_of};
@@ -69,9 +69,21 @@ fn pairs(list: &str) -> Vec<(String, String)> {
     list.split(',').filter_map(pair).collect()
 }
 
+/// What stands after each mark, with the attributes between left out; every mark is followed by what it marks.
+fn marked<'a>(text: &'a str, mark: &'a str, of: &'a str) -> impl Iterator<Item = &'a str> {
+    let parts = text.split(mark).skip(1);
+    parts.map(move |part| {
+        let mut rest = part;
+        while rest.starts_with("#[") {
+            (_, rest) = rest.split_once('\n').expect("the end of an attribute");
+        }
+        let found = rest.strip_prefix(of);
+        found.unwrap_or_else(|| panic!("no `{of}` after {}", mark.trim_end()))
+    })
+}
+
 fn structs(text: &str) -> Vec<Struct> {
-    let parts = text.split("#[repr(C)]\npub struct ").skip(1);
-    parts
+    marked(text, "#[repr(C)]\n", "pub struct ")
         .map(|part| {
             let (name, rest) = part.split_once(" {").expect("a struct with members");
             let (members, _) = rest.split_once("\n}").expect("its end");
@@ -82,8 +94,7 @@ fn structs(text: &str) -> Vec<Struct> {
 }
 
 fn functions(text: &str) -> Vec<Function> {
-    let parts = text.split("#[no_mangle]\npub extern \"C\" fn ").skip(1);
-    parts
+    marked(text, "#[unsafe(no_mangle)]\n", "pub extern \"C\" fn ")
         .map(|part| {
             let (name, rest) = part.split_once('(').expect("a function");
             let (parameters, rest) = rest.split_once(") -> ").expect("its parameters and result");

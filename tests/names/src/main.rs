@@ -74,7 +74,7 @@ impl Format {
             counters: field::counters(&description),
             element_sizes: definitions::element_sizes(sources),
             message_size: definitions::number(sources, "limit"),
-            messages: definitions::number(sources, "maxMessages"),
+            messages: definitions::number(sources, "max_messages"),
             listing: definitions::constant(sources, "mrd_list/src/main.rt", "LIMIT"),
         }
     }

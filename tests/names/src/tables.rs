@@ -72,7 +72,7 @@ fn kinds(format: &Format) -> String {
     });
     table(&["id", "kind", "fixed part, bytes", "then"], rows.collect())
         + &carried(
-            &["idOf", "formOf", "fixedSize"],
+            &["id_of", "form_of", "fixed_size"],
             "mrd_format/specs/Kinds.antt",
         )
 }
@@ -99,7 +99,7 @@ fn order(format: &Format, sources: &Sources) -> String {
         );
         row
     });
-    table(&head, rows.collect()) + &carried(&["allowed", "nextPhase"], sources.home("allowed"))
+    table(&head, rows.collect()) + &carried(&["allowed", "next_phase"], sources.home("allowed"))
 }
 
 /// What is said of a stage: its name in words, and what it is about.
@@ -126,7 +126,7 @@ fn stage_words(stage: &str) -> (&'static str, &'static str) {
 fn stages(sources: &Sources) -> String {
     let row = |stage: String| {
         let (words, of) = stage_words(&stage);
-        let name = format!("{stage}Checks");
+        let name = format!("{stage}_checks");
         vec![
             words.to_string(),
             listed(&definitions::stage_checks(sources, &name)),
@@ -134,7 +134,7 @@ fn stages(sources: &Sources) -> String {
             format!("`{name}`"),
         ]
     };
-    let names = ["stages", "checksAs"];
+    let names = ["stages", "checks_as"];
     table(
         &["stage", "checks, in order", "", "definition"],
         definitions::stages(sources).into_iter().map(row).collect(),
@@ -152,7 +152,7 @@ fn own_checks(format: &Format, sources: &Sources) -> String {
         .iter()
         .map(|kind| vec![words(&kind.name), checks(&kind.name)]);
     table(&["kind", "own checks, in order"], rows.collect())
-        + &carried(&["ownChecks"], "mrd_format/specs/Message.antt")
+        + &carried(&["own_checks"], "mrd_format/specs/Message.antt")
 }
 
 /// Numbers with commas between.
@@ -203,7 +203,7 @@ fn data_types(format: &Format) -> String {
     });
     table(&["data_type", "name", "one pixel", "bytes"], rows.collect())
         + &carried(
-            &["elementSize", "pixelsSize"],
+            &["element_size", "pixels_size"],
             "mrd_format/specs/Image.antt",
         )
 }
@@ -282,8 +282,8 @@ fn limits(format: &Format, sources: &Sources) -> String {
     ];
     table(&["limit", "value", "beyond it"], rows)
         + &format!(
-            "\nDefinitions: `limit` in `mrd_format/specs/Message.antt`, `maxMessages` in `{}`; `LIMIT` in `mrd_list/src/main.rt`.\n",
-            sources.home("maxMessages")
+            "\nDefinitions: `limit` in `mrd_format/specs/Message.antt`, `max_messages` in `{}`; `LIMIT` in `mrd_list/src/main.rt`.\n",
+            sources.home("max_messages")
         )
 }
 
@@ -296,8 +296,8 @@ fn named(name: &str, format: &Format, sources: &Sources) -> String {
         "own checks" => own_checks(format, sources),
         "acquisition" => header(&format.headers[0], &["layout", "cells"]),
         "image" => header(&format.headers[1], &["layout", "cells"]),
-        "waveform" => header(&format.headers[2], &["offset", "typeOf", "cells"]),
-        "aligned waveform" => header(&format.headers[3], &["offset", "typeOf", "cells"]),
+        "waveform" => header(&format.headers[2], &["offset", "type_of", "cells"]),
+        "aligned waveform" => header(&format.headers[3], &["offset", "type_of", "cells"]),
         "counters" => counters(format),
         "data types" => data_types(format),
         "flags" => flags(format),

@@ -1,6 +1,6 @@
 -- What is saved of a torn recording: what is kept, what the report says, and the records.
 -- Assumes nothing.
-use Rattle.std.specs.Prelude.{ℕ, ◌+◌, ◌-◌, ◌≤◌, ◌<◌, ◌≡◌, Bool}
+use Rattle.std.specs.Prelude.{ℕ, ◌-◌, ◌≤◌, ◌<◌, ◌≡◌, Bool}
 use Rattle.std.proofs.Math.Decide.{dec_le}
 use Rattle.std.proofs.Math.Nat.{sub_self}
 use Rattle.std.proofs.Common.{arith, sym, subst, ◌∙◌, inr, take_all, length-take-le}

@@ -1,7 +1,7 @@
 -- The part of a record that a byte of the stream belongs to, and that there is one and no other.
 -- Assumes nothing.
 use Rattle.std.specs.Prelude.{ℕ, ◌+◌, ◌-◌, ◌≡◌, true, List, map}
-use Rattle.mrd_logic.specs.Answer.{answered, number}
+use Rattle.mrd_logic.specs.Answer.{answered}
 use Rattle.mrd_logic.specs.Joined.{joined}
 use Rattle.mrd_logic.specs.Lists.{Nth}
 use Rattle.mrd_format.specs.declared.rules.Rules.{Rules}
@@ -12,11 +12,10 @@ use Rattle.mrd_format.specs.Holding.{holds}
 use Rattle.mrd_format.specs.Adjoining.{Adjoins, places_of}
 use Rattle.mrd_element.specs.declared.byte.HeaderByte.{HeaderByte}
 use Rattle.mrd_element.specs.Pieces.{header_byte_of}
-use Rattle.mrd_stream.specs.Walk.{message, answer}
 use Rattle.mrd_stream.specs.Places.{Located, place}
 use Rattle.mrd_cut.specs.CutPlaces.{part_at}
 use Rattle.mrd_views.specs.Views.{span}
-use Rattle.mrd_holding.specs.Held.{in_header, told}
+use Rattle.mrd_holding.specs.Held.{in_header}
 use Rattle.mrd_part_at.specs.PartAt.{parts_at, NamedByte, part_of_byte}
 use Rattle.mrd_demands.specs.RecordViews.{ViewOfPart}
 

@@ -1,17 +1,15 @@
 -- What the views of a record show: the record's parts, each at its place.
 -- Assumes nothing.
-use Rattle.std.specs.Prelude.{ℕ, ◌+◌, ◌*◌, ◌≡◌, List, length, take, drop}
+use Rattle.std.specs.Prelude.{ℕ, ◌+◌, ◌*◌, ◌≡◌, List, take, drop}
 use Rattle.mrd_logic.specs.Every.{Every}
 use Rattle.mrd_logic.specs.Answer.{answered, number}
-use Rattle.mrd_format.specs.Parts as part
-use Rattle.mrd_format.specs.Parts.{Part}
 use Rattle.mrd_format.specs.Content.{Record}
 use Rattle.mrd_format.specs.Segments.{PlacedPart}
 use Rattle.mrd_format.specs.PartSearch.{NoneIs}
 use Rattle.mrd_parts.specs.declared.parts.Part as parts
 use Rattle.mrd_parts.specs.declared.parts.Part.TheVariants as asked
 use Rattle.mrd_parts.specs.Sought.{part_meaning}
-use Rattle.mrd_stream.specs.Places.{Located, place}
+use Rattle.mrd_stream.specs.Places.{Located}
 use Rattle.mrd_views.specs.declared.views.Span.{Span}
 use Rattle.mrd_views.specs.Views.{span, view_of, shown}
 use Rattle.mrd_part_at.specs.PartAt.{parts_at}

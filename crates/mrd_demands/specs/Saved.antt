@@ -9,8 +9,7 @@ use Rattle.mrd_logic.specs.Joined.{joined}
 use Rattle.mrd_format.specs.declared.rules.Rules.{Rules}
 use Rattle.mrd_format.specs.WellFormed.{WellFormed}
 use Rattle.mrd_salvage.specs.declared.report.Report.{Report}
-use Rattle.mrd_salvage.specs.Salvage.{close_added, kept, closing, salvaged, report}
-use Rattle.mrd_salvage.proofs.SavedLaws.{saved}
+use Rattle.mrd_salvage.specs.Salvage.{kept, closing, salvaged, report}
 use Rattle.mrd_salvage.specs.Torn.{TornAt}
 
 -- what is saved of s, and that the report's numbers are what they are named for: the messages that are kept are well formed and stand unchanged at the

@@ -17,7 +17,8 @@ use mrd_numbers::{read_u16, read_u32, read_u64};
 fn float_of(bits: u32) -> Value
     ensures { TellsValue result (float bits) }
 {
-    if 0x7f80_0000 < bits % 0x8000_0000 {
+    let nan = 0x7f80_0000 < bits % 0x8000_0000;
+    if nan {
         return Value::Nan(bits);
     }
     Value::Float(f32::from_bits(bits))

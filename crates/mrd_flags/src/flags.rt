@@ -11,7 +11,8 @@ fn mask(n: u32) -> u64
     if n < 1 {
         return 0;
     }
-    if 64 < n {
+    let above = 64 < n;
+    if above {
         return 0;
     }
     1 << (n - 1)

@@ -45,6 +45,7 @@ pub fn fault(h: &[u8]) -> u8
 }
 
 // The number of the first of checks 4 and 8 that refuses the header at the front of h, or 0.
+#[tactic(auto, unfolding(mrd_format::specs::Image::header_checks))]
 pub fn header_fault(h: &[u8]) -> u8
     requires { header_size Kind.Image ≤ length h.now }
     ensures { result ≡ first (header_checks h.now) }
@@ -76,7 +77,8 @@ fn lengths_differ(h: &[u8]) -> bool
     ensures { result ≡ lengths_differ h.now }
 {
     let number = read_u32(h, Kind::ATTRIBUTE_STRING_LEN) as u64;
-    if number == 0 {
+    let unsaid = number == 0;
+    if unsaid {
         return false;
     }
     number != attribute_length(h)

@@ -41,7 +41,8 @@ pub fn judge(rules: Rules, c: Cursor, t: &[u8]) -> Judgement
     let id = judge_id(c, identified);
     match identified {
         Identified::Known(kind) => {
-            if id != 0 {
+            let refused = id != 0;
+            if refused {
                 return Judgement::Faulty(id);
             }
             judge_body(kind, t)
@@ -61,7 +62,8 @@ pub fn judge_front(c: Cursor, t: &[u8]) -> u8
     if MAX_MESSAGES <= c.number {
         return refusal::TOO_MANY;
     }
-    if t.len() == 1 {
+    let lone = t.len() == 1;
+    if lone {
         return refusal::ID_CUT;
     }
     0
@@ -95,7 +97,8 @@ fn judge_body(kind: Kind, t: &[u8]) -> Judgement
         return Judgement::Faulty(fixed);
     }
     let end = mrd_message::size(kind, fixed_part(kind, t));
-    if MAX_MESSAGE_SIZE < end as u64 {
+    let too_large = MAX_MESSAGE_SIZE < end as u64;
+    if too_large {
         return Judgement::Faulty(judge_size(end, t));
     }
     if t.len() < end {
@@ -119,7 +122,8 @@ pub fn judge_fixed(kind: Kind, t: &[u8]) -> u8
 pub fn judge_size(size: usize, t: &[u8]) -> u8
     ensures { result ≡ first (size_checks size t.now) }
 {
-    if MAX_MESSAGE_SIZE < size as u64 {
+    let too_large = MAX_MESSAGE_SIZE < size as u64;
+    if too_large {
         return refusal::TOO_LARGE;
     }
     if t.len() < size {

@@ -37,7 +37,8 @@ fn write(rules: Rules, s: &[u8], out: &mut [u8]) -> Written
     ensures result_value { written_meaning result ≡ normal_answer rules s.now (length out.old) }
     ensures out_after { out.new ≡ normal_output rules s.now out.old }
 {
-    if out.len() < s.len() {
+    let short = out.len() < s.len();
+    if short {
         return Written::Refused(refusal::OUTPUT_SHORT);
     }
     messages::put_messages(rules, s, out);

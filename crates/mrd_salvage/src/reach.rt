@@ -63,7 +63,8 @@ pub(crate) fn walk(rules: Rules, s: &[u8]) -> Reach
             Judgement::Whole(sort, size) => {
                 let kind = sort.kind(rules);
                 let text = judge_text(profile, kind, &s[start..], size);
-                if text != 0 {
+                let refused = text != 0;
+                if refused {
                     return Reach::at(c, last);
                 }
                 last = start;

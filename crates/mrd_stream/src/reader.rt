@@ -125,7 +125,8 @@ fn check_plain(rules: Rules, c: Cursor, s: &[u8]) -> Checked
     let mut c = c;
     loop {
         let start = c.start;
-        if s.len() <= start {
+        let at_end = s.len() <= start;
+        if at_end {
             return ended(c);
         }
         let judgement = judge(rules, c, &s[start..]);

@@ -52,7 +52,8 @@ impl State {
         let mut state = self;
         let mut i: usize = 0;
         while i < s.len() {
-            if state.due == 0 {
+            let whole = state.due == 0;
+            if whole {
                 return State::read_text(&s[i..]);
             }
             state = state.next(s[i]);
@@ -103,7 +104,8 @@ impl State {
     fn begun(octet: u8) -> State
         ensures { due_of result ≡ begun rows octet }
     {
-        if octet < 0x80 {
+        let ascii = octet < 0x80;
+        if ascii {
             return State::awaiting(0, 0, 0);
         }
         if octet < 0xC2 {
@@ -180,7 +182,8 @@ fn whole(s: &[u8]) -> usize
 fn whole_in_block(s: &[u8]) -> usize
     ensures { Whole result s.now }
 {
-    if highest(s) < 0x80 {
+    let ascii = highest(s) < 0x80;
+    if ascii {
         return s.len();
     }
     characters(s)

@@ -2,5 +2,5 @@
 use Rattle.mrd_utf8.specs.Whole.{whole_ascii}
 use Rattle.mrd_utf8.proofs.whole_in_block.Goals as goal
 
-pub returns-then-highest-lt128 : goal.returns-then-highest-lt128
-returns-then-highest-lt128 c = whole_ascii c.highest.result c.args.s.now c.highest.ensures c.if-highest-lt128.true
+pub returns-then-ascii : goal.returns-then-ascii
+returns-then-ascii c = whole_ascii c.highest-ascii.result c.args.s.now c.highest-ascii.ensures c.if-ascii.true

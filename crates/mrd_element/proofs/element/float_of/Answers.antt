@@ -3,11 +3,11 @@
 use Rattle.mrd_element.specs.FloatLaws.{nan_meaning, no_nan, float-meaning}
 use Rattle.mrd_element.proofs.element.float_of.Goals as goal
 
-pub returns-then-bits-gt2139095040 : goal.returns-then-bits-gt2139095040
-returns-then-bits-gt2139095040 c = nan_meaning c.args.bits c.if-bits-gt2139095040.true
+pub returns-then-nan : goal.returns-then-nan
+returns-then-nan c = nan_meaning c.args.bits c.if-nan.true
 
 pub float_from_bits-result : goal.float_from_bits-result
-float_from_bits-result c = no_nan c.args.bits c.if-bits-gt2139095040.false
+float_from_bits-result c = no_nan c.args.bits c.if-nan.false
 
 pub returns : goal.returns
-returns c = float-meaning c.args.bits c.ranges.bits.fits c.if-bits-gt2139095040.false
+returns c = float-meaning c.args.bits c.ranges.bits.fits c.if-nan.false

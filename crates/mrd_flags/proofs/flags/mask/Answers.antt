@@ -10,9 +10,9 @@ pub returns-then-n-lt1 : goal.returns-then-n-lt1
 unfolding flag_set
 returns-then-n-lt1 c = simp (lt-leb 1 _ c.if-n-lt1.true)
 
-pub returns-then-n-gt64 : goal.returns-then-n-gt64
+pub returns-then-above : goal.returns-then-above
 unfolding flag_set
-returns-then-n-gt64 c = simp (lt-leb _ 64 c.if-n-gt64.true, and-false)
+returns-then-above c = simp (lt-leb _ 64 c.if-above.true, and-false)
 
 pub returns : goal.returns
-returns c = shifted_mask c.args.n c.if-n-lt1.false c.if-n-gt64.false
+returns c = shifted_mask c.args.n c.if-n-lt1.false c.if-above.false

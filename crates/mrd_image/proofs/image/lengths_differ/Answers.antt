@@ -3,9 +3,9 @@
 use borrow.Author.Tests.{ne_eqb, eq-eqb}
 use Rattle.mrd_image.proofs.image.lengths_differ.Goals as goal
 
-pub returns-then-number-eq0 : goal.returns-then-number-eq0
-returns-then-number-eq0 c = simp (← c.read_u32-number.ensures, eq-eqb _ _ c.if-number-eq0.true)
+pub returns-then-unsaid : goal.returns-then-unsaid
+returns-then-unsaid c = simp (← c.read_u32-number.ensures, eq-eqb _ _ c.if-unsaid.true)
 
 pub returns : goal.returns
 returns c =
-    simp (← c.read_u32-number.ensures, ne_eqb _ _ c.if-number-eq0.false, ← c.attribute_length.ensures)
+    simp (← c.read_u32-number.ensures, ne_eqb _ _ c.if-unsaid.false, ← c.attribute_length.ensures)

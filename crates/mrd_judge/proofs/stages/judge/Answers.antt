@@ -16,25 +16,25 @@ pub read_u16-requires : goal.read_u16-requires
 read_u16-requires c =
     laws.front-two c.args.c c.args.t.now c.requires (sym c.judge_front-front.ensures ∙ c.if-front-ne0.false)
 
-pub returns-then-id-ne0 : goal.returns-then-id-ne0
+pub returns-then-refused : goal.returns-then-refused
 unfolding judge_by
-returns-then-id-ne0 c =
+returns-then-refused c =
     let a = c.args in
     rw (ap (identified a.rules) (sym c.read_u16.ensures) ∙ sym c.of_id-identified.ensures ∙ c.in-Known.is)
     (ap sorted (sym (laws.id-stops _ _ a.c a.t.now (sym c.judge_front-front.ensures ∙ c.if-front-ne0.false)
-    (sym (rw c.in-Known.is at c.judge_id-id.ensures)) c.if-id-ne0.true)))
+    (sym (rw c.in-Known.is at c.judge_id-id.ensures)) c.if-refused.true)))
 
 pub judge_body-requires : goal.judge_body-requires
 judge_body-requires c =
     laws.front-two c.args.c c.args.t.now c.requires (sym c.judge_front-front.ensures ∙ c.if-front-ne0.false)
 
-pub returns-else-id-ne0 : goal.returns-else-id-ne0
+pub returns-else-refused : goal.returns-else-refused
 unfolding judge_by
-returns-else-id-ne0 c =
+returns-else-refused c =
     let a = c.args in
     rw (ap (identified a.rules) (sym c.read_u16.ensures) ∙ sym c.of_id-identified.ensures ∙ c.in-Known.is)
     (c.judge_body.ensures ∙ ap sorted (sym (laws.id-passed _ _ a.c a.t.now (sym c.judge_front-front.ensures ∙ c.if-front-ne0.false)
-    (sym (rw c.in-Known.is at c.judge_id-id.ensures) ∙ c.if-id-ne0.false))))
+    (sym (rw c.in-Known.is at c.judge_id-id.ensures) ∙ c.if-refused.false))))
 
 pub returns-in-Unknown : goal.returns-in-Unknown
 unfolding judge_by

@@ -27,12 +27,12 @@ size-end-requires c =
     ap length c.fixed_part.ensures ∙ laws.fixed-long a.kind a.t.now
     (laws.fixed-fits a.kind a.t.now (sym c.judge_fixed-fixed.ensures ∙ c.if-fixed-ne0.false))
 
-pub returns-then-end-gt-MAX_MESSAGE_SIZE : goal.returns-then-end-gt-MAX_MESSAGE_SIZE
-returns-then-end-gt-MAX_MESSAGE_SIZE c =
+pub returns-then-too_large : goal.returns-then-too_large
+returns-then-too_large c =
     let a = c.args in
     ap sorted (sym (laws.size-stops Plain a.kind a.t.now (sym c.judge_fixed-fixed.ensures ∙ c.if-fixed-ne0.false)
     (c.size-end.ensures ∙ ap (λ (h : List ℕ). capped (size_of a.kind h)) c.fixed_part.ensures)
-    (sym c.judge_size.ensures) (λ z. laws.size-large _ _ c.if-end-gt-MAX_MESSAGE_SIZE.true (sym c.judge_size.ensures ∙ z))))
+    (sym c.judge_size.ensures) (λ z. laws.size-large _ _ c.if-too_large.true (sym c.judge_size.ensures ∙ z))))
 
 pub returns-then-t-end : goal.returns-then-t-end
 returns-then-t-end c =
@@ -47,4 +47,4 @@ returns c =
     rw c.of.ensures
     (ap sorted (sym (laws.size-passed a.kind a.t.now (sym c.judge_fixed-fixed.ensures ∙ c.if-fixed-ne0.false)
     (c.size-end.ensures ∙ ap (λ (h : List ℕ). capped (size_of a.kind h)) c.fixed_part.ensures)
-    (laws.size_fits _ _ c.if-end-gt-MAX_MESSAGE_SIZE.false c.if-t-end.false))))
+    (laws.size_fits _ _ c.if-too_large.false c.if-t-end.false))))

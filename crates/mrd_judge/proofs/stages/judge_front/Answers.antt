@@ -12,12 +12,12 @@ pub returns-then-c-ge-MAX_MESSAGES : goal.returns-then-c-ge-MAX_MESSAGES
 unfolding front_checks
 returns-then-c-ge-MAX_MESSAGES c = simp (← c.is_closed.ensures, c.if-is_closed.false, le-leb _ _ c.if-c-ge-MAX_MESSAGES.true)
 
-pub returns-then-t-eq1 : goal.returns-then-t-eq1
+pub returns-then-lone : goal.returns-then-lone
 unfolding front_checks
-returns-then-t-eq1 c =
-    simp (← c.is_closed.ensures, c.if-is_closed.false, lt-leb _ _ c.if-c-ge-MAX_MESSAGES.false, eq-eqb _ _ c.if-t-eq1.true)
+returns-then-lone c =
+    simp (← c.is_closed.ensures, c.if-is_closed.false, lt-leb _ _ c.if-c-ge-MAX_MESSAGES.false, eq-eqb _ _ c.if-lone.true)
 
 pub returns : goal.returns
 unfolding front_checks
 returns c =
-    simp (← c.is_closed.ensures, c.if-is_closed.false, lt-leb _ _ c.if-c-ge-MAX_MESSAGES.false, ne_eqb _ _ c.if-t-eq1.false)
+    simp (← c.is_closed.ensures, c.if-is_closed.false, lt-leb _ _ c.if-c-ge-MAX_MESSAGES.false, ne_eqb _ _ c.if-lone.false)

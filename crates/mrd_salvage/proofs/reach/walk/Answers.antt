@@ -35,8 +35,8 @@ judge_text-text-requires c =
     let a = c.args in
     rw (part-from, c.kind-kind.ensures) (taken a.rules loop.c (drop loop.c.start a.s.now) told)
 
-pub returns-then-text-ne0 : goal.returns-then-text-ne0
-returns-then-text-ne0 c =
+pub returns-then-refused : goal.returns-then-refused
+returns-then-refused c =
     let told :
     let loop = c.loop-rules in
     let a = c.args in
@@ -51,8 +51,8 @@ returns-then-text-ne0 c =
     rw (part-from, c.kind-kind.ensures) at c.judge_text-text.ensures in
     let loop = c.loop-rules in
     let a = c.args in
-    c.at-then-text-ne0.ensures ∙ stopped a.rules a.s.now loop.invariant c.if-s-start.false
-    (text-refuses a.rules loop.c (drop loop.c.start a.s.now) told (sym text-is) c.if-text-ne0.true)
+    c.at-then-refused.ensures ∙ stopped a.rules a.s.now loop.invariant c.if-s-start.false
+    (text-refuses a.rules loop.c (drop loop.c.start a.s.now) told (sym text-is) c.if-refused.true)
 
 pub after-c-requires : goal.after-c-requires
 after-c-requires c =
@@ -79,7 +79,7 @@ after-c-requires c =
     rw c.kind-kind.ensures (text-passes a.rules loop.c (drop loop.c.start a.s.now) told (sym text-is ∙ none)) in
     let loop = c.loop-rules in
     let a = c.args in
-    let p = passed a.rules a.s.now loop.invariant c.if-s-start.false (found-whole c.if-text-ne0.false) in
+    let p = passed a.rules a.s.now loop.invariant c.if-s-start.false (found-whole c.if-refused.false) in
     let ends = p.within in
     (p.few, search rules)
 
@@ -109,7 +109,7 @@ loop-rules-smaller c =
     let loop = c.loop-rules in
     let a = c.args in
     rw c.after-c.ensures (on_less a.s.now
-    (passed a.rules a.s.now loop.invariant c.if-s-start.false (found-whole c.if-text-ne0.false)))
+    (passed a.rules a.s.now loop.invariant c.if-s-start.false (found-whole c.if-refused.false)))
 
 pub loop-rules-preserved : goal.loop-rules-preserved
 loop-rules-preserved c =
@@ -136,7 +136,7 @@ loop-rules-preserved c =
     rw c.kind-kind.ensures (text-passes a.rules loop.c (drop loop.c.start a.s.now) told (sym text-is ∙ none)) in
     let loop = c.loop-rules in
     let a = c.args in
-    rw c.after-c.ensures (next a.rules a.s.now loop.invariant c.if-s-start.false (found-whole c.if-text-ne0.false))
+    rw c.after-c.ensures (next a.rules a.s.now loop.invariant c.if-s-start.false (found-whole c.if-refused.false))
 
 pub returns-in-Faulty : goal.returns-in-Faulty
 returns-in-Faulty c =

@@ -13,11 +13,11 @@ use Rattle.mrd_judge.specs.TextLaws.{judged-plain, faulty-too}
 use Rattle.mrd_judge.specs.WholeLaws as judged
 use Rattle.mrd_stream.proofs.reader.check_plain.Goals as goal
 
-pub returns-then-s-start : goal.returns-then-s-start
-returns-then-s-start c =
+pub returns-then-at_end : goal.returns-then-at_end
+returns-then-at_end c =
     let loop = c.loop-rules in
     let s = c.args.s.now in
-    c.ended.ensures ∙ kept-end _ verdict s loop.c loop.invariant (laws.step-ended _ loop.c s c.if-s-start.true)
+    c.ended.ensures ∙ kept-end _ verdict s loop.c loop.invariant (laws.step-ended _ loop.c s c.if-at_end.true)
 
 pub after-c-requires : goal.after-c-requires
 after-c-requires c =
@@ -32,8 +32,8 @@ after-c-requires c =
     rw c.kind.ensures (judged.found-whole a.rules loop.c (drop loop.c.start a.s.now) (told ∙ ap sorted plain)) in
     let loop = c.loop-rules in
     let s = c.args.s.now in
-    let size = laws.whole-ends _ loop.c s c.if-s-start.false found-whole in
-    (laws.whole-counted _ loop.c s c.if-s-start.false found-whole, search rules)
+    let size = laws.whole-ends _ loop.c s c.if-at_end.false found-whole in
+    (laws.whole-counted _ loop.c s c.if-at_end.false found-whole, search rules)
 
 pub loop-rules-smaller : goal.loop-rules-smaller
 loop-rules-smaller c =
@@ -48,7 +48,7 @@ loop-rules-smaller c =
     rw c.kind.ensures (judged.found-whole a.rules loop.c (drop loop.c.start a.s.now) (told ∙ ap sorted plain)) in
     let loop = c.loop-rules in
     let s = c.args.s.now in
-    rw c.after-c.ensures (on_less s (step-yields _ loop.c s (laws.step-whole _ loop.c s c.if-s-start.false found-whole)))
+    rw c.after-c.ensures (on_less s (step-yields _ loop.c s (laws.step-whole _ loop.c s c.if-at_end.false found-whole)))
 
 pub loop-rules-preserved : goal.loop-rules-preserved
 loop-rules-preserved c =
@@ -65,12 +65,12 @@ loop-rules-preserved c =
     let s = c.args.s.now in
     rw c.after-c.ensures
     (kept_next _ verdict s verdict loop.invariant (step-yields _ loop.c s
-    (laws.step-whole _ loop.c s c.if-s-start.false found-whole)) (λ r. refl))
+    (laws.step-whole _ loop.c s c.if-at_end.false found-whole)) (λ r. refl))
 
 pub returns-in-Faulty : goal.returns-in-Faulty
 returns-in-Faulty c =
     let loop = c.loop-rules in
     let a = c.args in
     let told = rw part-from at (rw c.in-Faulty.is at c.judge-judgement.ensures) in
-    c.refused.ensures ∙ kept-end _ verdict a.s.now loop.c loop.invariant (laws.step-faulty _ loop.c a.s.now c.if-s-start.false
+    c.refused.ensures ∙ kept-end _ verdict a.s.now loop.c loop.invariant (laws.step-faulty _ loop.c a.s.now c.if-at_end.false
     (faulty-too a.rules loop.c (drop loop.c.start a.s.now) told))

@@ -5,8 +5,8 @@ use mathlib.Core.Path.{refl, sym, ◌∙◌}
 use Rattle.mrd_utf8.specs.DueLaws.{first_in, first_out}
 use Rattle.mrd_utf8.proofs.State.begun.Goals as goal
 
-pub returns-then-octet-lt128 : goal.returns-then-octet-lt128
-returns-then-octet-lt128 c = c.awaiting.ensures ∙ sym (first_in 0 0x00 0x7F _ refl refl (omega arith) (omega arith))
+pub returns-then-ascii : goal.returns-then-ascii
+returns-then-ascii c = c.awaiting.ensures ∙ sym (first_in 0 0x00 0x7F _ refl refl (omega arith) (omega arith))
 
 pub returns-then-octet-lt194 : goal.returns-then-octet-lt194
 returns-then-octet-lt194 c = c.fault.ensures ∙ sym (first_out 1 0x80 0xC2 _ refl refl (omega arith) (omega arith))

@@ -14,11 +14,11 @@ use Rattle.mrd_utf8.proofs.State.read.Goals as goal
 pub loop-i-init : goal.loop-i-init
 loop-i-init c = read_none _ _
 
-pub returns-then-state-eq0 : goal.returns-then-state-eq0
-returns-then-state-eq0 c =
+pub returns-then-whole : goal.returns-then-whole
+returns-then-whole c =
     let loop = c.loop-i in
     let s = c.args.s.now in
-    let none = none-awaited loop.state.due loop.state.lo loop.state.hi c.if-state-eq0.true in
+    let none = none-awaited loop.state.due loop.state.lo loop.state.hi c.if-whole.true in
     read-rest loop.invariant (c.read_text.ensures ∙ ap (λ (due : List Range). run due (take (length s - loop.i) (drop loop.i s))) (sym none))
 
 pub loop-i-preserved : goal.loop-i-preserved

@@ -1,6 +1,6 @@
 -- Messages torn at a byte.
 -- Assumes nothing.
-use Rattle.std.specs.Prelude.{ℕ, ◌+◌, ◌<◌, ◌≡◌, length, take}
+use Rattle.std.specs.Prelude.{ℕ, ◌<◌, ◌≡◌, length, take}
 use mathlib.Core.List.{List, ◌∷◌, ◌++◌}
 use Rattle.mrd_logic.specs.Joined.{joined}
 

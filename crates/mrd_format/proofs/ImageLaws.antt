@@ -37,6 +37,7 @@ image_settled z h =
     front-settled z 194 (map (λ (f : Field). field (layout f)) fields) (length_of part.attributes (layout attribute-string-len) ∷ []) h refl refl ∙
     ap (λ (b : List ℕ). take 194 h ++ b) (append-nil (to_bytes 4 (z part.attributes)))
 
+-- headers that agree so pass the same checks, and have the same pixels
 pub agree-checks : (g h : List ℕ) → Agree g h → header_checks g ≡ header_checks h
 unfolding header_checks
 agree-checks g h a = rw (a 2 0 (omega arith), a 2 2 (omega arith))

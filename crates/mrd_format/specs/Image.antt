@@ -110,6 +110,10 @@ unfoldable pub numbers : List ℕ → List ℕ
 numbers h =
     get_at matrix-size 0 h ∷ get_at matrix-size 1 h ∷ get_at matrix-size 2 h ∷ get channels h ∷ get data-type h ∷ attribute_length h ∷ []
 
+-- headers that agree in every number of the record's fields
+abbrev pub Agree : List ℕ → List ℕ → Type 0
+Agree g h = (w i : ℕ) → i + w ≤ 194 → num w g i ≡ num w h i
+
 -- '198 + 8, a u64 attribute length A'
 abbrev pub form : Form
 form =
@@ -122,7 +126,3 @@ form =
       counter = λ h. 0;
       uid = get measurement-uid;
     }
-
--- headers that agree in every number of the record's fields pass the same checks, and have the same pixels
-abbrev pub Agree : List ℕ → List ℕ → Type 0
-Agree g h = (w i : ℕ) → i + w ≤ 194 → num w g i ≡ num w h i

@@ -107,18 +107,6 @@ body l h = sized waveform (body_size l h) ∷ []
 unfoldable pub numbers : Layout → List ℕ → List ℕ
 numbers l h = get l number-of-samples h ∷ get l channels h ∷ []
 
-abbrev pub form : Layout → Form
-form l =
-    record {
-      cells = cells l;
-      fixed_segments = fixed (header_bytes l) ∷ [];
-      body_segments = body l;
-      checks = checks l;
-      numbers = numbers l;
-      counter = get l scan-counter;
-      uid = get l measurement-uid;
-    }
-
 -- the offset of a field among those that the code has
 abbrev pub offset_in : WaveformOffsets → Field → ℕ
 offset_in w version = w.version
@@ -130,3 +118,15 @@ offset_in w number-of-samples = w.number_of_samples
 offset_in w channels = w.channels
 offset_in w sample-time-us = w.sample_time_us
 offset_in w waveform-id = w.waveform_id
+
+abbrev pub form : Layout → Form
+form l =
+    record {
+      cells = cells l;
+      fixed_segments = fixed (header_bytes l) ∷ [];
+      body_segments = body l;
+      checks = checks l;
+      numbers = numbers l;
+      counter = get l scan-counter;
+      uid = get l measurement-uid;
+    }

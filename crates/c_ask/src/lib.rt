@@ -7,5 +7,5 @@
 mod question;
 mod reply;
 
-pub use question::{Question, question_of};
+pub use question::Question;
 pub use reply::Reply;

@@ -19,17 +19,20 @@ pub struct Question {
 }
 
 // The question that a C struct stands for; any other `what` asks for a part that no record has.
-pub fn question_of(question: Question) -> mrd_ask::Question
-    ensures { result ≡ question_of question }
-{
-    let what = question.what;
-    let n = question.number;
-    let part = part_of(question.part, question.channel);
-    match what {
-        1 => mrd_ask::Question::Place(n),
-        2 => mrd_ask::Question::View(n, part),
-        3 => mrd_ask::Question::Field(n, question.offset),
-        4 => mrd_ask::Question::Find(n),
-        _ => mrd_ask::Question::View(n, part_of(0, 0)),
+impl From<Question> for mrd_ask::Question {
+    ghost from_gives = { λ question q. q ≡ question_of question };
+
+    #[tactic(auto, unfolding(crate::specs::AskStructs::question_of, c_record::specs::PartNumbers::part_numbered))]
+    fn from(question: Question) -> mrd_ask::Question {
+        let what = question.what;
+        let n = question.number;
+        let part = part_of(question.part, question.channel);
+        match what {
+            1 => mrd_ask::Question::Place(n),
+            2 => mrd_ask::Question::View(n, part),
+            3 => mrd_ask::Question::Field(n, question.offset),
+            4 => mrd_ask::Question::Find(n),
+            _ => mrd_ask::Question::View(n, part_of(0, 0)),
+        }
     }
 }

@@ -5,6 +5,7 @@ ghost use Rattle.c_ask.specs.AskStructs.{refused_reply, c_reply};
 
 use c_place::Placed;
 use c_record::{FieldAnswer, Found, ViewPlace};
+use mrd_stream::Refused;
 
 // The answer of what was asked stands in the member for it. The other three hold no answer; each of the four
 // carries the reply's refusal, record and byte.
@@ -36,32 +37,30 @@ impl Reply {
         }
     }
 
-    pub fn of(reply: mrd_ask::Reply) -> Reply
+    // No `From`: it asks of a field what `FieldAnswer::value` does.
+    pub fn of(reply: Result<mrd_ask::Reply, Refused>) -> Reply
         requires { T (apart_in reply) }
         ensures { result ≡ c_reply (meaning reply) }
     {
         let mut r = Reply::refused(0, 0, 0);
         match reply {
-            mrd_ask::Reply::Place(here) => {
-                r.place = Placed::found(here);
+            Ok(mrd_ask::Reply::Place(here)) => {
+                r.place = Placed::from(here);
                 r
             }
-            mrd_ask::Reply::View(span) => {
+            Ok(mrd_ask::Reply::View(span)) => {
                 r.view = ViewPlace::new(0, 0, 0, span.start, span.length);
                 r
             }
-            mrd_ask::Reply::Field(value) => {
+            Ok(mrd_ask::Reply::Field(value)) => {
                 r.field = FieldAnswer::value(value);
                 r
             }
-            mrd_ask::Reply::Found(number) => {
+            Ok(mrd_ask::Reply::Found(number)) => {
                 r.found = Found::new(0, 0, 0, number);
                 r
             }
-            mrd_ask::Reply::Stream(refusal) => {
-                Reply::refused(refusal.number, refusal.record, refusal.byte)
-            }
-            mrd_ask::Reply::Refused(number) => Reply::refused(number, 0, 0),
+            Err(e) => Reply::refused(e.number(), e.record(), e.byte()),
         }
     }
 }

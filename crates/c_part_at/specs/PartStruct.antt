@@ -1,10 +1,9 @@
 -- What a byte belongs to as the C struct: the record, the part by its number, where it lies, and of a header's byte the element.
 -- Assumes nothing.
-use Rattle.std.specs.Prelude.{ℕ}
+use Rattle.std.specs.Prelude.{ℕ, Some, None}
 use Rattle.mrd_logic.specs.Answer.{Answer, answered, stream, number}
 use Rattle.mrd_format.specs.Parts as parts
 use Rattle.mrd_format.specs.Parts.{Part, channel_of}
-use Rattle.mrd_element.specs.declared.byte.HeaderByte.TheVariants.{Element, Filler}
 use Rattle.mrd_views.specs.declared.views.Span.{Span}
 pub use Rattle.mrd_holding.specs.Held.{in_header}
 use Rattle.mrd_holding.specs.Held.{Inner, whole}
@@ -35,13 +34,13 @@ part_number parts.samples = 0
 -- the element that a header's byte belongs to; 0 for filler and for any other part
 abbrev pub element_offset : Inner → ℕ
 element_offset whole = 0
-element_offset (in_header (Element e)) = e.offset
-element_offset (in_header Filler) = 0
+element_offset (in_header (Some e)) = e.offset
+element_offset (in_header None) = 0
 
 abbrev pub element_size : Inner → ℕ
 element_size whole = 0
-element_size (in_header (Element e)) = e.size
-element_size (in_header Filler) = 0
+element_size (in_header (Some e)) = e.size
+element_size (in_header None) = 0
 
 -- a part of the record at a place
 abbrev pub part_as : Placed → (part channel : ℕ) → Span → (offset size : ℕ) → PartAnswer

@@ -7,10 +7,10 @@ ghost use Rattle.c_part_at.specs.PartStruct.{refused_part, part_as, c_named, c_p
 
 use crate::number::{channel_of, number_of};
 use c_place::Placed;
-use mrd_element::HeaderByte;
+use mrd_element::ElementPlace;
 use mrd_holding::MessagePart;
 use mrd_part_at::PartPlace;
-use mrd_stream::PlacedRecord;
+use mrd_stream::{PlacedRecord, Refused};
 use mrd_views::Span;
 
 // The numbers of the parts that no view shows, after those of a view.
@@ -66,7 +66,7 @@ impl PartAnswer {
             refusal: 0,
             record: 0,
             byte: 0,
-            place: Placed::found(here),
+            place: Placed::from(here),
             part: part,
             channel: channel,
             start: span.start,
@@ -77,18 +77,16 @@ impl PartAnswer {
     }
 
     // A header, and the element that the byte belongs to.
-    fn header(here: PlacedRecord, span: Span, byte: HeaderByte) -> PartAnswer
+    fn header(here: PlacedRecord, span: Span, byte: Option<ElementPlace>) -> PartAnswer
         ensures { result ≡ part_as (c_record (record_meaning here)) header_number 0 span (element_offset (in_header byte)) (element_size (in_header byte)) }
     {
         let mut r = PartAnswer::part(here, span, HEADER, 0);
-        match byte {
-            HeaderByte::Element(place) => {
-                r.element_offset = place.offset;
-                r.element_size = place.size;
-                r
-            }
-            HeaderByte::Filler => r,
-        }
+        let Some(place) = byte else {
+            return r;
+        };
+        r.element_offset = place.offset;
+        r.element_size = place.size;
+        r
     }
 
     fn at(place: PartPlace) -> PartAnswer
@@ -107,16 +105,15 @@ impl PartAnswer {
             }
         }
     }
+}
 
-    pub fn of(answer: mrd_part_at::PartAnswer) -> PartAnswer
-        ensures { result ≡ c_part (answer_meaning answer) }
-    {
+impl From<Result<PartPlace, Refused>> for PartAnswer {
+    ghost from_gives = { λ answer r. r ≡ c_part (answer_meaning answer) };
+
+    fn from(answer: Result<PartPlace, Refused>) -> PartAnswer {
         match answer {
-            mrd_part_at::PartAnswer::At(place) => PartAnswer::at(place),
-            mrd_part_at::PartAnswer::Stream(refusal) => {
-                PartAnswer::refused(refusal.number, refusal.record, refusal.byte)
-            }
-            mrd_part_at::PartAnswer::Refused(number) => PartAnswer::refused(number, 0, 0),
+            Ok(place) => PartAnswer::at(place),
+            Err(e) => PartAnswer::refused(e.number(), e.record(), e.byte()),
         }
     }
 }

@@ -25,12 +25,7 @@ pub(crate) fn channel_of(part: Part) -> usize
     ensures { result ≡ channel_of (part_meaning part) }
 {
     match part {
-        Part::Name => 0,
-        Part::Text => 0,
-        Part::Attributes => 0,
-        Part::Trajectory => 0,
         Part::Channel(c) => c,
-        Part::Pixels => 0,
-        Part::Waveform => 0,
+        _ => 0,
     }
 }

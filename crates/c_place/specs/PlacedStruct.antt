@@ -4,11 +4,9 @@ use Rattle.std.specs.Prelude.{ℕ, get_or}
 use Rattle.mrd_logic.specs.Answer.{Answer, answered, stream, number}
 use Rattle.mrd_format.specs.declared.kind.Kind.{Kind}
 use Rattle.mrd_format.specs.declared.kind.Kind.TheVariants.{ConfigurationName, ConfigurationText, HeaderText, Close, Text, Acquisition, Image, Waveform}
-use Rattle.mrd_format.specs.declared.shape.Shape.{Shape}
 use Rattle.mrd_format.specs.Kinds.{id_of}
 use Rattle.mrd_stream.specs.declared.answer.Place.{Place}
 use Rattle.mrd_stream.specs.Places.{Located}
-use Rattle.mrd_stream.specs.ReaderMeaning.{record_meaning}
 use Rattle.c_place.specs.declared.placed.Placed.{Placed}
 
 -- a record at a place, with its id and the numbers of its kind
@@ -80,10 +78,6 @@ record_as (Waveform layout) l = record_with l 0 0 (own l 0) (own l 1) 0 0 0 0 0 
 
 abbrev pub c_record : Located → Placed
 c_record l = record_as l.kind l
-
--- the same of a place and a shape, which the code goes by
-abbrev pub shape_as : Place → Shape → Placed
-shape_as p h = c_record (record_meaning (record { place = p; shape = h }))
 
 abbrev pub c_placed : Answer Located → Placed
 c_placed (answered l) = c_record l

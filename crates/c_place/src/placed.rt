@@ -6,7 +6,7 @@ ghost use Rattle.mrd_stream.specs.ReaderMeaning.{placed_meaning, record_meaning}
 ghost use Rattle.c_place.specs.PlacedStruct.{refused_place, place_as, c_record, c_placed};
 
 use mrd_format::{AcquisitionShape, ImageShape, Kind, Shape, TextShape, WaveformShape};
-use mrd_stream::{Place, PlacedRecord};
+use mrd_stream::{Place, PlacedRecord, Refused};
 
 // A record: its number from 0, first byte, size with the id, id, and the numbers that its kind has: the
 // `length` is that of a name or text, the `channels` of an acquisition are the active ones, `mask` is the number
@@ -115,10 +115,12 @@ impl Placed {
         r.channels = shape.channels;
         r
     }
+}
 
-    pub fn found(here: PlacedRecord) -> Placed
-        ensures { result ≡ c_record (record_meaning here) }
-    {
+impl From<PlacedRecord> for Placed {
+    ghost from_gives = { λ here r. r ≡ c_record (record_meaning here) };
+
+    fn from(here: PlacedRecord) -> Placed {
         let place = here.place;
         let shape = here.shape;
         match shape {
@@ -132,14 +134,15 @@ impl Placed {
             Shape::Waveform(s) => Placed::waveform(place, s),
         }
     }
+}
 
-    pub fn of(answer: mrd_stream::Placed) -> Placed
-        ensures { result ≡ c_placed (placed_meaning answer) }
-    {
+impl From<Result<PlacedRecord, Refused>> for Placed {
+    ghost from_gives = { λ answer r. r ≡ c_placed (placed_meaning answer) };
+
+    fn from(answer: Result<PlacedRecord, Refused>) -> Placed {
         match answer {
-            mrd_stream::Placed::Found(here) => Placed::found(here),
-            mrd_stream::Placed::Stream(r) => Placed::refused(r.number, r.record, r.byte),
-            mrd_stream::Placed::Refused(number) => Placed::refused(number, 0, 0),
+            Ok(here) => Placed::from(here),
+            Err(e) => Placed::refused(e.number(), e.record(), e.byte()),
         }
     }
 }

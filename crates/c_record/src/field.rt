@@ -5,6 +5,7 @@ ghost use Rattle.mrd_fields.specs.Fields.{field_meaning, field_apart};
 ghost use Rattle.c_record.specs.RecordStructs.{refused_field, c_value, c_field};
 
 use mrd_element::Value;
+use mrd_stream::Refused;
 
 // A header element: its type, 1 whole, 2 signed or 3 float, and its value in the member for that type.
 #[repr(C)]
@@ -71,14 +72,14 @@ impl FieldAnswer {
         }
     }
 
-    pub fn of(answer: mrd_fields::FieldAnswer) -> FieldAnswer
+    // No `From`: it asks of the value what `value` does.
+    pub fn of(answer: Result<Value, Refused>) -> FieldAnswer
         requires { T (field_apart answer) }
         ensures { result ≡ c_field (field_meaning answer) }
     {
         match answer {
-            mrd_fields::FieldAnswer::Value(value) => FieldAnswer::value(value),
-            mrd_fields::FieldAnswer::Stream(r) => FieldAnswer::refused(r.number, r.record, r.byte),
-            mrd_fields::FieldAnswer::Refused(number) => FieldAnswer::refused(number, 0, 0),
+            Ok(value) => FieldAnswer::value(value),
+            Err(e) => FieldAnswer::refused(e.number(), e.record(), e.byte()),
         }
     }
 }

@@ -3,6 +3,8 @@ ghost use Rattle.std.specs.Prelude.{◌≡◌};
 ghost use Rattle.mrd_find.specs.FoundMeaning.{found_meaning};
 ghost use Rattle.c_record.specs.RecordStructs.{found_as, c_found};
 
+use mrd_stream::Refused;
+
 // The number of the record that was looked for.
 #[repr(C)]
 #[derive(Clone, Copy)]
@@ -24,14 +26,15 @@ impl Found {
             number: number,
         }
     }
+}
 
-    pub fn of(answer: mrd_find::Found) -> Found
-        ensures { result ≡ c_found (found_meaning answer) }
-    {
+impl From<Result<usize, Refused>> for Found {
+    ghost from_gives = { λ answer r. r ≡ c_found (found_meaning answer) };
+
+    fn from(answer: Result<usize, Refused>) -> Found {
         match answer {
-            mrd_find::Found::Record(number) => Found::new(0, 0, 0, number),
-            mrd_find::Found::Stream(r) => Found::new(r.number, r.record, r.byte, 0),
-            mrd_find::Found::Refused(number) => Found::new(number, 0, 0, 0),
+            Ok(number) => Found::new(0, 0, 0, number),
+            Err(e) => Found::new(e.number(), e.record(), e.byte(), 0),
         }
     }
 }

@@ -8,6 +8,7 @@ use mrd_parts::Part;
 const NO_CHANNEL: usize = 18446744073709551615;
 
 // The part with this number, 1 to 7; of any other, one that no record has.
+#[tactic(auto, unfolding(crate::specs::PartNumbers::part_numbered))]
 pub fn part_of(number: u32, channel: usize) -> Part
     ensures { result ≡ part_numbered number channel }
 {

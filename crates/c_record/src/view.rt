@@ -3,6 +3,9 @@ ghost use Rattle.std.specs.Prelude.{◌≡◌};
 ghost use Rattle.mrd_views.specs.Views.{view_meaning};
 ghost use Rattle.c_record.specs.RecordStructs.{view_as, c_view};
 
+use mrd_stream::Refused;
+use mrd_views::Span;
+
 // Where a part of a record lies in the stream.
 #[repr(C)]
 #[derive(Clone, Copy)]
@@ -26,14 +29,15 @@ impl ViewPlace {
             length: length,
         }
     }
+}
 
-    pub fn of(answer: mrd_views::ViewPlace) -> ViewPlace
-        ensures { result ≡ c_view (view_meaning answer) }
-    {
+impl From<Result<Span, Refused>> for ViewPlace {
+    ghost from_gives = { λ answer r. r ≡ c_view (view_meaning answer) };
+
+    fn from(answer: Result<Span, Refused>) -> ViewPlace {
         match answer {
-            mrd_views::ViewPlace::At(span) => ViewPlace::new(0, 0, 0, span.start, span.length),
-            mrd_views::ViewPlace::Stream(r) => ViewPlace::new(r.number, r.record, r.byte, 0, 0),
-            mrd_views::ViewPlace::Refused(number) => ViewPlace::new(number, 0, 0, 0, 0),
+            Ok(span) => ViewPlace::new(0, 0, 0, span.start, span.length),
+            Err(e) => ViewPlace::new(e.number(), e.record(), e.byte(), 0, 0),
         }
     }
 }

@@ -1,14 +1,12 @@
 -- For every function of C: the `refusal` of its answer is 0 only where there is an answer, so C may go by that member alone.
 -- Of a step it is the member of `answer`, with `ended` for whether a record or the end of an accepted stream is there; `here` has 0 at every end.
 -- Assumes nothing.
-use Rattle.std.specs.Prelude.{ℕ, zero, suc, ◌+◌, ◌-◌, ◌<◌, ◌≡◌, refl, Bool, true, false, ◌&&◌, ◌||◌, List, [], ◌∷◌, ltb, length}
+use Rattle.std.specs.Prelude.{ℕ, zero, suc, ◌+◌, ◌-◌, ◌<◌, ◌≡◌, refl, Bool, true, false, ◌&&◌, ◌||◌, List, [], ◌∷◌, ltb, length, Option, Some, None}
 use Rattle.std.proofs.Common.{arith}
 use Rattle.mrd_logic.specs.Answer.{Verdict, accepted, refused, Answer, answered, stream, number, and_then}
 use Rattle.mrd_logic.specs.Lists.{begins, equal}
 use Rattle.mrd_logic.specs.Choice.{pick}
 use Rattle.mrd_logic.specs.Checks.{first, unless}
-use Rattle.mrd_format.specs.declared.kind.Identified.{Identified}
-use Rattle.mrd_format.specs.declared.kind.Identified.TheVariants.{Known, Unknown}
 use Rattle.mrd_format.specs.Kinds.{identified}
 use Rattle.mrd_format.specs.declared.kind.Kind.{Kind}
 use Rattle.mrd_format.specs.Parts.{header, same, Extent, Contents}
@@ -242,6 +240,6 @@ zero-put rules id c at o = zero-answer (λ a. (c_put a).refusal) (λ f r b. refl
     judged zero n = tt
     judged (suc f) n = omega arith
 
-    by : (i : Identified) → Refuses 1 (answer_as rules.profile i c at o)
-    by Unknown = omega arith
-    by (Known k) = judged (first (write_checks rules.profile k c at o)) (at + contents_size k c)
+    by : (i : Option Kind) → Refuses 1 (answer_as rules.profile i c at o)
+    by None = omega arith
+    by (Some k) = judged (first (write_checks rules.profile k c at o)) (at + contents_size k c)

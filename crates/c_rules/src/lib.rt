@@ -17,12 +17,14 @@ pub struct Rules {
 }
 
 // The rules that a stream is read and written by.
-pub fn rules_of(rules: Rules) -> mrd_format::Rules
-    ensures { result ≡ rules_of rules }
-{
-    mrd_format::Rules {
-        layout: layout_of(rules.aligned_waveforms),
-        profile: profile_of(rules.strict_text),
+impl From<Rules> for mrd_format::Rules {
+    ghost from_gives = { λ rules r. r ≡ rules_of rules };
+
+    fn from(rules: Rules) -> mrd_format::Rules {
+        mrd_format::Rules {
+            layout: layout_of(rules.aligned_waveforms),
+            profile: profile_of(rules.strict_text),
+        }
     }
 }
 

@@ -4,6 +4,7 @@ ghost use Rattle.mrd_logic.specs.Answer.{answered};
 ghost use Rattle.mrd_salvage.specs.Salvage.{salvaged_meaning};
 ghost use Rattle.c_salvage.specs.SalvagedStruct.{refused_salvage, c_salvaged};
 
+use mrd_format::Refusal;
 use mrd_salvage::Report;
 
 // The report on a stream that is saved; all 0 and false beside a refusal.
@@ -30,11 +31,13 @@ impl Salvaged {
             close_added: false,
         }
     }
+}
 
-    // The report alone, which is never refused.
-    pub fn of_report(report: Report) -> Salvaged
-        ensures { result ≡ c_salvaged (answered report) }
-    {
+// The report alone, which is never refused.
+impl From<Report> for Salvaged {
+    ghost from_gives = { λ report r. r ≡ c_salvaged (answered report) };
+
+    fn from(report: Report) -> Salvaged {
         Salvaged {
             refusal: 0,
             messages_kept: report.messages_kept,
@@ -43,13 +46,15 @@ impl Salvaged {
             close_added: report.close_added,
         }
     }
+}
 
-    pub fn of(answer: mrd_salvage::Salvaged) -> Salvaged
-        ensures { result ≡ c_salvaged (salvaged_meaning answer) }
-    {
+impl From<Result<Report, Refusal>> for Salvaged {
+    ghost from_gives = { λ answer r. r ≡ c_salvaged (salvaged_meaning answer) };
+
+    fn from(answer: Result<Report, Refusal>) -> Salvaged {
         match answer {
-            mrd_salvage::Salvaged::Written(report) => Salvaged::of_report(report),
-            mrd_salvage::Salvaged::Refused(number) => Salvaged::refused(number),
+            Ok(report) => Salvaged::from(report),
+            Err(refusal) => Salvaged::refused(refusal.number()),
         }
     }
 }

@@ -3,6 +3,8 @@ ghost use Rattle.std.specs.Prelude.{◌≡◌};
 ghost use Rattle.mrd_stream.specs.ReaderMeaning.{checked_meaning};
 ghost use Rattle.c_walk.specs.WalkStructs.{checked_as, c_checked};
 
+use mrd_stream::StreamRefusal;
+
 // A stream's answer: accepted with `count` records, or refused.
 #[repr(C)]
 #[derive(Clone, Copy)]
@@ -24,13 +26,15 @@ impl Checked {
             count: count,
         }
     }
+}
 
-    pub fn of(answer: mrd_stream::Checked) -> Checked
-        ensures { result ≡ c_checked (checked_meaning answer) }
-    {
+impl From<Result<usize, StreamRefusal>> for Checked {
+    ghost from_gives = { λ answer r. r ≡ c_checked (checked_meaning answer) };
+
+    fn from(answer: Result<usize, StreamRefusal>) -> Checked {
         match answer {
-            mrd_stream::Checked::Accepted(count) => Checked::new(0, 0, 0, count),
-            mrd_stream::Checked::Refused(r) => Checked::new(r.number, r.record, r.byte, 0),
+            Ok(count) => Checked::new(0, 0, 0, count),
+            Err(r) => Checked::new(r.why.number(), r.record, r.byte, 0),
         }
     }
 }

@@ -8,4 +8,4 @@ mod checked;
 mod walk;
 
 pub use checked::Checked;
-pub use walk::{Cursor, CursorAnswer, Step, cursor_of};
+pub use walk::{Cursor, CursorAnswer, Step};

@@ -7,6 +7,7 @@ ghost use Rattle.c_walk.specs.WalkStructs.{phase_of, cursor_of, phase_number, c_
 use crate::checked::Checked;
 use c_place::Placed;
 use mrd_cursor::Phase;
+use mrd_format::Refusal;
 
 // Where a walk stands; the phase by its number.
 #[repr(C)]
@@ -44,6 +45,7 @@ const HEADED: u32 = 2;
 const CLOSED: u32 = 3;
 
 // The phase with this number; any other number is closed.
+#[tactic(auto, unfolding(crate::specs::WalkStructs::phase_of))]
 fn phase_of(number: u32) -> Phase
     ensures { result ≡ phase_of number }
 {
@@ -67,20 +69,22 @@ fn phase_number(phase: Phase) -> u32
 }
 
 // The cursor that a walk goes by.
-pub fn cursor_of(cursor: Cursor) -> mrd_cursor::Cursor
-    ensures { result ≡ cursor_of cursor }
-{
-    mrd_cursor::Cursor {
-        number: cursor.number,
-        start: cursor.start,
-        phase: phase_of(cursor.phase),
+impl From<Cursor> for mrd_cursor::Cursor {
+    ghost from_gives = { λ cursor c. c ≡ cursor_of cursor };
+
+    fn from(cursor: Cursor) -> mrd_cursor::Cursor {
+        mrd_cursor::Cursor {
+            number: cursor.number,
+            start: cursor.start,
+            phase: phase_of(cursor.phase),
+        }
     }
 }
 
-impl Cursor {
-    pub fn of(cursor: mrd_cursor::Cursor) -> Cursor
-        ensures { result ≡ c_cursor cursor }
-    {
+impl From<mrd_cursor::Cursor> for Cursor {
+    ghost from_gives = { λ cursor r. r ≡ c_cursor cursor };
+
+    fn from(cursor: mrd_cursor::Cursor) -> Cursor {
         let phase = cursor.phase;
         Cursor {
             number: cursor.number,
@@ -90,17 +94,17 @@ impl Cursor {
     }
 }
 
-impl CursorAnswer {
-    pub fn of(answer: mrd_index_cursor::CursorAnswer) -> CursorAnswer
-        ensures { result ≡ c_cursor_answer (cursor_meaning answer) }
-    {
+impl From<Result<mrd_cursor::Cursor, Refusal>> for CursorAnswer {
+    ghost from_gives = { λ answer r. r ≡ c_cursor_answer (cursor_meaning answer) };
+
+    fn from(answer: Result<mrd_cursor::Cursor, Refusal>) -> CursorAnswer {
         match answer {
-            mrd_index_cursor::CursorAnswer::At(cursor) => CursorAnswer {
+            Ok(cursor) => CursorAnswer {
                 refusal: 0,
-                cursor: Cursor::of(cursor),
+                cursor: Cursor::from(cursor),
             },
-            mrd_index_cursor::CursorAnswer::Refused(number) => CursorAnswer {
-                refusal: number as u32,
+            Err(refusal) => CursorAnswer {
+                refusal: refusal.number() as u32,
                 cursor: Cursor {
                     number: 0,
                     start: 0,
@@ -111,15 +115,15 @@ impl CursorAnswer {
     }
 }
 
-impl Step {
-    pub fn of(step: mrd_stream::Step) -> Step
-        ensures { result ≡ c_step (step_meaning step) }
-    {
+impl From<mrd_stream::Step> for Step {
+    ghost from_gives = { λ step r. r ≡ c_step (step_meaning step) };
+
+    fn from(step: mrd_stream::Step) -> Step {
         match step {
             mrd_stream::Step::Message(here, next) => Step {
                 ended: false,
-                here: Placed::found(here),
-                next: Cursor::of(next),
+                here: Placed::from(here),
+                next: Cursor::from(next),
                 answer: Checked::new(0, 0, 0, 0),
             },
             mrd_stream::Step::End(answer) => Step {
@@ -130,7 +134,7 @@ impl Step {
                     start: 0,
                     phase: START,
                 },
-                answer: Checked::of(answer),
+                answer: Checked::from(answer),
             },
         }
     }

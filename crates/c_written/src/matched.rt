@@ -3,7 +3,7 @@ ghost use Rattle.std.specs.Prelude.{◌≡◌};
 ghost use Rattle.mrd_index_match.specs.Compare.{matched_meaning};
 ghost use Rattle.c_written.specs.WrittenStructs.{matched_as, c_matched};
 
-use mrd_format::refusal;
+use mrd_stream::Refused;
 
 // Whether a given index is the stream's own: 0 where it is.
 #[repr(C)]
@@ -24,14 +24,15 @@ impl Matched {
             byte: byte,
         }
     }
+}
 
-    pub fn of(answer: mrd_index_match::Matched) -> Matched
-        ensures { result ≡ c_matched (matched_meaning answer) }
-    {
+impl From<Result<(), Refused>> for Matched {
+    ghost from_gives = { λ answer r. r ≡ c_matched (matched_meaning answer) };
+
+    fn from(answer: Result<(), Refused>) -> Matched {
         match answer {
-            mrd_index_match::Matched::Same => Matched::new(0, 0, 0),
-            mrd_index_match::Matched::Differs => Matched::new(refusal::INDEX_DIFFERS, 0, 0),
-            mrd_index_match::Matched::Stream(r) => Matched::new(r.number, r.record, r.byte),
+            Ok(()) => Matched::new(0, 0, 0),
+            Err(e) => Matched::new(e.number(), e.record(), e.byte()),
         }
     }
 }

@@ -3,6 +3,8 @@ ghost use Rattle.std.specs.Prelude.{◌≡◌};
 ghost use Rattle.mrd_writer.specs.Write.{write_meaning};
 ghost use Rattle.c_written.specs.WrittenStructs.{c_put};
 
+use mrd_format::Refusal;
+
 // The position after a message that was written.
 #[repr(C)]
 #[derive(Clone, Copy)]
@@ -11,17 +13,17 @@ pub struct Put {
     pub position: usize,
 }
 
-impl Put {
-    pub fn of(answer: mrd_writer::WriteAnswer) -> Put
-        ensures { result ≡ c_put (write_meaning answer) }
-    {
+impl From<Result<usize, Refusal>> for Put {
+    ghost from_gives = { λ answer r. r ≡ c_put (write_meaning answer) };
+
+    fn from(answer: Result<usize, Refusal>) -> Put {
         match answer {
-            mrd_writer::WriteAnswer::To(position) => Put {
+            Ok(position) => Put {
                 refusal: 0,
                 position: position,
             },
-            mrd_writer::WriteAnswer::Refused(number) => Put {
-                refusal: number as u32,
+            Err(refusal) => Put {
+                refusal: refusal.number() as u32,
                 position: 0,
             },
         }

@@ -3,6 +3,8 @@ ghost use Rattle.std.specs.Prelude.{◌≡◌};
 ghost use Rattle.mrd_stream.specs.Output.{written_meaning};
 ghost use Rattle.c_written.specs.WrittenStructs.{written_as, c_written};
 
+use mrd_stream::Refused;
+
 // How much stands at the front of an output.
 #[repr(C)]
 #[derive(Clone, Copy)]
@@ -24,14 +26,15 @@ impl Written {
             length: length,
         }
     }
+}
 
-    pub fn of(answer: mrd_stream::Written) -> Written
-        ensures { result ≡ c_written (written_meaning answer) }
-    {
+impl From<Result<usize, Refused>> for Written {
+    ghost from_gives = { λ answer r. r ≡ c_written (written_meaning answer) };
+
+    fn from(answer: Result<usize, Refused>) -> Written {
         match answer {
-            mrd_stream::Written::Length(length) => Written::new(0, 0, 0, length),
-            mrd_stream::Written::Stream(r) => Written::new(r.number, r.record, r.byte, 0),
-            mrd_stream::Written::Refused(number) => Written::new(number, 0, 0, 0),
+            Ok(length) => Written::new(0, 0, 0, length),
+            Err(e) => Written::new(e.number(), e.record(), e.byte(), 0),
         }
     }
 }

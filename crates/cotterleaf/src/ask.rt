@@ -6,8 +6,8 @@ ghost use Rattle.mrd_ask.specs.Questions.{ask_of};
 ghost use Rattle.c_ask.specs.AskStructs.{question_of, c_reply};
 ghost use Rattle.c_rules.specs.RulesStruct.{rules_of};
 
-use c_ask::{Question, Reply, question_of};
-use c_rules::{Rules, rules_of};
+use c_ask::{Question, Reply};
+use c_rules::Rules;
 
 // The index as a file.
 #[unsafe(no_mangle)]
@@ -19,8 +19,8 @@ pub extern "C" fn mrd_ask_with_file(
 ) -> Reply
     ensures { result ≡ c_reply (and_then (file_match (rules_of rules) stream.now file.now) (λ _. ask_of (rules_of rules) stream.now (question_of question) question.counters)) }
 {
-    let asked = question_of(question);
-    Reply::of(mrd_ask::ask_with_file(rules_of(rules), stream, asked, &question.counters, file))
+    let asked = question.into();
+    Reply::of(mrd_ask::ask_with_file(rules.into(), stream, asked, &question.counters, file))
 }
 
 // The index as three columns.
@@ -35,9 +35,9 @@ pub extern "C" fn mrd_ask_with_columns(
 ) -> Reply
     ensures { result ≡ c_reply (and_then (columns_match (rules_of rules) stream.now starts.now ids.now counters.now) (λ _. ask_of (rules_of rules) stream.now (question_of question) question.counters)) }
 {
-    let asked = question_of(question);
+    let asked = question.into();
     Reply::of(mrd_ask::ask_with_columns(
-        rules_of(rules),
+        rules.into(),
         stream,
         asked,
         &question.counters,

@@ -10,8 +10,8 @@ ghost use Rattle.c_walk.specs.WalkStructs.{cursor_of, c_cursor_answer};
 ghost use Rattle.c_rules.specs.RulesStruct.{rules_of};
 
 use c_record::{FieldAnswer, ViewPlace, part_of};
-use c_rules::{Rules, rules_of};
-use c_walk::{Cursor, CursorAnswer, cursor_of};
+use c_rules::Rules;
+use c_walk::{Cursor, CursorAnswer};
 
 // The cursor at record n, from two columns of an index that was found to be the stream's own.
 #[unsafe(no_mangle)]
@@ -23,7 +23,7 @@ pub extern "C" fn mrd_cursor_for(
 ) -> CursorAnswer
     ensures { result ≡ c_cursor_answer (cursor_for (rules_of rules) starts.now ids.now n) }
 {
-    CursorAnswer::of(mrd_index_cursor::cursor_for(rules_of(rules), starts, ids, n))
+    CursorAnswer::from(mrd_index_cursor::cursor_for(rules.into(), starts, ids, n))
 }
 
 // Where a part of the record lies that is due at the cursor.
@@ -37,9 +37,9 @@ pub extern "C" fn mrd_view_at(
 ) -> ViewPlace
     ensures { result ≡ c_view (view_by (place_at (rules_of rules) (cursor_of cursor) stream.now) (part_numbered part channel) stream.now) }
 {
-    let c = cursor_of(cursor);
+    let c = cursor.into();
     let asked = part_of(part, channel);
-    ViewPlace::of(mrd_views::view_place_at(rules_of(rules), c, stream, asked))
+    ViewPlace::from(mrd_views::view_place_at(rules.into(), c, stream, asked))
 }
 
 // The element that starts at this offset in its header.
@@ -52,6 +52,6 @@ pub extern "C" fn mrd_field_at(
 ) -> FieldAnswer
     ensures { result ≡ c_field (field_by (place_at (rules_of rules) (cursor_of cursor) stream.now) offset stream.now) }
 {
-    let c = cursor_of(cursor);
-    FieldAnswer::of(mrd_fields::field_at(rules_of(rules), c, stream, offset))
+    let c = cursor.into();
+    FieldAnswer::of(mrd_fields::field_at(rules.into(), c, stream, offset))
 }

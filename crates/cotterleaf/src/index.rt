@@ -7,7 +7,7 @@ ghost use Rattle.mrd_index_match.specs.Compare.{file_match, columns_match};
 ghost use Rattle.c_written.specs.WrittenStructs.{c_matched, c_written};
 ghost use Rattle.c_rules.specs.RulesStruct.{rules_of};
 
-use c_rules::{Rules, rules_of};
+use c_rules::Rules;
 use c_written::{Matched, Written};
 
 // As a file, byte for byte and in whole.
@@ -15,7 +15,7 @@ use c_written::{Matched, Written};
 pub extern "C" fn mrd_index_matches(rules: Rules, stream: &[u8], file: &[u8]) -> Matched
     ensures { result ≡ c_matched (file_match (rules_of rules) stream.now file.now) }
 {
-    Matched::of(mrd_index_match::index_matches(rules_of(rules), stream, file))
+    Matched::from(mrd_index_match::index_matches(rules.into(), stream, file))
 }
 
 // As three columns, each record's place.
@@ -29,7 +29,7 @@ pub extern "C" fn mrd_columns_match(
 ) -> Matched
     ensures { result ≡ c_matched (columns_match (rules_of rules) stream.now starts.now ids.now counters.now) }
 {
-    Matched::of(mrd_index_match::columns_match(rules_of(rules), stream, starts, ids, counters))
+    Matched::from(mrd_index_match::columns_match(rules.into(), stream, starts, ids, counters))
 }
 
 // Fills the columns with the index of a stream, place n for record n.
@@ -46,5 +46,5 @@ pub extern "C" fn mrd_fill_columns(
     ensures ids_after { ids.new ≡ output_by (columns_answer (rules_of rules) stream.now (length starts.old) (length ids.old) (length counters.old)) (id_column (rules_of rules) stream.now) ids.old }
     ensures counters_after { counters.new ≡ output_by (columns_answer (rules_of rules) stream.now (length starts.old) (length ids.old) (length counters.old)) (counter_column (rules_of rules) stream.now) counters.old }
 {
-    Written::of(mrd_columns::fill_columns(rules_of(rules), stream, starts, ids, counters))
+    Written::from(mrd_columns::fill_columns(rules.into(), stream, starts, ids, counters))
 }

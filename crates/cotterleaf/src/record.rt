@@ -8,7 +8,7 @@ ghost use Rattle.c_record.specs.PartNumbers.{part_numbered};
 ghost use Rattle.c_rules.specs.RulesStruct.{rules_of};
 
 use c_record::{FieldAnswer, Found, ViewPlace, part_of};
-use c_rules::{Rules, rules_of};
+use c_rules::Rules;
 
 // Where a part of record n lies; `channel` is looked at for a channel alone.
 #[unsafe(no_mangle)]
@@ -21,7 +21,7 @@ pub extern "C" fn mrd_view(
 ) -> ViewPlace
     ensures { result ≡ c_view (view_of (rules_of rules) stream.now n (part_numbered part channel)) }
 {
-    ViewPlace::of(mrd_views::view_place(rules_of(rules), stream, n, part_of(part, channel)))
+    ViewPlace::from(mrd_views::view_place(rules.into(), stream, n, part_of(part, channel)))
 }
 
 // The element of record n's header that starts at this offset.
@@ -29,7 +29,7 @@ pub extern "C" fn mrd_view(
 pub extern "C" fn mrd_field(rules: Rules, stream: &[u8], n: usize, offset: usize) -> FieldAnswer
     ensures { result ≡ c_field (field_of (rules_of rules) stream.now n offset) }
 {
-    FieldAnswer::of(mrd_fields::field(rules_of(rules), stream, n, offset))
+    FieldAnswer::of(mrd_fields::field(rules.into(), stream, n, offset))
 }
 
 // The first acquisition from record n on with these counters.
@@ -37,5 +37,5 @@ pub extern "C" fn mrd_field(rules: Rules, stream: &[u8], n: usize, offset: usize
 pub extern "C" fn mrd_find(rules: Rules, stream: &[u8], n: usize, counters: &[u16; 17]) -> Found
     ensures { result ≡ c_found (find_of (rules_of rules) stream.now n counters.now) }
 {
-    Found::of(mrd_find::find(rules_of(rules), stream, n, counters))
+    Found::from(mrd_find::find(rules.into(), stream, n, counters))
 }

@@ -10,15 +10,15 @@ ghost use Rattle.c_walk.specs.WalkStructs.{cursor_of, c_cursor, c_step};
 ghost use Rattle.c_rules.specs.RulesStruct.{rules_of};
 
 use c_place::Placed;
-use c_rules::{Rules, rules_of};
-use c_walk::{Checked, Cursor, Step, cursor_of};
+use c_rules::Rules;
+use c_walk::{Checked, Cursor, Step};
 
 // Checks a whole stream.
 #[unsafe(no_mangle)]
 pub extern "C" fn mrd_check(rules: Rules, stream: &[u8]) -> Checked
     ensures { result ≡ c_checked (answer (rules_of rules) stream.now) }
 {
-    Checked::of(mrd_stream::check(rules_of(rules), stream))
+    Checked::from(mrd_stream::check(rules.into(), stream))
 }
 
 // The place and kind of record n.
@@ -26,7 +26,7 @@ pub extern "C" fn mrd_check(rules: Rules, stream: &[u8]) -> Checked
 pub extern "C" fn mrd_place(rules: Rules, stream: &[u8], n: usize) -> Placed
     ensures { result ≡ c_placed (place (rules_of rules) stream.now n) }
 {
-    Placed::of(mrd_stream::place(rules_of(rules), stream, n))
+    Placed::from(mrd_stream::place(rules.into(), stream, n))
 }
 
 // Where each walk begins.
@@ -34,7 +34,7 @@ pub extern "C" fn mrd_place(rules: Rules, stream: &[u8], n: usize) -> Placed
 pub extern "C" fn mrd_beginning() -> Cursor
     ensures { result ≡ c_cursor beginning }
 {
-    Cursor::of(mrd_cursor::Cursor::beginning())
+    Cursor::from(mrd_cursor::Cursor::beginning())
 }
 
 // One step of a walk.
@@ -42,7 +42,7 @@ pub extern "C" fn mrd_beginning() -> Cursor
 pub extern "C" fn mrd_next(rules: Rules, stream: &[u8], cursor: Cursor) -> Step
     ensures { result ≡ c_step (step (rules_of rules) (cursor_of cursor) stream.now) }
 {
-    Step::of(mrd_stream::next(rules_of(rules), cursor_of(cursor), stream))
+    Step::from(mrd_stream::next(rules.into(), cursor.into(), stream))
 }
 
 // The answer of what a walk still has before it.
@@ -50,5 +50,5 @@ pub extern "C" fn mrd_next(rules: Rules, stream: &[u8], cursor: Cursor) -> Step
 pub extern "C" fn mrd_check_from(rules: Rules, stream: &[u8], cursor: Cursor) -> Checked
     ensures { result ≡ c_checked (verdict (from (rules_of rules) (cursor_of cursor) stream.now)) }
 {
-    Checked::of(mrd_stream::check_from(rules_of(rules), cursor_of(cursor), stream))
+    Checked::from(mrd_stream::check_from(rules.into(), cursor.into(), stream))
 }

@@ -7,8 +7,9 @@ ghost use Rattle.mrd_writer.specs.Write.{write_answer, write_output};
 ghost use Rattle.c_written.specs.WrittenStructs.{c_written, c_put};
 ghost use Rattle.c_rules.specs.RulesStruct.{rules_of};
 
-use c_rules::{Rules, rules_of};
+use c_rules::Rules;
 use c_written::{Put, Written};
+use mrd_writer::Message;
 
 // Writes the normal form of a stream to the front of out.
 #[unsafe(no_mangle)]
@@ -16,7 +17,7 @@ pub extern "C" fn mrd_normal_form(rules: Rules, stream: &[u8], out: &mut [u8]) -
     ensures value { result ≡ c_written (normal_answer (rules_of rules) stream.now (length out.old)) }
     ensures out_after { out.new ≡ normal_output (rules_of rules) stream.now out.old }
 {
-    Written::of(mrd_normal::normal_form(rules_of(rules), stream, out))
+    Written::from(mrd_normal::normal_form(rules.into(), stream, out))
 }
 
 // Writes the index of a stream to the front of out.
@@ -25,7 +26,7 @@ pub extern "C" fn mrd_write_index(rules: Rules, stream: &[u8], out: &mut [u8]) -
     ensures value { result ≡ c_written (index_answer (rules_of rules) stream.now (length out.old)) }
     ensures out_after { out.new ≡ index_output (rules_of rules) stream.now out.old }
 {
-    Written::of(mrd_index::write_index(rules_of(rules), stream, out))
+    Written::from(mrd_index::write_index(rules.into(), stream, out))
 }
 
 // Writes one message into out from `position` on.
@@ -53,17 +54,19 @@ pub extern "C" fn mrd_write(
         attributes.now pixels.now waveform.now)
         position out.old }
 {
-    Put::of(mrd_writer::write(
-        rules_of(rules),
+    Put::from(mrd_writer::write(
+        rules.into(),
         id,
-        header,
-        name,
-        text,
-        trajectory,
-        samples,
-        attributes,
-        pixels,
-        waveform,
+        &Message {
+            header,
+            name,
+            text,
+            trajectory,
+            samples,
+            attributes,
+            pixels,
+            waveform,
+        },
         out,
         position,
     ))

@@ -1,8 +1,10 @@
 -- What is replied to a question about a record.
 -- Assumes nothing.
-use Rattle.std.specs.Prelude.{ℕ, ◌≡◌, Bool, true, T}
-use Rattle.mrd_logic.specs.Answer.{Answer, answered, stream, number, and_then}
+use Rattle.std.specs.Prelude.{ℕ, ◌≡◌, Bool, true, T, Result, Ok, Err}
+use Rattle.mrd_logic.specs.Answer.{Answer, answered, and_then}
 use Rattle.mrd_stream.specs.Places.{Located}
+use Rattle.mrd_stream.specs.declared.refused.Refused.{Refused}
+use Rattle.mrd_stream.specs.Refused.{told}
 use Rattle.mrd_stream.specs.ReaderMeaning.{record_meaning}
 use Rattle.mrd_element.specs.Element.{FieldValue}
 use Rattle.mrd_element.specs.ValueMeaning.{value_meaning, nan_apart}
@@ -20,24 +22,25 @@ pub data Replied : Type 0 where
 abbrev pub reply : {A : Type 0} → (A → Replied) → Answer A → Answer Replied
 reply f a = and_then a (λ x. answered (f x))
 
--- what each case of the enum says: the paper's number and values
-abbrev pub meaning : Reply → Answer Replied
-meaning (Reply.Place r) = answered (place (record_meaning r))
-meaning (Reply.View x) = answered (view x)
-meaning (Reply.Field v) = answered (field (value_meaning v))
-meaning (Reply.Found i) = answered (found i)
-meaning (Reply.Stream r) = stream r.number r.record r.byte
-meaning (Reply.Refused n) = number n
+-- what each case of the enum says: the paper's values
+abbrev pub replied_as : Reply → Replied
+replied_as (Reply.Place r) = place (record_meaning r)
+replied_as (Reply.View x) = view x
+replied_as (Reply.Field v) = field (value_meaning v)
+replied_as (Reply.Found i) = found i
 
-abbrev pub apart_in : Reply → Bool
-apart_in (Reply.Place r) = true
-apart_in (Reply.View x) = true
-apart_in (Reply.Field v) = nan_apart v
-apart_in (Reply.Found i) = true
-apart_in (Reply.Stream r) = true
-apart_in (Reply.Refused n) = true
+-- and what a refusal says
+abbrev pub meaning : Result Reply Refused → Answer Replied
+meaning r = told replied_as r
+
+abbrev pub apart_in : Result Reply Refused → Bool
+apart_in (Ok (Reply.Place r)) = true
+apart_in (Ok (Reply.View x)) = true
+apart_in (Ok (Reply.Field v)) = nan_apart v
+apart_in (Ok (Reply.Found i)) = true
+apart_in (Err e) = true
 
 -- a reply that says this, with NaNs, and only NaNs, in the case that is meant for them
-pub record Says (r : Reply) (a : Answer Replied) : Type 0 where
+pub record Says (r : Result Reply Refused) (a : Answer Replied) : Type 0 where
   pub says : meaning r ≡ a
   pub apart : T (apart_in r)

@@ -1,7 +1,7 @@
 // A question about a record of a stream, and what is replied to it.
 use mrd_element::Value;
 use mrd_parts::Part;
-use mrd_stream::{PlacedRecord, Refusal};
+use mrd_stream::PlacedRecord;
 use mrd_views::Span;
 
 // The record by its number from 0.
@@ -17,14 +17,11 @@ pub enum Question {
     Find(usize),
 }
 
+// What each kind of question asks for.
 #[derive(Clone, Copy)]
 pub enum Reply {
     Place(PlacedRecord),
     View(Span),
     Field(Value),
     Found(usize),
-    // The stream itself is refused.
-    Stream(Refusal),
-    // Refused with a number alone: 15, 16, 17 or 20.
-    Refused(u8),
 }

@@ -18,10 +18,5 @@ pub fn copy(src: &[u8], out: &mut [u8])
 pub fn find(s: &[u8], b: u8) -> usize
     ensures { (result ≡ index_of b s.now) × (result ≤ length s.now) }
 {
-    for (i, x) in s.iter().enumerate() {
-        if *x == b {
-            return i;
-        }
-    }
-    s.len()
+    s.iter().position(|&x| x == b).unwrap_or(s.len())
 }

@@ -1,17 +1,15 @@
 // The index in memory: three given columns, start, id and counter, with one place for each record.
 ghost use Rattle.std.specs.Prelude.{◌≡◌, ◌+◌, [], ◌∷◌, length};
 ghost use Rattle.mrd_numbers.specs.Stored.{stored, front};
-ghost use Rattle.mrd_logic.specs.Answer.{accepted};
-ghost use Rattle.mrd_stream.specs.Walk.{answer};
 ghost use Rattle.mrd_stream.specs.Index.{entries, start_column, id_column, counter_column};
 ghost use Rattle.mrd_stream.specs.Output.{written_meaning, output_by};
 ghost use Rattle.mrd_columns.specs.Columns.{columns_answer, Rooms};
 
 use mrd_cursor::Cursor;
-use mrd_format::{Rules, refusal};
+use mrd_format::{Refusal, Rules};
 use mrd_index::entry_of;
 use mrd_index_fields::Entry;
-use mrd_stream::{Checked, Step, Written, check};
+use mrd_stream::{Refused, Step, check};
 
 // Fills the columns with the index of the stream s, place n for record n, and answers the number of records;
 // else answers the stream's refusal, or 14 where any column is shorter than that. Later places keep their
@@ -22,39 +20,18 @@ pub fn fill_columns(
     starts: &mut [u64],
     ids: &mut [u16],
     counters: &mut [u32],
-) -> Written
+) -> Result<usize, Refused>
     ensures result_value { written_meaning result ≡ columns_answer rules s.now (length starts.old) (length ids.old) (length counters.old) }
     ensures starts_after { starts.new ≡ output_by (written_meaning result) (start_column rules s.now) starts.old }
     ensures ids_after { ids.new ≡ output_by (written_meaning result) (id_column rules s.now) ids.old }
     ensures counters_after { counters.new ≡ output_by (written_meaning result) (counter_column rules s.now) counters.old }
 {
-    let checked = check(rules, s);
-    match checked {
-        Checked::Accepted(count) => fill(rules, s, count, starts, ids, counters),
-        Checked::Refused(refusal) => Written::Stream(refusal),
-    }
-}
-
-// The same for an accepted stream of so many records.
-fn fill(
-    rules: Rules,
-    s: &[u8],
-    count: usize,
-    starts: &mut [u64],
-    ids: &mut [u16],
-    counters: &mut [u32],
-) -> Written
-    requires { answer rules s.now ≡ accepted count }
-    ensures result_value { written_meaning result ≡ columns_answer rules s.now (length starts.old) (length ids.old) (length counters.old) }
-    ensures starts_after { starts.new ≡ output_by (written_meaning result) (start_column rules s.now) starts.old }
-    ensures ids_after { ids.new ≡ output_by (written_meaning result) (id_column rules s.now) ids.old }
-    ensures counters_after { counters.new ≡ output_by (written_meaning result) (counter_column rules s.now) counters.old }
-{
+    let count = check(rules, s)?;
     if (starts.len() < count) | ((ids.len() < count) | (counters.len() < count)) {
-        return Written::Refused(refusal::OUTPUT_SHORT);
+        return Err(Refused::Alone(Refusal::OutputShort));
     }
     put_places(rules, s, starts, ids, counters);
-    Written::Length(count)
+    Ok(count)
 }
 
 // Writes the entry of each record of s to its place in the columns: one step for each record.
@@ -66,17 +43,13 @@ fn put_places(rules: Rules, s: &[u8], starts: &mut [u64], ids: &mut [u16], count
 {
     let mut c = Cursor::beginning();
     loop {
-        let step = mrd_stream::next(rules, c, s);
-        match step {
+        match mrd_stream::next(rules, c, s) {
             Step::Message(record, next) => {
-                let place = record.place;
                 let entry = entry_of(s, record);
-                put_place(place.number, entry, starts, ids, counters);
+                put_place(record.place.number, entry, starts, ids, counters);
                 c = next;
             }
-            Step::End(_) => {
-                return;
-            }
+            Step::End(_) => return,
         }
     }
 }

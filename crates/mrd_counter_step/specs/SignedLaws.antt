@@ -1,7 +1,9 @@
 -- The laws of 32 bits read as signed, and of the step around the wrap.
 -- Assumes nothing.
 use Rattle.std.specs.Prelude.{◌≡◌, ℕ, suc, ◌+◌, ◌-◌, ◌%◌, ◌^◌, ◌<◌, ◌≤◌, pos, negsuc, ◌-ℤ◌, FitsSigned}
-use Rattle.std.proofs.Common.{arith, ap, lt-ltb, le-ltb, to_z}
+use Rattle.std.proofs.Common.{arith, sym, ap, ◌∙◌, lt-ltb, le-ltb, to_z}
+use Rattle.std.proofs.Math.Decide.{dec_lt}
+use Rattle.std.proofs.Math.Facts.{to_z-neg}
 use Rattle.std.specs.Int.{w32, w64}
 use Rattle.std.proofs.lemmas.Int.{to_z_pos}
 use Rattle.mrd_counter_step.specs.Counters.{signed, counter_step}
@@ -30,6 +32,17 @@ signed-wide d low high =
       fits-wide = rw (signed_high d low) (record { sfits = omega arith });
       fits = rw (signed_high d low) (record { sfits = omega arith });
     }
+
+-- two's complement, as std casts it
+pub to_z_signed : (d : ℕ) → d < 2 ^ 32 → to_z w32 d ≡ signed d
+to_z_signed d fits = by-half (dec_lt d (2 ^ 31))
+  where
+    by-half : Dec (d < 2 ^ 31) → to_z w32 d ≡ signed d
+    by-half (yes low) = to_z_pos w32 d low ∙ sym (signed_low d low)
+    by-half (no not) =
+        let high : 2 ^ 31 ≤ d = omega arith in
+        let rest : d ≡ 2 ^ 32 - suc (2 ^ 32 - 1 - d) = omega arith in
+        ap (to_z w32) rest ∙ to_z-neg w32 (2 ^ 32 - 1 - d) (omega arith) ∙ sym (signed_high d high)
 
 -- what wraps back to the later counter is the difference around the wrap
 pub step_wraps :

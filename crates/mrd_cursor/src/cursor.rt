@@ -31,59 +31,35 @@ impl Phase {
     fn is_start(self) -> bool
         ensures { result ≡ is_start self }
     {
-        match self {
-            Phase::Start => true,
-            Phase::Configured => false,
-            Phase::Headed => false,
-            Phase::Closed => false,
-        }
+        matches!(self, Phase::Start)
     }
 
     fn is_before_header(self) -> bool
         ensures { result ≡ is_before_header self }
     {
-        match self {
-            Phase::Start => true,
-            Phase::Configured => true,
-            Phase::Headed => false,
-            Phase::Closed => false,
-        }
+        matches!(self, Phase::Start | Phase::Configured)
     }
 
     fn is_headed(self) -> bool
         ensures { result ≡ is_headed self }
     {
-        match self {
-            Phase::Start => false,
-            Phase::Configured => false,
-            Phase::Headed => true,
-            Phase::Closed => false,
-        }
+        matches!(self, Phase::Headed)
     }
 
     fn is_open(self) -> bool
         ensures { result ≡ is_open self }
     {
-        match self {
-            Phase::Start => true,
-            Phase::Configured => true,
-            Phase::Headed => true,
-            Phase::Closed => false,
-        }
+        !self.is_closed()
     }
 
     pub fn is_closed(self) -> bool
         ensures { result ≡ is_closed self }
     {
-        match self {
-            Phase::Start => false,
-            Phase::Configured => false,
-            Phase::Headed => false,
-            Phase::Closed => true,
-        }
+        matches!(self, Phase::Closed)
     }
 
-    // Whether the order allows a message of this kind now.
+    // Whether the order allows a message of this kind now. Each kind has an arm of its own, so that the compiler goes
+    // on from it to what the kind's fixed part is asked.
     pub fn allows(self, kind: Kind) -> bool
         ensures { result ≡ allowed kind self }
     {
@@ -104,14 +80,10 @@ impl Phase {
         ensures { result ≡ next_phase kind self }
     {
         match kind {
-            Kind::ConfigurationName => Phase::Configured,
-            Kind::ConfigurationText => Phase::Configured,
+            Kind::ConfigurationName | Kind::ConfigurationText => Phase::Configured,
             Kind::HeaderText => Phase::Headed,
             Kind::Close => Phase::Closed,
-            Kind::Text => self,
-            Kind::Acquisition => self,
-            Kind::Image => self,
-            Kind::Waveform(_) => self,
+            Kind::Text | Kind::Acquisition | Kind::Image | Kind::Waveform(_) => self,
         }
     }
 }
@@ -133,11 +105,10 @@ impl Cursor {
         requires { (self.number < max_messages) × (self.start + size < 2 ^ 64) }
         ensures { result ≡ after self kind size }
     {
-        let phase = self.phase;
         Cursor {
             number: self.number + 1,
             start: self.start + size,
-            phase: phase.next(kind),
+            phase: self.phase.next(kind),
         }
     }
 }

@@ -2,7 +2,7 @@
 -- said with the answer (`answer`, `accepted`, `refused`), the record list (`records`), the normal form (`normal`), well-formed messages
 -- (`WellFormed`) and cuts (`Cut`). That the code gives these answers and writes these bytes is what its contracts say.
 -- Assumes nothing.
-use Rattle.std.specs.Prelude.{ℕ, ◌+◌, ◌≤◌, ◌<◌, ◌≡◌, true, false, ◌↔◌, ◌⊎◌, List, [], ◌∷◌, ◌++◌, map, length, take, drop}
+use Rattle.std.specs.Prelude.{ℕ, ◌+◌, ◌≤◌, ◌<◌, ◌≡◌, true, false, ◌↔◌, ◌⊎◌, List, [], ◌∷◌, ◌++◌, map, length, take, drop, Some}
 use Rattle.std.proofs.Common.{arith, sym, ap, ◌∙◌}
 use Rattle.mrd_numbers.specs.Little.{num, Bytes}
 use Rattle.mrd_numbers.specs.Stored.{stored}
@@ -56,7 +56,6 @@ use Rattle.mrd_index_match.specs.Exactly.{Held}
 use Rattle.mrd_index_cursor.specs.IndexCursor.{cursor_for}
 use Rattle.mrd_index_cursor.specs.Indexed.{AtRecord, believed_cursor}
 use Rattle.mrd_element.specs.declared.byte.ElementPlace.{ElementPlace}
-use Rattle.mrd_element.specs.declared.byte.HeaderByte.TheVariants.{Element}
 use Rattle.mrd_element.specs.Element.{FieldValue}
 use Rattle.mrd_element.specs.Pieces.{place_of, header_pieces, header_byte_of}
 use Rattle.mrd_element.specs.PieceLaws.{header_adjoins}
@@ -298,7 +297,7 @@ header-bytes-named_once k i = held-once place_of (header_pieces k) 0 (header_siz
 
 -- an element that is told of a byte is one that a field question answers, at the offset told
 pub told-elements_are_fields : (rules : Rules) (s : List ℕ) (n : ℕ) {l : Located} → place rules s n ≡ answered l → (i : ℕ) {e : ElementPlace} →
-    header_byte_of l.kind i ≡ answered (Element e) → (v : FieldValue) × (field_of rules s n e.offset ≡ answered v)
+    header_byte_of l.kind i ≡ answered (Some e) → (v : FieldValue) × (field_of rules s n e.offset ≡ answered v)
 told-elements_are_fields = named.element-field
 
 -- Request E2: save a torn recording. Of every stream, and of all rules

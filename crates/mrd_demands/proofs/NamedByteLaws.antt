@@ -1,7 +1,7 @@
 -- Every byte named once (request E12): each byte of an accepted stream belongs to exactly one part of exactly one record, that part is the one told
 -- of it, and each view is its part.
 -- Assumes nothing.
-use Rattle.std.specs.Prelude.{ℕ, zero, suc, ◌+◌, ◌-◌, ◌≤◌, ◌<◌, ◌≡◌, refl, Bool, true, false, List, [], ◌∷◌, map, length}
+use Rattle.std.specs.Prelude.{ℕ, zero, suc, ◌+◌, ◌-◌, ◌≤◌, ◌<◌, ◌≡◌, refl, Bool, true, false, List, [], ◌∷◌, map, length, Option, Some}
 use Rattle.std.proofs.Common.{arith, sym, subst, ◌∙◌, take_all}
 use Rattle.std.proofs.Math.Path.{ap}
 use Rattle.std.proofs.lemmas.Bool.{false≢true}
@@ -28,8 +28,6 @@ use Rattle.mrd_format.proofs.ReachLaws.{parts-adjoin, not_there}
 use Rattle.mrd_format.specs.PartSearch.{FoundAt}
 use Rattle.mrd_format.proofs.ExtentLaws.{parts-found}
 use Rattle.mrd_element.specs.declared.byte.ElementPlace.{ElementPlace}
-use Rattle.mrd_element.specs.declared.byte.HeaderByte.{HeaderByte}
-use Rattle.mrd_element.specs.declared.byte.HeaderByte.TheVariants.{Element}
 use Rattle.mrd_element.specs.Element.{FieldValue, value_of, element_of}
 use Rattle.mrd_element.specs.Pieces.{place_of, header_pieces, header_byte, header_byte_of}
 use Rattle.mrd_element.specs.PieceLaws.{header_adjoins, element-starts}
@@ -134,7 +132,7 @@ always_told : (k : Kind) (h : List ℕ) (at j : ℕ) (q : PlacedPart) → Nth (p
 unfolding header_byte_of
 always_told k h at j q there inside = by (same q.part part.header) refl
   where
-    header-told : q.part ≡ part.header → (b : HeaderByte) × (header_byte_of k (at - q.place.offset) ≡ answered b)
+    header-told : q.part ≡ part.header → (b : Option ElementPlace) × (header_byte_of k (at - q.place.offset) ≡ answered b)
     header-told e =
         let found : extent_of part.header k h ≡ lies q.place = rw e at (every_nth (FoundAt k h) (placed_parts k h) j q (parts-found k h) there) in
         let where-it-is : q.place ≡ extent 2 (header_size k) = header-extent k h found in
@@ -151,12 +149,12 @@ always_told k h at j q there inside = by (same q.part part.header) refl
 
 -- what is told of a header's byte is what the header's pieces say of it
 header-inner : (k : Kind) (at : ℕ) (q : PlacedPart) (x : Held) → same q.part part.header ≡ true → told k at q ≡ answered x →
-    (b : HeaderByte) × ((header_byte_of k (at - q.place.offset) ≡ answered b) × (x.inner ≡ in_header b))
+    (b : Option ElementPlace) × ((header_byte_of k (at - q.place.offset) ≡ answered b) × (x.inner ≡ in_header b))
 header-inner k at q x is e = by (header_byte_of k (at - q.place.offset)) refl (rw is at e)
   where
-    by : (a : Answer HeaderByte) → header_byte_of k (at - q.place.offset) ≡ a →
+    by : (a : Answer (Option ElementPlace)) → header_byte_of k (at - q.place.offset) ≡ a →
         and_then a (λ b. answered (record { part = q.part; place = q.place; inner = in_header b })) ≡ answered x →
-        (b : HeaderByte) × ((header_byte_of k (at - q.place.offset) ≡ answered b) × (x.inner ≡ in_header b))
+        (b : Option ElementPlace) × ((header_byte_of k (at - q.place.offset) ≡ answered b) × (x.inner ≡ in_header b))
     by (answered b) h e = (b, (h, cc))
     by (stream f r b) h e = absurd (answered-not-stream (sym e))
     by (number n) h e = absurd (answered-not-number (sym e))
@@ -226,7 +224,7 @@ module _ (rules : Rules) (s : List ℕ) {n : ℕ} (e : answer rules s ≡ accept
 
 -- an element that is told of a header's byte is one that a field question answers
 pub element-field : (rules : Rules) (s : List ℕ) (n : ℕ) {l : Located} → place rules s n ≡ answered l → (i : ℕ) {e : ElementPlace} →
-    header_byte_of l.kind i ≡ answered (Element e) → (v : FieldValue) × (field_of rules s n e.offset ≡ answered v)
+    header_byte_of l.kind i ≡ answered (Some e) → (v : FieldValue) × (field_of rules s n e.offset ≡ answered v)
 unfolding field_of element_of
 element-field rules s n {l} p i {e} told =
     let t = element-starts l.kind i told in

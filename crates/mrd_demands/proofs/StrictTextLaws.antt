@@ -1,14 +1,12 @@
 -- The strict profile (request E9): what it accepts and reads, beside the plain profile with the same layout.
 -- Assumes nothing.
-use Rattle.std.specs.Prelude.{ℕ, ◌≡◌, refl, true, ◌↔◌, List, [], ◌∷◌}
+use Rattle.std.specs.Prelude.{ℕ, ◌≡◌, refl, true, ◌↔◌, List, [], ◌∷◌, Option, Some, None}
 use Rattle.std.proofs.Common.{arith, sym, ap, ◌∙◌}
 use Rattle.mrd_logic.specs.Every.{Every, every_append}
 use Rattle.mrd_logic.specs.Answer.{accepted, refused}
 use Rattle.mrd_logic.specs.CheckLaws.{lacking, Never, lacking-each, never_first, fault-first}
 use Rattle.mrd_format.specs.declared.kind.Kind.{Kind}
 use Rattle.mrd_format.specs.declared.kind.Kind.TheVariants.{ConfigurationName, ConfigurationText, HeaderText, Close, Text, Acquisition, Image, Waveform}
-use Rattle.mrd_format.specs.declared.kind.Identified.{Identified}
-use Rattle.mrd_format.specs.declared.kind.Identified.TheVariants.{Known, Unknown}
 use Rattle.mrd_format.specs.declared.rules.Layout.{Layout}
 use Rattle.mrd_format.specs.declared.rules.Profile.TheVariants.{Plain, Strict}
 use Rattle.mrd_format.specs.Kinds.{identified}
@@ -123,10 +121,10 @@ own-no_21 Image h = refl
 own-no_21 (Waveform l) h = refl
 
 -- and in the plain profile none refuses with it
-no_21 : (i : Identified) (c : Cursor) (t : List ℕ) → Every (Never 21) (checks_as Plain i c t)
+no_21 : (i : Option Kind) (c : Cursor) (t : List ℕ) → Every (Never 21) (checks_as Plain i c t)
 unfolding checks_as front_checks id_checks fixed_checks size_checks text_checks encoded
-no_21 Unknown c t = lacking-each 21 (checks_as Plain Unknown c t) refl
-no_21 (Known k) c t = (
+no_21 None c t = lacking-each 21 (checks_as Plain None c t) refl
+no_21 (Some k) c t = (
   λ e. absurd (omega arith),
   (
     λ e. absurd (omega arith),

@@ -1,6 +1,6 @@
 -- The part of a record that a byte of the stream belongs to, and that there is one and no other.
 -- Assumes nothing.
-use Rattle.std.specs.Prelude.{ℕ, ◌+◌, ◌-◌, ◌≡◌, true, List, map}
+use Rattle.std.specs.Prelude.{ℕ, ◌+◌, ◌-◌, ◌≡◌, true, List, map, Option}
 use Rattle.mrd_logic.specs.Answer.{answered}
 use Rattle.mrd_logic.specs.Joined.{joined}
 use Rattle.mrd_logic.specs.Lists.{Nth}
@@ -10,7 +10,7 @@ use Rattle.mrd_format.specs.Parts.{same, Extent, extent, bytes_at}
 use Rattle.mrd_format.specs.Segments.{PlacedPart}
 use Rattle.mrd_format.specs.Holding.{holds}
 use Rattle.mrd_format.specs.Adjoining.{Adjoins, places_of}
-use Rattle.mrd_element.specs.declared.byte.HeaderByte.{HeaderByte}
+use Rattle.mrd_element.specs.declared.byte.ElementPlace.{ElementPlace}
 use Rattle.mrd_element.specs.Pieces.{header_byte_of}
 use Rattle.mrd_stream.specs.Places.{Located, place}
 use Rattle.mrd_cut.specs.CutPlaces.{part_at}
@@ -48,7 +48,7 @@ pub record NamedOnce (rules : Rules) (s : List ℕ) (i : ℕ) : Type 0 where
   pub byte : NamedByte
   pub answer : part_of_byte rules s i ≡ answered byte
   pub told : Tells byte l q
-  pub element : same q.part part.header ≡ true → (b : HeaderByte) × ((header_byte_of l.kind (i - l.start - q.place.offset) ≡ answered b) × (byte.inner ≡ in_header b))
+  pub element : same q.part part.header ≡ true → (b : Option ElementPlace) × ((header_byte_of l.kind (i - l.start - q.place.offset) ≡ answered b) × (byte.inner ≡ in_header b))
   pub shown : ViewOfPart rules s n l q
 
 -- the parts of the record at l: they adjoin from its first byte to its last, and joined they are its message

@@ -1,6 +1,6 @@
 -- Bytes of a small stream, and of each header, with what they belong to (request E12), computed.
 -- Assumes nothing.
-use Rattle.std.specs.Prelude.{ℕ, ◌≡◌, refl, [], ◌∷◌, ◌++◌, map}
+use Rattle.std.specs.Prelude.{ℕ, ◌≡◌, refl, [], ◌∷◌, ◌++◌, map, Option, Some, None}
 use Rattle.mrd_bytes.specs.Bytes.{index_of, index_after}
 use Rattle.mrd_numbers.specs.Little.{num}
 use Rattle.mrd_utf8.specs.Fold.{begun, next, utf8_of}
@@ -15,8 +15,7 @@ use Rattle.mrd_format.specs.Parts.{Part}
 use Rattle.mrd_format.specs.Kinds.{identified}
 use Rattle.mrd_format.specs.Message.{fixed_part, own_checks, body_size, size_of, name_length, text_length}
 use Rattle.mrd_format.specs.Content.{extent_of, contents_of, record_of}
-use Rattle.mrd_element.specs.declared.byte.HeaderByte.{HeaderByte}
-use Rattle.mrd_element.specs.declared.byte.HeaderByte.TheVariants.{Element, Filler}
+use Rattle.mrd_element.specs.declared.byte.ElementPlace.{ElementPlace}
 use Rattle.mrd_element.specs.Pieces.{header_byte_of}
 use Rattle.mrd_judge.specs.Judge.{judge, judge_as}
 use Rattle.mrd_judge.specs.Stages.{checks_as, front_checks, id_checks, fixed_checks, size_checks, text_checks}
@@ -26,8 +25,8 @@ use Rattle.mrd_part_at.specs.PartAt.{NamedByte, record_holding, part_of_byte}
 use Rattle.mrd_demands.specs.TextExample.{noted}
 
 -- an element by its place
-abbrev pub element : ℕ → ℕ → Answer HeaderByte
-element o z = answered (Element (record { offset = o; size = z }))
+abbrev pub element : ℕ → ℕ → Answer (Option ElementPlace)
+element o z = answered (Some (record { offset = o; size = z }))
 
 -- the mask's second word, and its byte before; the last counter; an image's attribute length, and the bytes after its header; an aligned waveform's
 -- version, filler and flags, and a packed one's flags
@@ -35,7 +34,7 @@ pub header-bytes :
     map (header_byte_of Acquisition) (47 ∷ 48 ∷ 55 ∷ 275 ∷ 340 ∷ []) ++ map (header_byte_of Image) (193 ∷ 197 ∷ 198 ∷ []) ++
     map (header_byte_of (Waveform Aligned)) (1 ∷ 2 ∷ 7 ∷ 8 ∷ 38 ∷ []) ++ map (header_byte_of (Waveform Packed)) (1 ∷ 2 ∷ 31 ∷ []) ≡
     element 40 8 ∷ element 48 8 ∷ element 48 8 ∷ element 274 2 ∷ number 16 ∷ element 190 4 ∷ element 194 4 ∷ number 16 ∷
-    element 0 2 ∷ answered Filler ∷ answered Filler ∷ element 8 8 ∷ answered Filler ∷ element 0 2 ∷ element 2 8 ∷ element 30 2 ∷ []
+    element 0 2 ∷ answered None ∷ answered None ∷ element 8 8 ∷ answered None ∷ element 0 2 ∷ element 2 8 ∷ element 30 2 ∷ []
 unfolding header_byte_of
 header-bytes = refl
 

@@ -1,9 +1,8 @@
 -- A refusal leaves every output as it was.
 -- Assumes nothing.
-use Rattle.std.specs.Prelude.{ℕ, ◌≡◌, refl, List, length}
+use Rattle.std.specs.Prelude.{ℕ, ◌≡◌, refl, List, length, Option, Some, None}
 use Rattle.mrd_logic.specs.Answer.{Answer, answered, stream, number, and_then}
-use Rattle.mrd_format.specs.declared.kind.Identified.{Identified}
-use Rattle.mrd_format.specs.declared.kind.Identified.TheVariants.{Known, Unknown}
+use Rattle.mrd_format.specs.declared.kind.Kind.{Kind}
 use Rattle.mrd_format.specs.Kinds.{identified}
 use Rattle.mrd_format.specs.Parts.{Contents}
 use Rattle.mrd_format.specs.Content.{message_of}
@@ -35,9 +34,9 @@ pub written-kept : (rules : Rules) (id : ℕ) (c : Contents) (at : ℕ) (o : Lis
 unfolding write_answer write_output output_as
 written-kept rules id c at o r = by (identified rules id) r
   where
-    by : (i : Identified) → Refusal (answer_as rules.profile i c at o) → output_as rules.profile i c at o ≡ o
-    by Unknown r = refl
-    by (Known k) r = message-kept (answer_as rules.profile (Known k) c at o) r (message_of k c) at o
+    by : (i : Option Kind) → Refusal (answer_as rules.profile i c at o) → output_as rules.profile i c at o ≡ o
+    by None r = refl
+    by (Some k) r = message-kept (answer_as rules.profile (Some k) c at o) r (message_of k c) at o
 
 -- of the salvage
 pub saved-kept : (rules : Rules) (s o : List ℕ) → Refusal (salvage_answer rules s (length o)) → salvage_output rules s o ≡ o

@@ -1,7 +1,7 @@
 -- The pieces of a header adjoin from its first byte to its last, so each of its bytes belongs to one of them; and each element stands where the
 -- header's table has it start.
 -- Assumes nothing.
-use Rattle.std.specs.Prelude.{ℕ, zero, suc, ◌+◌, ◌-◌, ◌≤◌, ◌<◌, ◌≡◌, refl, Bool, true, false, ◌&&◌, List, [], ◌∷◌, ◌++◌, map, eqb}
+use Rattle.std.specs.Prelude.{ℕ, zero, suc, ◌+◌, ◌-◌, ◌≤◌, ◌<◌, ◌≡◌, refl, Bool, true, false, ◌&&◌, List, [], ◌∷◌, ◌++◌, map, eqb, Some, None}
 use Rattle.std.proofs.Common.{arith, sym, ap, ⊎_elim, eqb-true}
 use Rattle.std.proofs.lemmas.Bool.{false≢true, eqb-false}
 use Rattle.std.proofs.lemmas.List.{map-append}
@@ -22,7 +22,6 @@ use Rattle.mrd_format.specs.Adjoining.{Adjoins}
 use Rattle.mrd_format.proofs.AdjoinLaws.{adjoins_append, evenly-adjoin}
 use Rattle.mrd_format.proofs.HoldingLaws.{holds_true, held, held-once, found-held, found-there}
 use Rattle.mrd_element.specs.declared.byte.ElementPlace.{ElementPlace}
-use Rattle.mrd_element.specs.declared.byte.HeaderByte.TheVariants.{Element, Filler}
 use Rattle.mrd_element.specs.Element.{Start, starts, none, starts_among, type_at, element_at}
 use Rattle.mrd_element.specs.Letters.{letter_of, letter_width}
 use Rattle.mrd_element.specs.LetterLaws.{picked}
@@ -116,11 +115,11 @@ letter_width_lem none = refl
 
 -- an element is what its bytes belong to
 pub element-over : (k : Kind) (at o : ℕ) → o ≤ at → at < o + start_width (element_at k o) →
-    header_byte_of k at ≡ answered (Element (record { offset = o; size = start_width (element_at k o) }))
+    header_byte_of k at ≡ answered (Some (record { offset = o; size = start_width (element_at k o) }))
 unfolding header_byte_of
 element-over k at o low high = by (element_at k o) refl high
   where
-    by : (s : Start) → element_at k o ≡ s → at < o + start_width s → header_byte_of k at ≡ answered (Element (record { offset = o; size = start_width s }))
+    by : (s : Start) → element_at k o ≡ s → at < o + start_width s → header_byte_of k at ≡ answered (Some (record { offset = o; size = start_width s }))
     by none e h = absurd (omega arith)
     by (starts t) e h =
         let found = pieces_have 0 (form_of k).cells o e in
@@ -174,14 +173,14 @@ narrow (starts f32) = omega arith
 narrow none = omega arith
 
 -- a byte that none of them holds is filler
-pub none_over : (k : Kind) (at back : ℕ) → at < header_size k → NoneOver k at back → ((b : ℕ) → b ≤ at → b < 8 → b < back) → header_byte_of k at ≡ answered Filler
+pub none_over : (k : Kind) (at back : ℕ) → at < header_size k → NoneOver k at back → ((b : ℕ) → b ≤ at → b < 8 → b < back) → header_byte_of k at ≡ answered None
 unfolding header_byte_of
 none_over k at back inside o far =
     let r = held-once place_of (header_pieces k) 0 (header_size k) at (header_adjoins k) (omega arith) inside in
     by r.1.0 r.1.1.0 r.1.1.1.inside (start-there (runs (form_of k).cells) (header_pieces k) r.0 r.1.0 (all_start_lem k) r.1.1.1.there)
   where
     by : (p : Piece) → holding place_of (header_pieces k) at ≡ answered p → holds (place_of p) at ≡ true → starts_there (runs (form_of k).cells) p ≡ true →
-        header_byte_of k at ≡ answered Filler
+        header_byte_of k at ≡ answered None
     by (filler e) q h s = rw q
     by (element e) q h s =
         let w : start_width (element_at k e.offset) ≡ e.size = eqb-true _ _ s in
@@ -192,7 +191,7 @@ none_over k at back inside o far =
         absurd (omega (arith, rw (back_to, w) at (o b near (omega arith)), over))
 
 -- an element that is told of a byte starts in the header's table, where it is told to stand
-pub element-starts : (k : Kind) (i : ℕ) {e : ElementPlace} → header_byte_of k i ≡ answered (Element e) → (t : ElementType) × ((element_at k e.offset ≡ starts t) × (width t ≡ e.size))
+pub element-starts : (k : Kind) (i : ℕ) {e : ElementPlace} → header_byte_of k i ≡ answered (Some e) → (t : ElementType) × ((element_at k e.offset ≡ starts t) × (width t ≡ e.size))
 unfolding header_byte_of
 element-starts k i {e} told = by-piece (holding place_of (header_pieces k) i) refl told
   where
@@ -200,7 +199,7 @@ element-starts k i {e} told = by-piece (holding place_of (header_pieces k) i) re
     by-start o z (starts t) found wide some = (t, (found, wide))
     by-start o z none found wide some = absurd (omega (arith, wide))
 
-    by-piece : (a : Answer Piece) → holding place_of (header_pieces k) i ≡ a → and_then a (λ p. answered (header_byte p)) ≡ answered (Element e) →
+    by-piece : (a : Answer Piece) → holding place_of (header_pieces k) i ≡ a → and_then a (λ p. answered (header_byte p)) ≡ answered (Some e) →
         (t : ElementType) × ((element_at k e.offset ≡ starts t) × (width t ≡ e.size))
     by-piece (stream f r b) h q = absurd (answered-not-stream (sym q))
     by-piece (number n) h q = absurd (answered-not-number (sym q))

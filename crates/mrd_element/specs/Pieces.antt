@@ -1,6 +1,6 @@
 -- What a fixed header is made of, byte for byte: its elements, and filler.
 -- Assumes nothing.
-use Rattle.std.specs.Prelude.{ℕ, ◌+◌, List, [], ◌∷◌, ◌++◌, map}
+use Rattle.std.specs.Prelude.{ℕ, ◌+◌, List, [], ◌∷◌, ◌++◌, map, Option, Some, None}
 use Rattle.mrd_logic.specs.Answer.{Answer, answered, and_then}
 use Rattle.mrd_format.specs.declared.kind.Kind.{Kind}
 use Rattle.mrd_format.specs.Elements.{Run, width}
@@ -9,8 +9,7 @@ use Rattle.mrd_format.specs.Parts.{Extent, extent}
 use Rattle.mrd_format.specs.Kinds.{form_of}
 use Rattle.mrd_format.specs.Holding.{holding, evenly}
 use Rattle.mrd_element.specs.Element.{Start, starts, none}
-use Rattle.mrd_element.specs.declared.byte.HeaderByte.{HeaderByte}
-use Rattle.mrd_element.specs.declared.byte.HeaderByte.TheVariants.{Element, Filler}
+use Rattle.mrd_element.specs.declared.byte.ElementPlace.{ElementPlace}
 
 -- an element or filler, with its place in the header
 pub data Piece : Type 0 where
@@ -40,11 +39,11 @@ abbrev pub start_width : Start → ℕ
 start_width (starts e) = width e
 start_width none = 0
 
--- what is told of a header's byte
-abbrev pub header_byte : Piece → HeaderByte
-header_byte (element e) = Element (record { offset = e.offset; size = e.size })
-header_byte (filler e) = Filler
+-- what is told of a header's byte: the element that it belongs to, or none
+abbrev pub header_byte : Piece → Option ElementPlace
+header_byte (element e) = Some (record { offset = e.offset; size = e.size })
+header_byte (filler e) = None
 
 -- which element byte `at` of a kind's header belongs to, or that it is filler
-unfoldable pub header_byte_of : Kind → ℕ → Answer HeaderByte
+unfoldable pub header_byte_of : Kind → ℕ → Answer (Option ElementPlace)
 header_byte_of k at = and_then (holding place_of (header_pieces k) at) (λ p. answered (header_byte p))

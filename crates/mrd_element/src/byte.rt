@@ -18,19 +18,12 @@ pub struct ElementPlace {
     pub size: usize,
 }
 
-// What a header's byte belongs to.
-#[derive(Clone, Copy)]
-pub enum HeaderByte {
-    Element(ElementPlace),
-    // None: the byte carries nothing.
-    Filler,
-}
-
 // No element is wider.
 const WIDEST: usize = 8;
 
 // The bytes of the element that starts at an offset of a kind's header; none where no element starts. It goes by the
 // kind itself and not by `letter`, so that this one is used in one place alone: the field question has its code there.
+#[tactic(auto, using(crate::specs::PieceLaws::letter_width_lem), unfolding(crate::specs::Element::type_at))]
 fn width_at(kind: Kind, offset: usize) -> usize
     ensures { result ≡ start_width (element_at kind offset) }
 {
@@ -43,6 +36,7 @@ fn width_at(kind: Kind, offset: usize) -> usize
 }
 
 // The bytes of an element with this letter; none for the dot.
+#[tactic(auto, unfolding(crate::specs::Letters::letter_width))]
 fn width(letter: u8) -> usize
     ensures { result ≡ letter_width letter }
 {
@@ -56,25 +50,24 @@ fn width(letter: u8) -> usize
     }
 }
 
-// The element that holds this byte of a kind's header starts there, or a few bytes before.
-pub fn header_byte(kind: Kind, offset: usize) -> HeaderByte
+// The element that this byte of a kind's header belongs to; `None` where the byte is filler, which carries nothing. An
+// element that holds the byte starts there, or a few bytes before.
+pub fn header_byte(kind: Kind, offset: usize) -> Option<ElementPlace>
     requires { offset < header_size kind }
     ensures { answered result ≡ header_byte_of kind offset }
 {
-    let mut back: usize = 0;
-    while back < WIDEST {
+    for back in 0..WIDEST {
         if offset < back {
-            return HeaderByte::Filler;
+            return None;
         }
         let start = offset - back;
         let size = width_at(kind, start);
         if back < size {
-            return HeaderByte::Element(ElementPlace {
+            return Some(ElementPlace {
                 offset: start,
-                size: size,
+                size,
             });
         }
-        back += 1;
     }
-    HeaderByte::Filler
+    None
 }

@@ -13,6 +13,7 @@ use mrd_format::{Kind, Layout};
 
 // The letter at an offset among elements of one width, from the first one's offset on, and a dot where none
 // of them starts.
+#[tactic(auto, unfolding(crate::specs::Letters::letter_among))]
 fn among(first: usize, width: usize, letter: u8, offset: usize) -> u8
     requires { (0 < width) × (first ≤ offset) }
     ensures { result ≡ letter_among first width letter offset }
@@ -65,6 +66,7 @@ pub(crate) fn image(offset: usize) -> u8
 }
 
 // The letter at an offset of a waveform's header in this layout, and a dot in its filler and past its end.
+#[tactic(auto, using(mrd_format::proofs::WaveformLaws::offset_in_lem), unfolding(crate::specs::Element::type_at))]
 pub(crate) fn waveform(layout: Layout, offset: usize) -> u8
     ensures { result ≡ letter_of (element_at (Waveform layout) offset) }
 {
@@ -100,6 +102,7 @@ pub(crate) fn waveform(layout: Layout, offset: usize) -> u8
 }
 
 // The letter at an offset of a kind's header, and a dot where the kind has no header.
+#[tactic(auto, unfolding(crate::specs::Element::type_at))]
 pub fn letter(kind: Kind, offset: usize) -> u8
     ensures { result ≡ letter_of (element_at kind offset) }
 {

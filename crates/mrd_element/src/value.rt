@@ -1,4 +1,4 @@
-// What a field holds, and what is answered about one.
+// What a field holds.
 //
 // Assumes nothing.
 
@@ -13,12 +13,4 @@ pub enum Value {
     Float(f32),
     // A NaN, by its bit pattern: an f32 is not promised to keep it.
     Nan(u32),
-}
-
-// The header element at an offset.
-#[derive(Clone, Copy)]
-pub enum Element {
-    Value(Value),
-    // No header element starts there, or the record has no header: refusal 20.
-    Absent,
 }

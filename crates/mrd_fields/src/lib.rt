@@ -6,4 +6,4 @@
 
 mod fields;
 
-pub use fields::{FieldAnswer, field, field_at};
+pub use fields::{field, field_at};

@@ -88,6 +88,10 @@ pub record Read (rules : Rules) (n : ℕ) (cs : List ℕ) (c : Cursor) (s : List
   pub one : candidate n here.place.number (kind_of here.shape) ≡ true
   pub header : h ≡ fixed_part Kind.Acquisition (part_from here.place.start s)
 
+pub read : {rules : Rules} {n : ℕ} {cs : List ℕ} {c : Cursor} {s : List ℕ} {here : PlacedRecord} {next : Cursor} {h : List ℕ} → SearchTurn rules n cs c s here next →
+    candidate n here.place.number (kind_of here.shape) ≡ true → h ≡ fixed_part Kind.Acquisition (part_from here.place.start s) → Read rules n cs c s here next h
+read t e f = record { turn = t; one = e; header = f }
+
 module _ {rules : Rules} {n : ℕ} {cs : List ℕ} {c : Cursor} {s : List ℕ} {here : PlacedRecord} {next : Cursor} {h : List ℕ} (x : Read rules n cs c s here next h) where
   pub header-long : length h ≡ 340
   header-long = ap length x.header ∙ fixed-long Kind.Acquisition (part_from here.place.start s) (fixed-there x.turn x.one)

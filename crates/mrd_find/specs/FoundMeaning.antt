@@ -1,10 +1,9 @@
--- What each case of the answer of `find` says: the paper's number and values.
+-- What the answer of `find` says: the paper's number and values.
 -- Assumes nothing.
-use Rattle.std.specs.Prelude.{ℕ}
-use Rattle.mrd_find.specs.declared.search.Found.{Found}
-use Rattle.mrd_logic.specs.Answer.{Answer, answered, stream, number}
+use Rattle.std.specs.Prelude.{ℕ, Result}
+use Rattle.mrd_logic.specs.Answer.{Answer}
+use Rattle.mrd_stream.specs.Refused.{told}
+use Rattle.mrd_stream.specs.declared.refused.Refused.{Refused}
 
-abbrev pub found_meaning : Found → Answer ℕ
-found_meaning (Found.Record i) = answered i
-found_meaning (Found.Stream r) = stream r.number r.record r.byte
-found_meaning (Found.Refused n) = number n
+abbrev pub found_meaning : Result ℕ Refused → Answer ℕ
+found_meaning r = told (λ n. n) r

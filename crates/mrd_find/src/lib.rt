@@ -6,4 +6,4 @@
 
 mod search;
 
-pub use search::{Found, find};
+pub use search::find;

@@ -1,58 +1,44 @@
 // The first acquisition whose seventeen counters are those asked for.
 ghost use Rattle.std.specs.Prelude.{◌≡◌};
+ghost use Rattle.mrd_format.specs.Acquisition.{counters_of};
 ghost use Rattle.mrd_format.specs.Shapes.{kind_of};
-ghost use Rattle.mrd_stream.specs.ReaderMeaning.{checked_meaning};
 ghost use Rattle.mrd_find.specs.Find.{candidate, find_of};
-ghost use Rattle.mrd_logic.specs.Answer.{unless_refused};
 ghost use Rattle.mrd_find.specs.FoundMeaning.{found_meaning};
+ghost use Rattle.mrd_logic.specs.Lists.{equal};
 
+use mrd_acquisition::{AcquisitionHeader, COUNTER_COUNT};
 use mrd_cursor::Cursor;
-use mrd_format::{Kind, Rules, refusal};
-use mrd_message::{COUNTER_COUNT, encoding_counter, fixed_part};
-use mrd_stream::{Checked, PlacedRecord, Refusal, Step, check_from};
-
-// The answer of find.
-#[derive(Clone, Copy)]
-pub enum Found {
-    // The record's number.
-    Record(usize),
-    // The stream itself is refused.
-    Stream(Refusal),
-    // Refused with a number alone: 16 where no record matches.
-    Refused(u8),
-}
+use mrd_format::{Kind, Refusal, Rules};
+use mrd_message::FixedPart;
+use mrd_stream::{PlacedRecord, Refused, Step, check_from};
 
 // The number of the first acquisition from record n on with these counters; else the stream's refusal,
 // also where a match stands before the fault, or 16. One walk over the stream.
-pub fn find(rules: Rules, s: &[u8], n: usize, counters: &[u16; COUNTER_COUNT]) -> Found
+pub fn find(
+    rules: Rules,
+    s: &[u8],
+    n: usize,
+    counters: &[u16; COUNTER_COUNT],
+) -> Result<usize, Refused>
     ensures { found_meaning result ≡ find_of rules s.now n counters.now }
 {
-    // Passed on as a slice, which tells the proof the array's length.
-    let asked: &[u16] = counters;
     let mut c = Cursor::beginning();
-    'records: loop {
-        let step = mrd_stream::next(rules, c, s);
-        match step {
+    loop {
+        match mrd_stream::next(rules, c, s) {
             Step::Message(here, next) => {
-                if !candidate(here, n) {
-                    c = next;
-                    continue 'records;
-                }
-                let place = here.place;
-                let start = place.start;
-                let h = fixed_part(Kind::Acquisition, &s[start..]);
-                let mut i: usize = 0;
-                while i < COUNTER_COUNT {
-                    if encoding_counter(h, i) != asked[i] {
-                        c = next;
-                        continue 'records;
+                if candidate(here, n) {
+                    let fixed = FixedPart::of(Kind::Acquisition, &s[here.place.start..]);
+                    let header = AcquisitionHeader { bytes: fixed.bytes };
+                    if counters_match(header, counters) {
+                        check_from(rules, next, s)?;
+                        return Ok(here.place.number);
                     }
-                    i += 1;
                 }
-                return concluded(Found::Record(place.number), check_from(rules, next, s));
+                c = next;
             }
             Step::End(answer) => {
-                return concluded(Found::Refused(refusal::NO_RECORD), answer);
+                answer?;
+                return Err(Refused::Alone(Refusal::NoRecord));
             }
         }
     }
@@ -62,20 +48,18 @@ pub fn find(rules: Rules, s: &[u8], n: usize, counters: &[u16; COUNTER_COUNT]) -
 fn candidate(here: PlacedRecord, n: usize) -> bool
     ensures { result ≡ candidate n here.place.number (kind_of here.shape) }
 {
-    let place = here.place;
-    if place.number < n {
-        return false;
-    }
-    let shape = here.shape;
-    shape.kind().id() == Kind::ACQUISITION
+    n <= here.place.number && here.shape.kind().id() == Kind::ACQUISITION
 }
 
-// What was found, unless the stream is refused.
-fn concluded(found: Found, answer: Checked) -> Found
-    ensures { found_meaning result ≡ unless_refused (checked_meaning answer) (found_meaning found) }
+// Whether an acquisition has these counters. Most differ early, so each is read only where those before it
+// are the same.
+fn counters_match(header: AcquisitionHeader<'_>, asked: &[u16; COUNTER_COUNT]) -> bool
+    ensures { result ≡ equal (counters_of header.entry.bytes.now) asked.now }
 {
-    match answer {
-        Checked::Accepted(_) => found,
-        Checked::Refused(refusal) => Found::Stream(refusal),
+    for i in 0..COUNTER_COUNT {
+        if header.encoding_counter(i) != asked[i] {
+            return false;
+        }
     }
+    true
 }

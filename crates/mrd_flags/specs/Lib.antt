@@ -1,4 +1,5 @@
 pub mod Flags
+pub mod FlagNames
 pub mod BitLaws
 pub mod BitMaskLaws
 pub mod FlagLaws

@@ -5,17 +5,14 @@ ghost use Rattle.std.specs.Prelude.{◌≡◌};
 ghost use Rattle.mrd_flags.specs.Flags.{flag_test, flag_set, flag_clear};
 
 // The flags number of flag n alone. Zero where n names no flag: then nothing is shifted.
+#[tactic(auto, using(crate::specs::FlagLaws::shifted_mask), unfolding(crate::specs::Flags::flag_set))]
 fn mask(n: u32) -> u64
     ensures { result ≡ flag_set n 0 }
 {
-    if n < 1 {
-        return 0;
+    match n {
+        1..=64 => 1 << (n - 1),
+        _ => 0,
     }
-    let above = 64 < n;
-    if above {
-        return 0;
-    }
-    1 << (n - 1)
 }
 
 // Whether flag n is set. False where n names no flag.

@@ -1,6 +1,6 @@
 -- 'Message kinds': the eight rows of the paper's table, each kind with its number and the size of its fixed part; a waveform's with its layout.
 -- Assumes nothing.
-use Rattle.std.specs.Prelude.{ℕ, List, [], ◌∷◌, eqb}
+use Rattle.std.specs.Prelude.{ℕ, List, [], ◌∷◌, eqb, Option, Some, None}
 use Rattle.mrd_logic.specs.Choice.{pick}
 use Rattle.mrd_format.specs.Parts.{header}
 use Rattle.mrd_format.specs.Segments.{total, reach_from, reach_size, Form}
@@ -11,8 +11,6 @@ use Rattle.mrd_format.specs.Waveform as waveform
 use Rattle.mrd_format.specs.declared.kind.Kind.{Kind}
 use Rattle.mrd_format.specs.declared.kind.Kind.TheVariants.{ConfigurationName, ConfigurationText, HeaderText, Close, Text, Acquisition, Image, Waveform}
 use Rattle.mrd_format.specs.declared.rules.Rules.{Rules}
-use Rattle.mrd_format.specs.declared.kind.Identified.{Identified}
-use Rattle.mrd_format.specs.declared.kind.Identified.TheVariants.{Known, Unknown}
 
 -- 'id'
 abbrev pub id_of : Kind → ℕ
@@ -49,10 +47,10 @@ abbrev pub kinds : Rules → List Kind
 kinds rules = ConfigurationName ∷ ConfigurationText ∷ HeaderText ∷ Close ∷ Text ∷ Acquisition ∷ Image ∷ Waveform rules.layout ∷ []
 
 -- the row of a table with this id
-abbrev pub lookup : List Kind → ℕ → Identified
-lookup [] id = Unknown
-lookup (k ∷ ks) id = pick (eqb id (id_of k)) (Known k) (lookup ks id)
+abbrev pub lookup : List Kind → ℕ → Option Kind
+lookup [] id = None
+lookup (k ∷ ks) id = pick (eqb id (id_of k)) (Some k) (lookup ks id)
 
--- the kind with this id: 'id not in the table above' is Unknown
-unfoldable pub identified : Rules → ℕ → Identified
+-- the kind with this id: 'id not in the table above' is None
+unfoldable pub identified : Rules → ℕ → Option Kind
 identified rules id = lookup (kinds rules) id

@@ -1,3 +1,4 @@
+pub mod Refusals
 pub mod Elements
 pub mod Parts
 pub mod Headers

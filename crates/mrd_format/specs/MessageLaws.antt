@@ -1,14 +1,13 @@
 -- What follows a well-formed message does not matter to it: its id, its fixed part and its size are read from its own bytes.
 -- Hence no well-formed message is the beginning of another.
 -- Assumes nothing.
-use Rattle.std.specs.Prelude.{ℕ, ◌+◌, ◌≤◌, ◌≡◌, List, ◌++◌, length, take, drop}
+use Rattle.std.specs.Prelude.{ℕ, ◌+◌, ◌≤◌, ◌≡◌, List, ◌++◌, length, take, drop, Some}
 use Rattle.std.proofs.Common.{le_of_eq, arith, sym, ap, ◌∙◌, length-drop, take-append-drop, length-take-le}
 use Rattle.std.proofs.lemmas.List.{take-append-le, drop-append-le}
 use Rattle.std.proofs.Math.Seq.{take-append_seam}
 use Rattle.mrd_numbers.specs.Little.{num}
 use Rattle.mrd_numbers.specs.Laws.{num-append, num-take, num-drop}
 use Rattle.mrd_format.specs.declared.kind.Kind.{Kind}
-use Rattle.mrd_format.specs.declared.kind.Identified.TheVariants.{Known}
 use Rattle.mrd_format.specs.declared.rules.Rules.{Rules}
 use Rattle.mrd_format.specs.Kinds.{fixed_size, identified}
 use Rattle.mrd_format.specs.Message.{id_at, fixed_part, size_of}
@@ -59,7 +58,7 @@ well-least m w = omega (arith, size-least w.kind (fixed_part w.kind m))
 
 -- a well-formed message with bytes after it: its kind, its fixed part and its size
 module _ {rules : Rules} (m rest : List ℕ) (w : WellFormed rules m) where
-  pub well-known : identified rules (id_at (m ++ rest)) ≡ Known w.kind
+  pub well-known : identified rules (id_at (m ++ rest)) ≡ Some w.kind
   well-known =
       let h : 2 ≤ length m = omega (arith, well-least m w) in
       rw id-append w.known

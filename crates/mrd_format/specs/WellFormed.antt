@@ -1,9 +1,8 @@
 -- What 'well formed' means of one message.
 -- Assumes nothing.
-use Rattle.std.specs.Prelude.{ℕ, ◌≤◌, ◌≡◌, List, length}
+use Rattle.std.specs.Prelude.{ℕ, ◌≤◌, ◌≡◌, List, length, Some}
 use Rattle.mrd_logic.specs.Checks.{first}
 use Rattle.mrd_format.specs.declared.kind.Kind.{Kind}
-use Rattle.mrd_format.specs.declared.kind.Identified.TheVariants.{Known}
 use Rattle.mrd_format.specs.declared.rules.Rules.{Rules}
 use Rattle.mrd_format.specs.Kinds.{identified}
 use Rattle.mrd_format.specs.Message.{limit, id_at, fixed_part, own_checks, size_of}
@@ -15,7 +14,7 @@ use Rattle.mrd_format.specs.Profiles.{texts_in, Encoded}
 -- 1, 3 and 11. In the strict profile its texts are UTF-8: 21
 pub record WellFormed (rules : Rules) (m : List ℕ) : Type 0 where
   pub kind : Kind
-  pub known : identified rules (id_at m) ≡ Known kind
+  pub known : identified rules (id_at m) ≡ Some kind
   pub sound : first (own_checks kind (fixed_part kind m)) ≡ 0
   pub small : size_of kind (fixed_part kind m) ≤ limit
   pub whole : size_of kind (fixed_part kind m) ≡ length m

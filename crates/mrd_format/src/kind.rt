@@ -18,13 +18,6 @@ pub enum Kind {
     Waveform(Layout),
 }
 
-// What an id says.
-#[derive(Clone, Copy)]
-pub enum Identified {
-    Known(Kind),
-    Unknown,
-}
-
 impl Kind {
     pub const CONFIGURATION_NAME: u16 = 1;
 
@@ -62,21 +55,20 @@ impl Kind {
     // Where an image's header has its attributes' length, after all fields of the record.
     pub const ATTRIBUTE_STRING_LEN: usize = 194;
 
-    // The kind with this id.
-    pub fn of_id(rules: Rules, id: u16) -> Identified
+    // The kind with this id, where one has it.
+    pub fn of_id(rules: Rules, id: u16) -> Option<Kind>
         ensures { result ≡ identified rules id }
     {
-        let layout = rules.layout;
         match id {
-            Kind::CONFIGURATION_NAME => Identified::Known(Kind::ConfigurationName),
-            Kind::CONFIGURATION_TEXT => Identified::Known(Kind::ConfigurationText),
-            Kind::HEADER_TEXT => Identified::Known(Kind::HeaderText),
-            Kind::CLOSE => Identified::Known(Kind::Close),
-            Kind::TEXT => Identified::Known(Kind::Text),
-            Kind::ACQUISITION => Identified::Known(Kind::Acquisition),
-            Kind::IMAGE => Identified::Known(Kind::Image),
-            Kind::WAVEFORM => Identified::Known(Kind::Waveform(layout)),
-            _ => Identified::Unknown,
+            Kind::CONFIGURATION_NAME => Some(Kind::ConfigurationName),
+            Kind::CONFIGURATION_TEXT => Some(Kind::ConfigurationText),
+            Kind::HEADER_TEXT => Some(Kind::HeaderText),
+            Kind::CLOSE => Some(Kind::Close),
+            Kind::TEXT => Some(Kind::Text),
+            Kind::ACQUISITION => Some(Kind::Acquisition),
+            Kind::IMAGE => Some(Kind::Image),
+            Kind::WAVEFORM => Some(Kind::Waveform(rules.layout)),
+            _ => None,
         }
     }
 
@@ -102,10 +94,8 @@ impl Kind {
     {
         match self {
             Kind::ConfigurationName => Kind::NAME_FIXED,
-            Kind::ConfigurationText => Kind::TEXT_FIXED,
-            Kind::HeaderText => Kind::TEXT_FIXED,
+            Kind::ConfigurationText | Kind::HeaderText | Kind::Text => Kind::TEXT_FIXED,
             Kind::Close => Kind::CLOSE_FIXED,
-            Kind::Text => Kind::TEXT_FIXED,
             Kind::Acquisition => Kind::ACQUISITION_FIXED,
             Kind::Image => Kind::IMAGE_FIXED,
             Kind::Waveform(layout) => layout.header_size(),
@@ -117,14 +107,10 @@ impl Kind {
         ensures { result ≡ header_size self }
     {
         match self {
-            Kind::ConfigurationName => 0,
-            Kind::ConfigurationText => 0,
-            Kind::HeaderText => 0,
-            Kind::Close => 0,
-            Kind::Text => 0,
             Kind::Acquisition => Kind::ACQUISITION_FIXED,
             Kind::Image => Kind::IMAGE_HEADER,
             Kind::Waveform(layout) => layout.header_size(),
+            _ => 0,
         }
     }
 }

@@ -1,65 +1,71 @@
-// Document 01's numbers of refusal. C has the same names, with `MRD_REFUSED_` before them.
+// Why something is refused: the errors, with their numbers. C has the same names, with `MRD_REFUSED_` before them.
+ghost use Rattle.std.specs.Prelude.{◌≡◌};
+ghost use Rattle.mrd_format.specs.Refusals.{number_of};
 
-// One byte remains where an id is due.
-pub const ID_CUT: u8 = 1;
+use std::error::Error;
+use std::fmt;
 
-// The id is not in the table of kinds.
-pub const UNKNOWN_ID: u8 = 2;
+#[derive(Clone, Copy, Debug, PartialEq, Eq)]
+pub enum Refusal {
+    // One byte remains where an id is due.
+    IdCut = 1,
+    // The id is not in the table of kinds.
+    UnknownId = 2,
+    // The fixed part doesn't fit in what remains; of the writer: the header bytes are not as long as the
+    // kind's fixed header.
+    FixedPartCut = 3,
+    // The version is not 1.
+    Version = 4,
+    // No zero among the name's 1,024 bytes; of the writer: a name over 1,023 bytes or holding a zero.
+    Name = 5,
+    // Active channels above available.
+    Channels = 6,
+    // Discard pre plus discard post above the number of samples.
+    Discard = 7,
+    // An image's data type is not 1 to 8.
+    DataType = 8,
+    // An image header's attribute length is neither 0 nor the 8-byte length after it.
+    AttributeLength = 9,
+    // The whole message, id included, is over 268,435,456 bytes.
+    TooLarge = 10,
+    // The whole message doesn't fit in what remains.
+    MessageCut = 11,
+    // The order of messages is broken.
+    Order = 12,
+    // The stream ends without a close.
+    NoClose = 13,
+    // The output is too short, or the start position is past its end.
+    OutputShort = 14,
+    // The index differs from the one the stream yields.
+    IndexDiffers = 15,
+    // There is no such record, or no such byte.
+    NoRecord = 16,
+    // The record has no such part or channel.
+    NoPart = 17,
+    // Of the writer: a body's length isn't what its header says, or a part its kind lacks isn't empty.
+    BodyLength = 18,
+    // A message begins after 1,000,000 messages.
+    TooMany = 19,
+    // No header element starts at that offset, or the record has no header.
+    NoField = 20,
+    // In the strict profile: a name, a text or attributes are not UTF-8.
+    TextNotUtf8 = 21,
+}
 
-// The fixed part doesn't fit in what remains; of the writer: the header bytes are not as long as the
-// kind's fixed header.
-pub const FIXED_PART_CUT: u8 = 3;
+impl Refusal {
+    // The number that stands for it, 1 to 21.
+    pub fn number(self) -> u8
+        ensures { result ≡ number_of self }
+    {
+        self as u8
+    }
+}
 
-// The version is not 1.
-pub const VERSION: u8 = 4;
+impl fmt::Display for Refusal {
+    fn fmt<W: fmt::Write>(&self, f: &mut fmt::Formatter<W>) -> fmt::Result {
+        let number = self.number();
+        write!(f, "refused {number}")
+    }
+}
 
-// No zero among the name's 1,024 bytes; of the writer: a name over 1,023 bytes or holding a zero.
-pub const NAME: u8 = 5;
-
-// Active channels above available.
-pub const CHANNELS: u8 = 6;
-
-// Discard pre plus discard post above the number of samples.
-pub const DISCARD: u8 = 7;
-
-// An image's data type is not 1 to 8.
-pub const DATA_TYPE: u8 = 8;
-
-// An image header's attribute length is neither 0 nor the 8-byte length after it.
-pub const ATTRIBUTE_LENGTH: u8 = 9;
-
-// The whole message, id included, is over 268,435,456 bytes.
-pub const TOO_LARGE: u8 = 10;
-
-// The whole message doesn't fit in what remains.
-pub const MESSAGE_CUT: u8 = 11;
-
-// The order of messages is broken.
-pub const ORDER: u8 = 12;
-
-// The stream ends without a close.
-pub const NO_CLOSE: u8 = 13;
-
-// The output is too short, or the start position is past its end.
-pub const OUTPUT_SHORT: u8 = 14;
-
-// The index differs from the one the stream yields.
-pub const INDEX_DIFFERS: u8 = 15;
-
-// There is no such record, or no such byte.
-pub const NO_RECORD: u8 = 16;
-
-// The record has no such part or channel.
-pub const NO_PART: u8 = 17;
-
-// Of the writer: a body's length isn't what its header says, or a part its kind lacks isn't empty.
-pub const BODY_LENGTH: u8 = 18;
-
-// A message begins after 1,000,000 messages.
-pub const TOO_MANY: u8 = 19;
-
-// No header element starts at that offset, or the record has no header.
-pub const NO_FIELD: u8 = 20;
-
-// In the strict profile: a name, a text or attributes are not UTF-8.
-pub const TEXT_NOT_UTF8: u8 = 21;
+impl Error for Refusal {}

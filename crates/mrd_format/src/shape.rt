@@ -63,10 +63,7 @@ impl Shape {
             Shape::Text(_) => Kind::Text,
             Shape::Acquisition(_) => Kind::Acquisition,
             Shape::Image(_) => Kind::Image,
-            Shape::Waveform(shape) => {
-                let layout = shape.layout;
-                Kind::Waveform(layout)
-            }
+            Shape::Waveform(shape) => Kind::Waveform(shape.layout),
         }
     }
 }

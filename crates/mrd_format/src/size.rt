@@ -9,11 +9,7 @@ pub const MAX_MESSAGE_SIZE: u64 = 268435456;
 pub fn cap(n: u64) -> u64
     ensures { result ≡ capped n }
 {
-    if MAX_MESSAGE_SIZE < n {
-        MAX_MESSAGE_SIZE + 1
-    } else {
-        n
-    }
+    n.min(MAX_MESSAGE_SIZE + 1)
 }
 
 // The whole product of two numbers of a header.

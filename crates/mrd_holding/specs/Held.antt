@@ -1,6 +1,6 @@
 -- Which part of a message a byte belongs to, and of a header's byte which element: from the parts of the message in order, and the pieces of its header.
 -- Assumes nothing.
-use Rattle.std.specs.Prelude.{ℕ, ◌+◌, ◌-◌, ◌≤◌, ◌<◌, List}
+use Rattle.std.specs.Prelude.{ℕ, ◌+◌, ◌-◌, ◌≤◌, ◌<◌, List, Option}
 use Rattle.mrd_logic.specs.Answer.{Answer, answered, and_then}
 use Rattle.mrd_logic.specs.Choice.{pick}
 use Rattle.mrd_format.specs.declared.kind.Kind.{Kind}
@@ -9,17 +9,17 @@ use Rattle.mrd_format.specs.Parts.{Part, id, count, header, filler, same, Extent
 use Rattle.mrd_format.specs.Segments.{PlacedPart}
 use Rattle.mrd_format.specs.Content.{placed_parts}
 use Rattle.mrd_format.specs.Holding.{holding}
-use Rattle.mrd_element.specs.declared.byte.HeaderByte.{HeaderByte}
+use Rattle.mrd_element.specs.declared.byte.ElementPlace.{ElementPlace}
 use Rattle.mrd_element.specs.Pieces.{header_byte_of}
 use Rattle.mrd_parts.specs.Sought.{part_meaning, Sized}
 use Rattle.mrd_holding.specs.declared.holding.MessagePart.{MessagePart}
 use Rattle.mrd_holding.specs.declared.holding.MessagePart.TheVariants.{Id, Length, Header, NameRest, Shown}
 use Rattle.mrd_holding.specs.declared.holding.HeldPart.{HeldPart}
 
--- of a header's byte, what of the header it belongs to; another part is told whole
+-- of a header's byte, the element that it belongs to, or none; another part is told whole
 pub data Inner : Type 0 where
   whole : Inner
-  in_header : HeaderByte → Inner
+  in_header : Option ElementPlace → Inner
 
 -- what is told of a byte: the part that it belongs to, and where that part lies in the message
 pub record Held : Type 0 where

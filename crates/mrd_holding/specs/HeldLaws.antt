@@ -1,6 +1,6 @@
 -- The parts of a message adjoin, so whichever holds a byte is the one told; channel by channel, too.
 -- Assumes nothing.
-use Rattle.std.specs.Prelude.{ℕ, zero, suc, ◌+◌, ◌-◌, ◌*◌, ◌/◌, ◌≤◌, ◌<◌, ◌≡◌, refl, Bool, true, false, List}
+use Rattle.std.specs.Prelude.{ℕ, zero, suc, ◌+◌, ◌-◌, ◌*◌, ◌/◌, ◌≤◌, ◌<◌, ◌≡◌, refl, Bool, true, false, List, Option}
 use Rattle.std.proofs.Common.{zero-add, zero-mul, mul-zero, suc-mul, div-mul-le_self, div-lt_iff_lt-mul, arith, sym, ◌∙◌}
 use Rattle.std.proofs.Math.Nat.{lt-div-mul-add}
 use Rattle.mrd_logic.specs.Answer.{Answer, answered, stream, number, and_then}
@@ -18,9 +18,10 @@ use Rattle.mrd_format.specs.Content.{placed_parts}
 use Rattle.mrd_format.specs.Holding.{holds, holding}
 use Rattle.mrd_format.proofs.ReachLaws.{parts-adjoin}
 use Rattle.mrd_format.proofs.HoldingLaws.{holds_true, found-held, found-there}
-use Rattle.mrd_element.specs.declared.byte.HeaderByte.{HeaderByte}
+use Rattle.mrd_element.specs.declared.byte.ElementPlace.{ElementPlace}
 use Rattle.mrd_element.specs.Pieces.{header_byte_of}
 use Rattle.mrd_parts.specs.Sought.{Sized}
+use Rattle.mrd_parts.specs.PartLaws.{image_rest, waveform-rest}
 use Rattle.mrd_holding.specs.Held.{Past, Held, whole, in_header, told_as, told, part_holding}
 
 -- byte `at` of a message of kind k with the fixed part h, of z bytes
@@ -38,7 +39,7 @@ module _ (k : Kind) (h : List ℕ) (z at : ℕ) (s : Sized k h z) where
   part-told n p o w there other low high = rw (found_part n p o w there low high, other)
 
   -- a header, and what of it the byte belongs to
-  pub header-told : (n : ℕ) (o w : ℕ) (b : HeaderByte) → Nth (placed_parts k h) n (placed_part header o w) → o ≤ at → at < o + w →
+  pub header-told : (n : ℕ) (o w : ℕ) (b : Option ElementPlace) → Nth (placed_parts k h) n (placed_part header o w) → o ≤ at → at < o + w →
       answered b ≡ header_byte_of k (at - o) → answered (told_as header o w (in_header b)) ≡ part_holding k h at
   unfolding part_holding
   header-told n o w b there low high piece = rw (found_part n header o w there low high, ← piece)
@@ -103,6 +104,9 @@ pub text-rest : {h : List ℕ} {z : ℕ} → Sized Kind.Text h z → z ≡ 6 + t
 unfolding size_of body_size
 text-rest x = omega (arith, x.size)
 
+-- what a message's size is made of
+pub ruleset sizes = (name-rest, text-rest, image_rest, waveform-rest)
+
 -- a kind with a header has it after the id
 header-there : (k : Kind) (h : List ℕ) → 0 < header_size k → Nth (placed_parts k h) 1 (placed_part header 2 (header_size k))
 header-there Kind.ConfigurationName h some = absurd (omega arith)
@@ -114,7 +118,7 @@ header-there Kind.Acquisition h some = refl
 header-there Kind.Image h some = refl
 header-there (Kind.Waveform l) h some = refl
 
-pub in_header_lem : (k : Kind) (h : List ℕ) (z at : ℕ) → Sized k h z → 2 ≤ at → at - 2 < header_size k → (b : HeaderByte) → answered b ≡ header_byte_of k (at - 2) →
+pub in_header_lem : (k : Kind) (h : List ℕ) (z at : ℕ) → Sized k h z → 2 ≤ at → at - 2 < header_size k → (b : Option ElementPlace) → answered b ≡ header_byte_of k (at - 2) →
     answered (told_as header 2 (header_size k) (in_header b)) ≡ part_holding k h at
 in_header_lem k h z at s low high b piece = header-told k h z at s 1 2 (header_size k) b (header-there k h (omega arith)) low (omega arith) piece
 
@@ -141,7 +145,7 @@ text-past h long size head x =
 pub told_same : (k : Kind) (at : ℕ) (p : PlacedPart) {q : Held} → told k at p ≡ answered q → (q.part ≡ p.part) × (q.place ≡ p.place)
 told_same k at p {q} e = by (same p.part header) (header_byte_of k (at - p.place.offset)) e
   where
-    by : (t : Bool) (a : Answer HeaderByte) →
+    by : (t : Bool) (a : Answer (Option ElementPlace)) →
         pick t (and_then a (λ b. answered (record { part = p.part; place = p.place; inner = in_header b }))) (answered (record { part = p.part; place = p.place; inner = whole })) ≡ answered q →
         (q.part ≡ p.part) × (q.place ≡ p.place)
     by true (answered b) e = (cc, cc)

@@ -6,10 +6,13 @@ ghost use Rattle.mrd_logic.specs.Answer.{answered};
 ghost use Rattle.mrd_parts.specs.Sought.{Sized};
 ghost use Rattle.mrd_holding.specs.Held.{Past, part_holding, held_meaning, part_of, inner_of, told_as};
 
-use mrd_acquisition::{channel_size, trajectory_size};
-use mrd_element::{HeaderByte, header_byte};
-use mrd_format::{Kind, Layout};
+use mrd_acquisition::AcquisitionHeader;
+use mrd_element::{ElementPlace, header_byte};
+use mrd_format::Kind;
+use mrd_image::ImageFixedPart;
+use mrd_message::{FixedPart, NameBytes, TextCount};
 use mrd_parts::{Extent, Part};
+use mrd_waveform::WaveformHeader;
 
 // A part of a message.
 #[derive(Clone, Copy)]
@@ -17,8 +20,8 @@ pub enum MessagePart {
     Id,
     // A text's length, or the 8-byte length of an image's attributes.
     Length,
-    // A fixed header, and what of it the byte belongs to.
-    Header(HeaderByte),
+    // A fixed header, and the element of it that the byte belongs to; `None` for filler.
+    Header(Option<ElementPlace>),
     // What follows a name in its 1,024 bytes, from its zero on.
     NameRest,
     // One that a view can show.
@@ -36,46 +39,49 @@ fn held(part: MessagePart, offset: usize, size: usize) -> HeldPart
     ensures { held_meaning result ≡ told_as (part_of part) offset size (inner_of part) }
 {
     HeldPart {
-        part: part,
-        extent: Extent {
-            offset: offset,
-            size: size,
-        },
+        part,
+        extent: Extent { offset, size },
     }
 }
 
-// The part that holds byte `at`, counted from the id's, of a message of this kind, with the fixed part h and the size
-// in bytes.
-pub fn part_holding(kind: Kind, h: &[u8], size: usize, at: usize) -> HeldPart
-    requires { Sized kind h.now size × (at < size) }
-    ensures { answered (held_meaning result) ≡ part_holding kind h.now at }
+// The part that holds byte `at`, counted from the id's, of a message with this fixed part, of this size in bytes.
+#[tactic(auto, using(crate::specs::HeldLaws::in_header_lem), unfolding(crate::specs::Held::part_holding, mrd_format::specs::Message::size_of, mrd_format::specs::Message::body_size))]
+pub fn part_holding(fixed: FixedPart, size: usize, at: usize) -> HeldPart
+    requires { Sized fixed.kind fixed.bytes.now size × (at < size) }
+    ensures { answered (held_meaning result) ≡ part_holding fixed.entry.kind fixed.entry.bytes.now at }
 {
     if at < Kind::ID_SIZE {
         return held(MessagePart::Id, 0, Kind::ID_SIZE);
     }
-    let header = kind.header_size();
+    let header = fixed.kind.header_size();
     let offset = at - Kind::ID_SIZE;
     if offset < header {
-        let byte = header_byte(kind, offset);
-        return held(MessagePart::Header(byte), Kind::ID_SIZE, header);
+        let element = header_byte(fixed.kind, offset);
+        return held(MessagePart::Header(element), Kind::ID_SIZE, header);
     }
-    match kind {
-        Kind::ConfigurationName => in_name(h, size, at),
-        Kind::ConfigurationText | Kind::HeaderText | Kind::Text => in_text(h, size, at),
+    let bytes = fixed.bytes;
+    match fixed.kind {
+        Kind::ConfigurationName => in_name(NameBytes { bytes }, size, at),
+        Kind::ConfigurationText | Kind::HeaderText | Kind::Text => in_text(
+            TextCount { bytes },
+            size,
+            at,
+        ),
         // A close is an id alone.
         Kind::Close => held(MessagePart::Id, 0, Kind::ID_SIZE),
-        Kind::Acquisition => in_acquisition(h, size, at),
-        Kind::Image => in_image(h, size, at),
-        Kind::Waveform(layout) => in_waveform(layout, h, size, at),
+        Kind::Acquisition => in_acquisition(AcquisitionHeader { bytes }, size, at),
+        Kind::Image => in_image(ImageFixedPart { bytes }, size, at),
+        Kind::Waveform(layout) => in_waveform(WaveformHeader { layout, bytes }, size, at),
     }
 }
 
 // A name, and from its zero on what fills it up.
-fn in_name(h: &[u8], size: usize, at: usize) -> HeldPart
-    requires { Past Kind.ConfigurationName h.now size at }
-    ensures { answered (held_meaning result) ≡ part_holding Kind.ConfigurationName h.now at }
+#[tactic(auto, using(crate::specs::HeldLaws::sizes), unfolding(crate::specs::Held::part_holding))]
+fn in_name(name: NameBytes, size: usize, at: usize) -> HeldPart
+    requires { Past Kind.ConfigurationName name.bytes.now size at }
+    ensures { answered (held_meaning result) ≡ part_holding Kind.ConfigurationName name.entry.bytes.now at }
 {
-    let length = mrd_message::name_length(h);
+    let length = name.length();
     let zero = Kind::ID_SIZE + length;
     if at < zero {
         return held(MessagePart::Shown(Part::Name), Kind::ID_SIZE, length);
@@ -84,33 +90,31 @@ fn in_name(h: &[u8], size: usize, at: usize) -> HeldPart
 }
 
 // A text, of any of its three kinds, follows its length.
-fn in_text(h: &[u8], size: usize, at: usize) -> HeldPart
-    requires { Past Kind.Text h.now size at }
-    ensures { answered (held_meaning result) ≡ part_holding Kind.Text h.now at }
+#[tactic(auto, using(crate::specs::HeldLaws::sizes), unfolding(crate::specs::Held::part_holding))]
+fn in_text(count: TextCount, size: usize, at: usize) -> HeldPart
+    requires { Past Kind.Text count.bytes.now size at }
+    ensures { answered (held_meaning result) ≡ part_holding Kind.Text count.entry.bytes.now at }
 {
     let after = Kind::ID_SIZE + Kind::TEXT_FIXED;
     if at < after {
         return held(MessagePart::Length, Kind::ID_SIZE, Kind::TEXT_FIXED);
     }
-    held(
-        MessagePart::Shown(Part::Text),
-        after,
-        mrd_message::text_length(h),
-    )
+    held(MessagePart::Shown(Part::Text), after, count.length())
 }
 
 // The channels, one after the other and of one length, follow the trajectory.
-fn in_acquisition(h: &[u8], size: usize, at: usize) -> HeldPart
-    requires { Past Kind.Acquisition h.now size at }
-    ensures { answered (held_meaning result) ≡ part_holding Kind.Acquisition h.now at }
+#[tactic(auto, unfolding(crate::specs::Held::part_holding))]
+fn in_acquisition(header: AcquisitionHeader, size: usize, at: usize) -> HeldPart
+    requires { Past Kind.Acquisition header.bytes.now size at }
+    ensures { answered (held_meaning result) ≡ part_holding Kind.Acquisition header.entry.bytes.now at }
 {
-    let trajectory = trajectory_size(h);
+    let trajectory = header.trajectory_size();
     let after = Kind::ID_SIZE + Kind::ACQUISITION_FIXED;
     let first = after + trajectory;
     if at < first {
         return held(MessagePart::Shown(Part::Trajectory), after, trajectory);
     }
-    let samples = channel_size(h);
+    let samples = header.channel_size();
     let c = (at - first) / samples;
     held(
         MessagePart::Shown(Part::Channel(c)),
@@ -120,16 +124,17 @@ fn in_acquisition(h: &[u8], size: usize, at: usize) -> HeldPart
 }
 
 // The length of the attributes, the attributes, and then pixels to the end.
-fn in_image(h: &[u8], size: usize, at: usize) -> HeldPart
-    requires { Past Kind.Image h.now size at }
-    ensures { answered (held_meaning result) ≡ part_holding Kind.Image h.now at }
+#[tactic(auto, using(crate::specs::HeldLaws::sizes), unfolding(crate::specs::Held::part_holding))]
+fn in_image(fixed: ImageFixedPart, size: usize, at: usize) -> HeldPart
+    requires { Past Kind.Image fixed.bytes.now size at }
+    ensures { answered (held_meaning result) ≡ part_holding Kind.Image fixed.entry.bytes.now at }
 {
     let counted = Kind::ID_SIZE + Kind::IMAGE_HEADER;
     let after = Kind::ID_SIZE + Kind::IMAGE_FIXED;
     if at < after {
         return held(MessagePart::Length, counted, after - counted);
     }
-    let attributes = mrd_image::attribute_length(h) as usize;
+    let attributes = fixed.attribute_length() as usize;
     let pixels = after + attributes;
     if at < pixels {
         return held(MessagePart::Shown(Part::Attributes), after, attributes);
@@ -138,10 +143,11 @@ fn in_image(h: &[u8], size: usize, at: usize) -> HeldPart
 }
 
 // The waveform data are what is left after the header.
-fn in_waveform(layout: Layout, h: &[u8], size: usize, at: usize) -> HeldPart
-    requires { Past (Kind.Waveform layout) h.now size at }
-    ensures { answered (held_meaning result) ≡ part_holding (Kind.Waveform layout) h.now at }
+#[tactic(auto, using(crate::specs::HeldLaws::sizes), unfolding(crate::specs::Held::part_holding))]
+fn in_waveform(header: WaveformHeader, size: usize, at: usize) -> HeldPart
+    requires { Past (Kind.Waveform header.layout) header.bytes.now size at }
+    ensures { answered (held_meaning result) ≡ part_holding (Kind.Waveform header.entry.layout) header.entry.bytes.now at }
 {
-    let after = Kind::ID_SIZE + layout.header_size();
+    let after = Kind::ID_SIZE + header.layout.header_size();
     held(MessagePart::Shown(Part::Waveform), after, size - after)
 }

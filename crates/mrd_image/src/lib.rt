@@ -1,10 +1,9 @@
 // The image header and the 8-byte attribute length after it: the checks that they must pass, and the
 // sizes and numbers that they give.
 //
-// Each function asks for the fixed part's 206 bytes, or for the header's 198 alone, which the callers,
-// all proved, have. Assumes nothing.
+// A fixed part has its 206 bytes by an invariant, and a header the 198 that are its own. Assumes nothing.
 #![tactic(auto)]
 
 mod image;
 
-pub use image::{attribute_length, body_size, fault, header_fault, pixels_size, shape};
+pub use image::{ImageFixedPart, ImageHeader};

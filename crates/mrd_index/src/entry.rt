@@ -5,7 +5,7 @@ ghost use Rattle.mrd_index_fields.specs.IndexFields.{entry_meaning};
 ghost use Rattle.mrd_index.specs.Entries.{entry_at, WithinStream};
 
 use mrd_index_fields::Entry;
-use mrd_message::{fixed_part, scan_counter};
+use mrd_message::FixedPart;
 use mrd_stream::PlacedRecord;
 
 // The entry of a record of the stream s.
@@ -13,13 +13,11 @@ pub fn entry_of(s: &[u8], here: PlacedRecord) -> Entry
     requires { WithinStream s.now (record_meaning here) }
     ensures { entry_meaning result ≡ entry_at s.now (record_meaning here) }
 {
-    let place = here.place;
-    let shape = here.shape;
-    let start = place.start;
-    let kind = shape.kind();
+    let start = here.place.start;
+    let kind = here.shape.kind();
     Entry {
         start: start as u64,
         id: kind.id(),
-        counter: scan_counter(kind, fixed_part(kind, &s[start..])),
+        counter: FixedPart::of(kind, &s[start..]).scan_counter(),
     }
 }

@@ -7,4 +7,4 @@
 
 mod jump;
 
-pub use jump::{CursorAnswer, cursor_for};
+pub use jump::cursor_for;

@@ -5,7 +5,7 @@ ghost use Rattle.mrd_stream.specs.Index.{front_field, entry_field, end_field};
 ghost use Rattle.mrd_index_fields.specs.IndexFields.{entry_meaning};
 
 use crate::entry::{ENTRY, Entry};
-use mrd_tagged::{put_tag, put_u16_at, put_u32_at, put_u64_at};
+use mrd_tagged::{put_at, put_tag};
 
 // Edition 1, and the stream's length.
 pub fn put_front(out: &mut [u8], total: u64)
@@ -13,9 +13,9 @@ pub fn put_front(out: &mut [u8], total: u64)
     ensures { out.new ≡ stored 0 (front_field total) out.old }
 {
     put_tag(out, 0, 1, 2);
-    put_u16_at(out, 3, 1);
+    put_at(out, 3, 1u16);
     put_tag(out, 5, 2, 8);
-    put_u64_at(out, 8, total);
+    put_at(out, 8, total);
 }
 
 // One record's entry, from `at` on. The test is for a stream that changes between the check and the walk: no byte
@@ -28,9 +28,9 @@ pub fn put_entry(out: &mut [u8], at: usize, entry: Entry)
         return;
     }
     put_tag(out, at, 3, 14);
-    put_u64_at(out, at + 3, entry.start);
-    put_u16_at(out, at + 11, entry.id);
-    put_u32_at(out, at + 13, entry.counter);
+    put_at(out, at + 3, entry.start);
+    put_at(out, at + 11, entry.id);
+    put_at(out, at + 13, entry.counter);
 }
 
 // The record count, from `at` on.
@@ -39,5 +39,5 @@ pub fn put_end(out: &mut [u8], at: usize, count: u32)
     ensures { out.new ≡ stored at (end_field count) out.old }
 {
     put_tag(out, at, 4, 4);
-    put_u32_at(out, at + 3, count);
+    put_at(out, at + 3, count);
 }

@@ -5,7 +5,7 @@ ghost use Rattle.mrd_stream.specs.Index.{front_field, entry_field, end_field};
 ghost use Rattle.mrd_index_fields.specs.IndexFields.{entry_meaning};
 
 use crate::entry::{END, ENTRY, Entry, FRONT};
-use mrd_tagged::{tag_same, u16_same, u32_same, u64_same};
+use mrd_tagged::{same_at, tag_same};
 
 // Whether file begins with edition 1 and the stream's length.
 pub fn front_same(file: &[u8], total: u64) -> bool
@@ -14,8 +14,8 @@ pub fn front_same(file: &[u8], total: u64) -> bool
     if file.len() < FRONT {
         return false;
     }
-    let rest = tag_same(file, 5, 2, 8) & u64_same(file, 8, total);
-    tag_same(file, 0, 1, 2) & (u16_same(file, 3, 1) & rest)
+    let rest = tag_same(file, 5, 2, 8) & same_at(file, 8, total);
+    tag_same(file, 0, 1, 2) & (same_at(file, 3, 1u16) & rest)
 }
 
 // Whether the field of this entry stands in file from `at` on.
@@ -26,8 +26,8 @@ pub fn entry_same(file: &[u8], at: usize, entry: Entry) -> bool
     if file.len() < at + ENTRY {
         return false;
     }
-    let rest = u16_same(file, at + 11, entry.id) & u32_same(file, at + 13, entry.counter);
-    tag_same(file, at, 3, 14) & (u64_same(file, at + 3, entry.start) & rest)
+    let rest = same_at(file, at + 11, entry.id) & same_at(file, at + 13, entry.counter);
+    tag_same(file, at, 3, 14) & (same_at(file, at + 3, entry.start) & rest)
 }
 
 // Whether file holds the record count from `at` on and nothing after it.
@@ -38,5 +38,5 @@ pub fn end_same(file: &[u8], at: usize, count: u32) -> bool
     if file.len() != at + END {
         return false;
     }
-    tag_same(file, at, 4, 4) & u32_same(file, at + 3, count)
+    tag_same(file, at, 4, 4) & same_at(file, at + 3, count)
 }

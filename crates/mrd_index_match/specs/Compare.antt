@@ -1,21 +1,19 @@
 -- A given index, as a file or as columns, compared with the one that the stream yields; and what the comparison answers.
 -- Assumes nothing.
-use Rattle.std.specs.Prelude.{ℕ, suc, ◌+◌, ◌*◌, ◌≤◌, Bool, true, ◌&&◌, List, [], ◌∷◌, drop}
+use Rattle.std.specs.Prelude.{ℕ, suc, ◌+◌, ◌*◌, ◌≤◌, Bool, true, ◌&&◌, List, [], ◌∷◌, drop, Result}
 use Rattle.mrd_logic.specs.Choice.{pick}
 use Rattle.mrd_logic.specs.Lists.{begins, equal}
 use Rattle.mrd_logic.specs.Answer.{Verdict, accepted, refused, Answer, answered, stream, number, unless_refused}
 use Rattle.mrd_cursor.specs.Cursors.{max_messages}
+use Rattle.mrd_stream.specs.declared.refused.Refused.{Refused}
+use Rattle.mrd_stream.specs.Refused.{told}
 use Rattle.mrd_stream.specs.Walk.{answer}
-use Rattle.mrd_stream.specs.Index.{Entry, entry_field, end_field, index, start_column, id_column, counter_column}
-use Rattle.mrd_index_match.specs.declared.compare.Form.{Form}
-use Rattle.mrd_index_match.specs.declared.compare.Matched.{Matched}
+use Rattle.mrd_stream.specs.Index.{Entry, front_field, entry_field, end_field, index, start_column, id_column, counter_column}
 use Rattle.mrd_format.specs.declared.rules.Rules.{Rules}
 
--- what each case of the enum says: the paper's number and values
-abbrev pub matched_meaning : Matched → Answer (Unit {0})
-matched_meaning Matched.Same = answered tt
-matched_meaning Matched.Differs = number 15
-matched_meaning (Matched.Stream r) = stream r.number r.record r.byte
+-- what is said of an index that is found to be the stream's own, and of a refusal
+abbrev pub matched_meaning : Result (Unit {0}) Refused → Answer (Unit {0})
+matched_meaning q = told (λ u. u) q
 
 -- 15 for an index that is found not to be the one that the stream yields
 abbrev pub believed : Bool → Answer (Unit {0})
@@ -30,37 +28,32 @@ unfoldable pub columns_match : Rules → List ℕ → List ℕ → List ℕ → 
 columns_match rules s starts ids counters =
     unless_refused (answer rules s) (believed (begins (start_column rules s) starts && (begins (id_column rules s) ids && begins (counter_column rules s) counters)))
 
--- what is given: one form, and the lists of both
-pub record Given : Type 0 where
-  pub form : Form
-  pub file : List ℕ
-  pub starts : List ℕ
-  pub ids : List ℕ
-  pub counters : List ℕ
+-- a file begins as the index of a stream of so many bytes
+abbrev pub front_in_file : List ℕ → ℕ → Bool
+front_in_file f total = begins (front_field total) f
 
-abbrev pub given : Form → List ℕ → List ℕ → List ℕ → List ℕ → Given
-given k f a b c = record { form = k; file = f; starts = a; ids = b; counters = c }
+-- it holds the entry e of record n, at byte 16 + 17 n
+abbrev pub entry_in_file : List ℕ → ℕ → Entry → Bool
+entry_in_file f n e = begins (entry_field e) (drop (16 + 17 * n) f)
 
--- the given index holds the entry e of record n: in a file at byte 16 + 17 n, in a column at place n
-abbrev pub entry_by : Form → Given → ℕ → Entry → Bool
-entry_by Form.File g n e = begins (entry_field e) (drop (16 + 17 * n) g.file)
-entry_by Form.Columns g n e =
-    begins (e.start ∷ []) (drop n g.starts) && (begins (e.id ∷ []) (drop n g.ids) && begins (e.counter ∷ []) (drop n g.counters))
+-- it ends as the index of a stream of so many records
+abbrev pub end_in_file : List ℕ → ℕ → Bool
+end_in_file f n = equal (drop (16 + 17 * n) f) (end_field n)
 
--- it holds the entries es, from record i on
-abbrev pub all_same : Given → ℕ → List Entry → Bool
-all_same g i [] = true
-all_same g i (e ∷ es) = entry_by g.form g i e && all_same g (suc i) es
+-- columns hold the entry e of record n, at place n
+abbrev pub entry_in_columns : List ℕ → List ℕ → List ℕ → ℕ → Entry → Bool
+entry_in_columns starts ids counters n e =
+    begins (e.start ∷ []) (drop n starts) && (begins (e.id ∷ []) (drop n ids) && begins (e.counter ∷ []) (drop n counters))
 
--- what stands after the entries, for so many records
-abbrev pub end_by : Form → List ℕ → ℕ → Bool
-end_by Form.File f n = equal (drop (16 + 17 * n) f) (end_field n)
-end_by Form.Columns f n = true
+-- what is given, of which `entry_by` tells, holds the entries es, from record i on
+abbrev pub all_same : (ℕ → Entry → Bool) → ℕ → List Entry → Bool
+all_same entry_by i [] = true
+all_same entry_by i (e ∷ es) = entry_by i e && all_same entry_by (suc i) es
 
--- the answer where the walk ends, and b says whether all was the same so far
-abbrev pub conclusion : Form → List ℕ → Bool → Verdict → Answer (Unit {0})
-conclusion k f b (accepted n) = believed (b && end_by k f n)
-conclusion k f b (refused n r a) = stream n r a
+-- the answer where the walk ends, b says whether all was the same so far, and `end_by` whether what is given ends so
+abbrev pub conclusion : (ℕ → Bool) → Bool → Verdict → Answer (Unit {0})
+conclusion end_by b (accepted n) = believed (b && end_by n)
+conclusion end_by b (refused n r a) = stream n r a
 
 -- so many records as an accepted stream can have
 abbrev pub Counts : Verdict → Type 0

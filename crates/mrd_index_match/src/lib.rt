@@ -5,5 +5,6 @@
 #![tactic(auto)]
 
 mod compare;
+mod given;
 
-pub use compare::{Matched, columns_match, index_matches};
+pub use compare::{columns_match, index_matches};

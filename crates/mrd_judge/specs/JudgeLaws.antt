@@ -1,6 +1,6 @@
 -- What judging a message finds, stage by stage: where the stages before it passed, a stage that refuses decides.
 -- Assumes nothing.
-use Rattle.std.specs.Prelude.{ℕ, zero, suc, ◌+◌, ◌≤◌, ◌<◌, ◌≡◌, true, false, List, [], ◌∷◌, ◌++◌, take, drop}
+use Rattle.std.specs.Prelude.{ℕ, zero, suc, ◌+◌, ◌≤◌, ◌<◌, ◌≡◌, true, false, List, [], ◌∷◌, ◌++◌, take, drop, Option, Some, None, Result, Ok, Err, IsErrAnd}
 use native.Mathlib.Omega.{arith}
 use Rattle.std.proofs.Math.Decide.{dec_le}
 use Rattle.std.proofs.Math.Path.{refl, sym, ap}
@@ -10,8 +10,6 @@ use Rattle.std.proofs.Math.ListN.{length}
 use Rattle.mrd_format.specs.declared.kind.Kind.{Kind}
 use Rattle.mrd_format.specs.declared.rules.Profile.{Profile}
 use Rattle.mrd_format.specs.declared.rules.Profile.TheVariants.{Plain, Strict}
-use Rattle.mrd_format.specs.declared.kind.Identified.{Identified}
-use Rattle.mrd_format.specs.declared.kind.Identified.TheVariants.{Known, Unknown}
 use Rattle.mrd_format.specs.Kinds.{fixed_size}
 use Rattle.mrd_format.specs.OwnCheckLaws.{own-numbered}
 use Rattle.mrd_format.specs.Message.{limit, fixed_part, size_of, message_at}
@@ -23,7 +21,11 @@ use Rattle.mrd_logic.specs.Checks.{Check, first, unless}
 use Rattle.mrd_logic.specs.CheckLaws.{first-passed, first_stops, first_next, first-same, numbered, unless-stops}
 use Rattle.mrd_cursor.specs.declared.cursor.Cursor.{Cursor}
 use Rattle.mrd_judge.specs.Stages.{front_checks, id_checks, fixed_checks, size_checks, text_checks, id, fixed, size, text, checks_of, checks_as}
-use Rattle.mrd_judge.specs.Judge.{Judged, faulty, whole, judge_as, judge_body}
+use Rattle.mrd_format.specs.declared.refusal.Refusal.{Refusal}
+use Rattle.mrd_format.specs.Refusals.{number_of}
+use Rattle.mrd_judge.specs.declared.stages.Whole.{Whole}
+use Rattle.mrd_judge.specs.declared.stages.Message.{Message}
+use Rattle.mrd_judge.specs.Judge.{Judged, faulty, whole, refused_by, judgement_meaning, message_meaning, judge_as, judge_body}
 
 -- a fixed part that fits is as long as its kind's
 pub fixed-long : (k : Kind) (t : List ℕ) → 2 + fixed_size k ≤ length t → length (fixed_part k t) ≡ fixed_size k
@@ -31,29 +33,29 @@ unfolding fixed_part
 fixed-long k t h = length-take-le (fixed_size k) (drop 2 t) (simp length-drop (omega arith))
 
 -- the judgement that the first of some checks leads to
-abbrev judged_by : Identified → ℕ → List ℕ → Judged
-judged_by Unknown f t = faulty f
-judged_by (Known k) f t = unless f faulty (whole k (size_of k (fixed_part k t)))
+abbrev judged_by : Option Kind → ℕ → List ℕ → Judged
+judged_by None f t = faulty f
+judged_by (Some k) f t = unless f faulty (whole k (size_of k (fixed_part k t)))
 
-judged-by : (p : Profile) (i : Identified) (c : Cursor) (t : List ℕ) → judge_as p i c t ≡ judged_by i (first (checks_as p i c t)) t
+judged-by : (p : Profile) (i : Option Kind) (c : Cursor) (t : List ℕ) → judge_as p i c t ≡ judged_by i (first (checks_as p i c t)) t
 unfolding judge_as
-judged-by p Unknown c t = refl
-judged-by p (Known k) c t = refl
+judged-by p None c t = refl
+judged-by p (Some k) c t = refl
 
 -- checks that refuse decide, with a kind or without
-stopped : (i : Identified) (t : List ℕ) (cs ds : List Check) {f : ℕ} → first cs ≡ f → (f ≡ 0 → ⊥) → judged_by i (first (cs ++ ds)) t ≡ faulty f
-stopped Unknown t cs ds {f = zero} e n = absurd (n refl)
-stopped Unknown t cs ds {f = suc f} e n = ap faulty (first_stops cs ds e)
-stopped (Known k) t cs ds e n = unless-stops cs ds faulty (whole k (size_of k (fixed_part k t))) e n
+stopped : (i : Option Kind) (t : List ℕ) (cs ds : List Check) {f : ℕ} → first cs ≡ f → (f ≡ 0 → ⊥) → judged_by i (first (cs ++ ds)) t ≡ faulty f
+stopped None t cs ds {f = zero} e n = absurd (n refl)
+stopped None t cs ds {f = suc f} e n = ap faulty (first_stops cs ds e)
+stopped (Some k) t cs ds e n = unless-stops cs ds faulty (whole k (size_of k (fixed_part k t))) e n
 
 front-numbered : (c : Cursor) (t : List ℕ) → numbered (front_checks c t) ≡ true
 unfolding front_checks
 front-numbered c t = refl
 
-id-numbered : (i : Identified) (c : Cursor) → numbered (id_checks i c) ≡ true
+id-numbered : (i : Option Kind) (c : Cursor) → numbered (id_checks i c) ≡ true
 unfolding id_checks
-id-numbered Unknown c = refl
-id-numbered (Known k) c = refl
+id-numbered None c = refl
+id-numbered (Some k) c = refl
 
 fixed-numbered : (k : Kind) (t : List ℕ) → numbered (fixed_checks k t) ≡ true
 unfolding fixed_checks
@@ -70,7 +72,7 @@ front-two c t h e =
     let other : length t ≡ 1 → ⊥ = eqb-false (length t) 1 (first-passed (front_checks c t) refl e).1.1.0 in
     omega (arith, other)
 
-module _ (p : Profile) (i : Identified) (c : Cursor) (t : List ℕ) where
+module _ (p : Profile) (i : Option Kind) (c : Cursor) (t : List ℕ) where
   pub front-stops : {f : ℕ} → first (front_checks c t) ≡ f → (f ≡ 0 → ⊥) → judge_as p i c t ≡ faulty f
   unfolding checks_as
   front-stops e n = judged-by p i c t ∙ stopped i t (front_checks c t) (checks_of p (id ∷ fixed ∷ size ∷ text ∷ []) i c t) e n
@@ -87,18 +89,18 @@ module _ (p : Profile) (i : Identified) (c : Cursor) (t : List ℕ) where
     id-stops e n = front-passed ∙ stopped i t (id_checks i c) (checks_of p (fixed ∷ size ∷ text ∷ []) i c t) e n
 
 -- an id that no kind has stops
-pub unknown_stops : (p : Profile) (c : Cursor) (t : List ℕ) {f : ℕ} → first (front_checks c t) ≡ 0 → first (id_checks Unknown c) ≡ f →
-    judge_as p Unknown c t ≡ faulty f
+pub unknown_stops : (p : Profile) (c : Cursor) (t : List ℕ) {f : ℕ} → first (front_checks c t) ≡ 0 → first (id_checks None c) ≡ f →
+    judge_as p None c t ≡ faulty f
 unfolding id_checks
-unknown_stops p c t front e = id-stops p Unknown c t front e (λ z. let never : ◌≡◌ {A = ℕ} 2 0 = e ∙ z in omega arith)
+unknown_stops p c t front e = id-stops p None c t front e (λ z. let never : ◌≡◌ {A = ℕ} 2 0 = e ∙ z in omega arith)
 
 -- where the front and the id passed, the last three stages
-pub id-passed : (p : Profile) (k : Kind) (c : Cursor) (t : List ℕ) → first (front_checks c t) ≡ 0 → first (id_checks (Known k) c) ≡ 0 →
-    judge_as p (Known k) c t ≡ judge_body p k t
+pub id-passed : (p : Profile) (k : Kind) (c : Cursor) (t : List ℕ) → first (front_checks c t) ≡ 0 → first (id_checks (Some k) c) ≡ 0 →
+    judge_as p (Some k) c t ≡ judge_body p k t
 unfolding judge_body size_checks text_checks
 id-passed p k c t front e =
-    front-passed p (Known k) c t front ∙
-    ap (λ (f : ℕ). judged_by (Known k) f t) (first_next (id_checks (Known k) c) (checks_of p (fixed ∷ size ∷ text ∷ []) (Known k) c t) (id-numbered (Known k) c) e)
+    front-passed p (Some k) c t front ∙
+    ap (λ (f : ℕ). judged_by (Some k) f t) (first_next (id_checks (Some k) c) (checks_of p (fixed ∷ size ∷ text ∷ []) (Some k) c t) (id-numbered (Some k) c) e)
 
 -- a size passes where it is within the limit and ends within t, and not otherwise
 module _ (z : ℕ) (t : List ℕ) where
@@ -109,6 +111,14 @@ module _ (z : ℕ) (t : List ℕ) where
   pub size-short : length t < z → first (size_checks z t) ≡ 0 → ⊥
   unfolding size_checks
   size-short cut e = let fits : z ≤ length t = ltb-false (length t) z (first-passed (size_checks z t) refl e).1.0 in omega arith
+
+  pub size-over : limit < z → first (size_checks z t) ≡ 10
+  unfolding size_checks
+  size-over over = rw (lt-ltb _ _ over)
+
+  pub size-cut : z ≤ limit → length t < z → first (size_checks z t) ≡ 11
+  unfolding size_checks
+  size-cut small cut = simp (le-ltb _ _ small, lt-ltb _ _ cut)
 
   pub size_fits : z ≤ limit → z ≤ length t → first (size_checks z t) ≡ 0
   unfolding size_checks
@@ -139,7 +149,7 @@ fixed-fits k t e = ltb-false (length t) (2 + fixed_size k) (first-passed (fixed_
 module _ (p : Profile) (k : Kind) (t : List ℕ) where
   pub fixed-stops : {f : ℕ} → first (fixed_checks k t) ≡ f → (f ≡ 0 → ⊥) → judge_body p k t ≡ faulty f
   unfolding judge_body
-  fixed-stops e n = stopped (Known k) t (fixed_checks k t) (size_checks (size_of k (fixed_part k t)) t ++ text_checks p k (message_at k t)) e n
+  fixed-stops e n = stopped (Some k) t (fixed_checks k t) (size_checks (size_of k (fixed_part k t)) t ++ text_checks p k (message_at k t)) e n
 
   -- where the fixed part passed, the size decides
   module _ (e : first (fixed_checks k t) ≡ 0) where
@@ -149,7 +159,7 @@ module _ (p : Profile) (k : Kind) (t : List ℕ) where
       by_size =
           let y = size_of k (fixed_part k t) in
           let same : first (size_checks z t) ≡ first (size_checks y t) = rw sized (capped-size y t) in
-          ap (λ (f : ℕ). judged_by (Known k) f t)
+          ap (λ (f : ℕ). judged_by (Some k) f t)
           (first_next (fixed_checks k t) (size_checks y t ++ text_checks p k (message_at k t)) (fixed-numbered k t) e ∙
           sym (first-same (size_checks z t) (size_checks y t) (text_checks p k (message_at k t)) (size-numbered z t) (size-numbered y t) same))
 
@@ -185,3 +195,12 @@ module _ (k : Kind) (m : List ℕ) where
 -- and a kind that has none passes
 pub textless-passes : (k : Kind) → textless k ≡ true → (m : List ℕ) → first (text_checks Strict k m) ≡ 0
 textless-passes k e m = texts-pass k m ((encoded-exactly Strict _).1 (textless-encoded Strict k e m))
+
+-- a refusal that is passed on is the message's
+pub refusal-passed_on : (j : Result Whole Refusal) (e : Refusal) → IsErrAnd j (λ x. x ≡ e) → judgement_meaning j ≡ refused_by (number_of e)
+refusal-passed_on (Ok m) e p = absurd p
+refusal-passed_on (Err x) e p = ap (λ (r : Refusal). refused_by (number_of r)) p
+
+pub message-refusal-passed_on : (j : Result Message Refusal) (e : Refusal) → IsErrAnd j (λ x. x ≡ e) → message_meaning j ≡ faulty (number_of e)
+message-refusal-passed_on (Ok m) e p = absurd p
+message-refusal-passed_on (Err x) e p = ap (λ (r : Refusal). faulty (number_of r)) p

@@ -1,10 +1,8 @@
 -- The 'order of checks at each message', in five stages: front, id, fixed part, size and end, texts. Each stage has its checks as a list, and the
 -- whole list is theirs, one after the other.
 -- Assumes nothing.
-use Rattle.std.specs.Prelude.{ℕ, ◌+◌, true, not, List, [], ◌∷◌, ◌++◌, leb, ltb, eqb, length}
+use Rattle.std.specs.Prelude.{ℕ, ◌+◌, true, not, List, [], ◌∷◌, ◌++◌, leb, ltb, eqb, length, Option, Some, None}
 use Rattle.mrd_format.specs.declared.kind.Kind.{Kind}
-use Rattle.mrd_format.specs.declared.kind.Identified.{Identified}
-use Rattle.mrd_format.specs.declared.kind.Identified.TheVariants.{Known, Unknown}
 use Rattle.mrd_format.specs.Kinds.{fixed_size}
 use Rattle.mrd_format.specs.declared.rules.Profile.{Profile}
 use Rattle.mrd_format.specs.Message.{limit, fixed_part, own_checks, size_of, message_at}
@@ -24,9 +22,9 @@ front_checks c t =
     []
 
 -- the id: 2 where it is not in the table, else 12 by the order of messages
-unfoldable pub id_checks : Identified → Cursor → List Check
-id_checks Unknown c = (2 when true) ∷ []
-id_checks (Known k) c = (12 when not (allowed k c.phase)) ∷ []
+unfoldable pub id_checks : Option Kind → Cursor → List Check
+id_checks None c = (2 when true) ∷ []
+id_checks (Some k) c = (12 when not (allowed k c.phase)) ∷ []
 
 -- the fixed part of a message of kind k: '3, 4 to 9 in number order where they apply'
 unfoldable pub fixed_checks : Kind → List ℕ → List Check
@@ -44,25 +42,25 @@ pub data Stage : Type 0 where
   front id fixed size text : Stage
 
 -- the checks of a stage, for the message at the front of t, which is not empty; without a kind, those of the id are the last
-abbrev pub stage_checks : Profile → Stage → Identified → Cursor → List ℕ → List Check
+abbrev pub stage_checks : Profile → Stage → Option Kind → Cursor → List ℕ → List Check
 stage_checks f front i c t = front_checks c t
 stage_checks f id i c t = id_checks i c
-stage_checks f fixed Unknown c t = []
-stage_checks f fixed (Known k) c t = fixed_checks k t
-stage_checks f size Unknown c t = []
-stage_checks f size (Known k) c t = size_checks (size_of k (fixed_part k t)) t
-stage_checks f text Unknown c t = []
-stage_checks f text (Known k) c t = text_checks f k (message_at k t)
+stage_checks f fixed None c t = []
+stage_checks f fixed (Some k) c t = fixed_checks k t
+stage_checks f size None c t = []
+stage_checks f size (Some k) c t = size_checks (size_of k (fixed_part k t)) t
+stage_checks f text None c t = []
+stage_checks f text (Some k) c t = text_checks f k (message_at k t)
 
 -- the stages in order
 abbrev pub stages : List Stage
 stages = front ∷ id ∷ fixed ∷ size ∷ text ∷ []
 
 -- the checks of stages, one stage after the other
-abbrev pub checks_of : Profile → List Stage → Identified → Cursor → List ℕ → List Check
+abbrev pub checks_of : Profile → List Stage → Option Kind → Cursor → List ℕ → List Check
 checks_of f [] i c t = []
 checks_of f (g ∷ gs) i c t = stage_checks f g i c t ++ checks_of f gs i c t
 
 -- all checks of the message at the front of t, in order
-unfoldable pub checks_as : Profile → Identified → Cursor → List ℕ → List Check
+unfoldable pub checks_as : Profile → Option Kind → Cursor → List ℕ → List Check
 checks_as f i c t = checks_of f stages i c t

@@ -1,13 +1,11 @@
 -- What judging by the rules finds, by what judging by the plain profile does: the same fault; or the message, of which its texts then decide.
 -- Assumes nothing.
-use Rattle.std.specs.Prelude.{ℕ, zero, suc, ◌≡◌, refl, true, List, ◌++◌, take}
+use Rattle.std.specs.Prelude.{ℕ, zero, suc, ◌≡◌, refl, true, List, ◌++◌, take, Option, Some, None}
 use Rattle.std.proofs.Common.{suc-ne-zero, sym, ◌∙◌, append_assoc}
 use Rattle.std.proofs.Math.Path.{ap}
 use Rattle.mrd_logic.specs.Checks.{Check, first, unless}
 use Rattle.mrd_logic.specs.CheckLaws.{numbered, numbered-append, first_next, first_pads, first_decides, unless-refused, unless-passed, unless-fault}
 use Rattle.mrd_format.specs.declared.kind.Kind.{Kind}
-use Rattle.mrd_format.specs.declared.kind.Identified.{Identified}
-use Rattle.mrd_format.specs.declared.kind.Identified.TheVariants.{Known, Unknown}
 use Rattle.mrd_format.specs.declared.rules.Profile.{Profile}
 use Rattle.mrd_format.specs.declared.rules.Profile.TheVariants.{Plain}
 use Rattle.mrd_format.specs.declared.rules.Rules.{Rules}
@@ -47,48 +45,48 @@ judged-plain rules c t e = rw e
 
 -- the checks but the last, which are numbered, and the last
 abbrev sized_as : Kind → Cursor → List ℕ → List Check
-sized_as k c t = front_checks c t ++ (id_checks (Known k) c ++ (fixed_checks k t ++ size_checks (size_of k (fixed_part k t)) t))
+sized_as k c t = front_checks c t ++ (id_checks (Some k) c ++ (fixed_checks k t ++ size_checks (size_of k (fixed_part k t)) t))
 
 sized-numbered : (k : Kind) (c : Cursor) (t : List ℕ) → numbered (sized_as k c t) ≡ true
 unfolding front_checks id_checks fixed_checks size_checks
 sized-numbered k c t =
     numbered-append (own_checks k (fixed_part k t)) (size_checks (size_of k (fixed_part k t)) t) (own-numbered k (fixed_part k t)) refl
 
-checks-split : (p : Profile) (k : Kind) (c : Cursor) (t : List ℕ) → checks_as p (Known k) c t ≡ sized_as k c t ++ text_checks p k (message_at k t)
+checks-split : (p : Profile) (k : Kind) (c : Cursor) (t : List ℕ) → checks_as p (Some k) c t ≡ sized_as k c t ++ text_checks p k (message_at k t)
 unfolding checks_as text_checks
 checks-split p k c t =
     sym (append_assoc (front_checks c t) _ _ ∙ ap (λ (l : List Check). front_checks c t ++ l)
-    (append_assoc (id_checks (Known k) c) _ _ ∙ ap (λ (l : List Check). id_checks (Known k) c ++ l) (append_assoc (fixed_checks k t) _ _)))
+    (append_assoc (id_checks (Some k) c) _ _ ∙ ap (λ (l : List Check). id_checks (Some k) c ++ l) (append_assoc (fixed_checks k t) _ _)))
 
 -- which in the plain profile says nothing
-plain-first : (k : Kind) (c : Cursor) (t : List ℕ) → first (checks_as Plain (Known k) c t) ≡ first (sized_as k c t)
+plain-first : (k : Kind) (c : Cursor) (t : List ℕ) → first (checks_as Plain (Some k) c t) ≡ first (sized_as k c t)
 unfolding text_checks encoded
 plain-first k c t = ap first (checks-split Plain k c t) ∙ first_pads (sized_as k c t) (text_checks Plain k (message_at k t)) refl
 
 -- a fault stays
-stays : (p : Profile) (i : Identified) (c : Cursor) (t : List ℕ) {x : ℕ} → judge_as Plain i c t ≡ faulty x → judge_as p i c t ≡ faulty x
+stays : (p : Profile) (i : Option Kind) (c : Cursor) (t : List ℕ) {x : ℕ} → judge_as Plain i c t ≡ faulty x → judge_as p i c t ≡ faulty x
 unfolding judge_as checks_as
-stays p Unknown c t e = e
-stays p (Known k) c t e =
+stays p None c t e = e
+stays p (Some k) c t e =
     let cs = sized_as k c t in
     let it = whole k (size_of k (fixed_part k t)) in
     let u = unless-fault (first cs) faulty it (λ w. not-both (sym w)) (ap (λ (n : ℕ). unless n faulty it) (sym (plain-first k c t)) ∙ e) in
-    let decides : first (checks_as p (Known k) c t) ≡ first cs =
+    let decides : first (checks_as p (Some k) c t) ≡ first cs =
     ap first (checks-split p k c t) ∙ first_decides cs (text_checks p k (message_at k t)) refl u.1 in
     ap (λ (n : ℕ). unless n faulty it) decides ∙ unless-refused (first cs) faulty it u.1 ∙ u.0
 
 -- of a whole message the texts decide
-text_decides : (p : Profile) (i : Identified) (c : Cursor) (t : List ℕ) {k : Kind} {z : ℕ} → judge_as Plain i c t ≡ whole k z →
+text_decides : (p : Profile) (i : Option Kind) (c : Cursor) (t : List ℕ) {k : Kind} {z : ℕ} → judge_as Plain i c t ≡ whole k z →
     judge_as p i c t ≡ unless (first (text_checks p k (take z t))) faulty (whole k z)
 unfolding judge_as checks_as
-text_decides p Unknown c t e = absurd (not-both e)
-text_decides p (Known j) c t {k} {z} e =
+text_decides p None c t e = absurd (not-both e)
+text_decides p (Some j) c t {k} {z} e =
     let cs = sized_as j c t in
     let it = whole j (size_of j (fixed_part j t)) in
     let u = unless-passed (first cs) faulty it (λ f. not-both) (ap (λ (n : ℕ). unless n faulty it) (sym (plain-first j c t)) ∙ e) in
     let kind : j ≡ k = cc u.1 in
     let size : size_of j (fixed_part j t) ≡ z = cc u.1 in
-    let last : first (checks_as p (Known j) c t) ≡ first (text_checks p j (message_at j t)) =
+    let last : first (checks_as p (Some j) c t) ≡ first (text_checks p j (message_at j t)) =
     ap first (checks-split p j c t) ∙ first_next cs (text_checks p j (message_at j t)) (sized-numbered j c t) u.0 in
     rw (← kind, ← size) (ap (λ (n : ℕ). unless n faulty it) last)
 

@@ -1,7 +1,7 @@
 -- What judging finds, said of the bytes: a whole message passes every check, which is to be well formed, in order and
 -- within the count; a refusal's number is that of the first check that refuses.
 -- Assumes nothing.
-use Rattle.std.specs.Prelude.{ℕ, ◌+◌, ◌≤◌, ◌<◌, ◌≡◌, refl, true, List, ◌++◌, take}
+use Rattle.std.specs.Prelude.{ℕ, ◌+◌, ◌≤◌, ◌<◌, ◌≡◌, refl, true, List, ◌++◌, take, Option, Some, None}
 use Rattle.std.proofs.Common.{arith, sym, ap, ◌∙◌, true≢false, length-append, length-take-le}
 use Rattle.std.proofs.Math.Bool.{false, not}
 use Rattle.std.proofs.Math.ListN.{length}
@@ -11,8 +11,6 @@ use borrow.Author.Tests.{leb-false, ltb-false, not-false, lt-leb, le-ltb, ne_eqb
 use Rattle.mrd_format.specs.declared.kind.Kind.{Kind}
 use Rattle.mrd_format.specs.declared.rules.Rules.{Rules}
 use Rattle.mrd_format.specs.declared.rules.Profile.{Profile}
-use Rattle.mrd_format.specs.declared.kind.Identified.{Identified}
-use Rattle.mrd_format.specs.declared.kind.Identified.TheVariants.{Known, Unknown}
 use Rattle.mrd_format.specs.Kinds.{fixed_size, identified}
 use Rattle.mrd_logic.specs.Checks.{first, Passed, FirstFault}
 use Rattle.mrd_format.specs.Message.{limit, id_at, fixed_part, own_checks, size_of, message_at}
@@ -37,7 +35,7 @@ use Rattle.mrd_judge.specs.Sorts.{sort_of, kind_in, kind_of_sort}
 -- the message at the front of t, of kind k and size z, passes every check where the walk is at c
 pub record WholeAt (rules : Rules) (c : Cursor) (t : List ℕ) (k : Kind) (z : ℕ) : Type 0 where
   pub counted : c.number < max_messages
-  pub known : identified rules (id_at t) ≡ Known k
+  pub known : identified rules (id_at t) ≡ Some k
   pub ordered : allowed k c.phase ≡ true
   pub sound : first (own_checks k (fixed_part k t)) ≡ 0
   pub size : size_of k (fixed_part k t) ≡ z
@@ -46,16 +44,16 @@ pub record WholeAt (rules : Rules) (c : Cursor) (t : List ℕ) (k : Kind) (z : �
   pub encoded : Encoded rules.profile (texts_in (record_of k (take z t)).parts)
 
 -- no check has the number 0
-pub all-numbered : (p : Profile) (i : Identified) (c : Cursor) (t : List ℕ) → numbered (checks_as p i c t) ≡ true
+pub all-numbered : (p : Profile) (i : Option Kind) (c : Cursor) (t : List ℕ) → numbered (checks_as p i c t) ≡ true
 unfolding checks_as front_checks id_checks fixed_checks size_checks text_checks
-all-numbered p Unknown c t = refl
-all-numbered p (Known k) c t =
+all-numbered p None c t = refl
+all-numbered p (Some k) c t =
     numbered-append (own_checks k (fixed_part k t)) (size_checks (size_of k (fixed_part k t)) t ++ text_checks p k (message_at k t))
     (own-numbered k (fixed_part k t)) refl
 
 -- every check of a message of kind k passed exactly when the facts of WholeAt hold
 module _ (rules : Rules) (c : Cursor) (t : List ℕ) (k : Kind) where
-  passed-facts : identified rules (id_at t) ≡ Known k → Every Passed (checks_as rules.profile (Known k) c t) → WholeAt rules c t k (size_of k (fixed_part k t))
+  passed-facts : identified rules (id_at t) ≡ Some k → Every Passed (checks_as rules.profile (Some k) c t) → WholeAt rules c t k (size_of k (fixed_part k t))
   unfolding checks_as front_checks id_checks fixed_checks size_checks text_checks
   passed-facts e p =
       let own = own_checks k (fixed_part k t) in
@@ -72,7 +70,7 @@ module _ (rules : Rules) (c : Cursor) (t : List ℕ) (k : Kind) where
         encoded = (encoded-exactly rules.profile _).0 (not-false _ late.1.1.1.0);
       }
 
-  facts-passed : {z : ℕ} → WholeAt rules c t k z → Every Passed (checks_as rules.profile (Known k) c t)
+  facts-passed : {z : ℕ} → WholeAt rules c t k z → Every Passed (checks_as rules.profile (Some k) c t)
   unfolding checks_as front_checks id_checks fixed_checks size_checks text_checks
   facts-passed {z} w =
       let own = own_checks k (fixed_part k t) in
@@ -88,9 +86,9 @@ module _ (rules : Rules) (c : Cursor) (t : List ℕ) (k : Kind) where
       (allowed_open k c.phase w.ordered, (lt-leb _ _ w.counted, (two, (ap not w.ordered, (le-ltb _ _ least, late)))))
 
 -- an id that no kind has is always refused
-unknown_refused : (p : Profile) (c : Cursor) (t : List ℕ) → first (checks_as p Unknown c t) ≡ 0 → ⊥
+unknown_refused : (p : Profile) (c : Cursor) (t : List ℕ) → first (checks_as p None c t) ≡ 0 → ⊥
 unfolding checks_as front_checks id_checks
-unknown_refused p c t e = true≢false (first-passed (checks_as p Unknown c t) refl e).1.1.1.0
+unknown_refused p c t e = true≢false (first-passed (checks_as p None c t) refl e).1.1.1.0
 
 -- a judgement is one or the other
 pub not-both : {f : ℕ} {k : Kind} {z : ℕ} → faulty f ≡ whole k z → ⊥
@@ -101,13 +99,13 @@ pub judge-whole : (rules : Rules) (c : Cursor) (t : List ℕ) {k : Kind} {z : �
 unfolding judge judge_as
 judge-whole rules c t {k} {z} e = by-id (identified rules (id_at t)) refl e
   where
-    by-id : (i : Identified) → identified rules (id_at t) ≡ i → judge_as rules.profile i c t ≡ whole k z → WholeAt rules c t k z
-    by-id Unknown n e = absurd (not-both e)
-    by-id (Known j) n e =
-        let u = unless-passed (first (checks_as rules.profile (Known j) c t)) faulty (whole j (size_of j (fixed_part j t))) (λ f. not-both) e in
+    by-id : (i : Option Kind) → identified rules (id_at t) ≡ i → judge_as rules.profile i c t ≡ whole k z → WholeAt rules c t k z
+    by-id None n e = absurd (not-both e)
+    by-id (Some j) n e =
+        let u = unless-passed (first (checks_as rules.profile (Some j) c t)) faulty (whole j (size_of j (fixed_part j t))) (λ f. not-both) e in
         let kind : j ≡ k = cc u.1 in
         let size : size_of j (fixed_part j t) ≡ z = cc u.1 in
-        rw (← kind, ← size) (passed-facts rules c t j n (first-passed (checks_as rules.profile (Known j) c t) (all-numbered rules.profile (Known j) c t) u.0))
+        rw (← kind, ← size) (passed-facts rules c t j n (first-passed (checks_as rules.profile (Some j) c t) (all-numbered rules.profile (Some j) c t) u.0))
 
 -- what is found whole is of the kind that the rules make of its sort
 pub found-whole : (rules : Rules) (c : Cursor) (t : List ℕ) {o : Sort} {z : ℕ} → passes o z ≡ sorted (judge rules c t) → judge rules c t ≡ whole (kind_in rules o) z
@@ -138,25 +136,25 @@ pub judge-faulty : (rules : Rules) (c : Cursor) (t : List ℕ) {f : ℕ} → jud
 unfolding judge judge_as
 judge-faulty rules c t {f} e = by-id (identified rules (id_at t)) e
   where
-    by-id : (i : Identified) → judge_as rules.profile i c t ≡ faulty f → FirstFault f (checks_as rules.profile i c t)
-    by-id Unknown e =
-        let n : first (checks_as rules.profile Unknown c t) ≡ f = cc in
-        first-fault (checks_as rules.profile Unknown c t) f n (λ z. unknown_refused rules.profile c t (n ∙ z))
-    by-id (Known k) e =
-        let u = unless-fault (first (checks_as rules.profile (Known k) c t)) faulty (whole k (size_of k (fixed_part k t))) (λ w. not-both (sym w)) e in
-        let n : first (checks_as rules.profile (Known k) c t) ≡ f = cc u.0 in
-        first-fault (checks_as rules.profile (Known k) c t) f n (λ z. u.1 (n ∙ z))
+    by-id : (i : Option Kind) → judge_as rules.profile i c t ≡ faulty f → FirstFault f (checks_as rules.profile i c t)
+    by-id None e =
+        let n : first (checks_as rules.profile None c t) ≡ f = cc in
+        first-fault (checks_as rules.profile None c t) f n (λ z. unknown_refused rules.profile c t (n ∙ z))
+    by-id (Some k) e =
+        let u = unless-fault (first (checks_as rules.profile (Some k) c t)) faulty (whole k (size_of k (fixed_part k t))) (λ w. not-both (sym w)) e in
+        let n : first (checks_as rules.profile (Some k) c t) ≡ f = cc u.0 in
+        first-fault (checks_as rules.profile (Some k) c t) f n (λ z. u.1 (n ∙ z))
 
 -- where a check refuses, the message is judged faulty by the first that does
 pub faulty-judge : (rules : Rules) (c : Cursor) (t : List ℕ) {f : ℕ} → FirstFault f (checks_as rules.profile (identified rules (id_at t)) c t) → judge rules c t ≡ faulty f
 unfolding judge judge_as
 faulty-judge rules c t {f} r = by-id (identified rules (id_at t)) r
   where
-    by-id : (i : Identified) → FirstFault f (checks_as rules.profile i c t) → judge_as rules.profile i c t ≡ faulty f
-    by-id Unknown r = ap faulty (fault-first (checks_as rules.profile Unknown c t) r)
-    by-id (Known k) r =
-        let n = fault-not-zero (checks_as rules.profile (Known k) c t) (all-numbered rules.profile (Known k) c t) r in
-        rw (fault-first (checks_as rules.profile (Known k) c t) r) (unless-refused f faulty (whole k (size_of k (fixed_part k t))) n)
+    by-id : (i : Option Kind) → FirstFault f (checks_as rules.profile i c t) → judge_as rules.profile i c t ≡ faulty f
+    by-id None r = ap faulty (fault-first (checks_as rules.profile None c t) r)
+    by-id (Some k) r =
+        let n = fault-not-zero (checks_as rules.profile (Some k) c t) (all-numbered rules.profile (Some k) c t) r in
+        rw (fault-first (checks_as rules.profile (Some k) c t) r) (unless-refused f faulty (whole k (size_of k (fixed_part k t))) n)
 
 -- the bytes of a whole message are a well-formed message
 abbrev pub well_formed : {rules : Rules} (c : Cursor) (t : List ℕ) {k : Kind} {z : ℕ} → WholeAt rules c t k z → WellFormed rules (take z t)

@@ -9,5 +9,6 @@ mod stages;
 
 pub use sort::Sort;
 pub use stages::{
-    Judgement, MAX_MESSAGES, judge, judge_fixed, judge_front, judge_id, judge_size, judge_text,
+    MAX_MESSAGES, Message, Whole, judge, judge_fixed, judge_front, judge_id, judge_message,
+    judge_size, judge_text,
 };

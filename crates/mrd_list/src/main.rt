@@ -1,45 +1,25 @@
 // Lists the records of the stream on standard input: a line for each with its number, id, start and
 // size, and ` mask` with the count of ones where a channel mask differs from the active channels; or one
-// line with the refusal. Waveform headers are packed, and texts may be any bytes. At most 65,536 bytes are listed; of more, nothing is,
-// and what comes after the first byte too many is not read.
+// line with the refusal. Waveform headers are packed, and texts may be any bytes. At most 65,536 bytes are listed; of
+// more, nothing is, and what comes after the first byte too many is not read.
 #![tactic(auto)]
-
-ghost use Rattle.std.specs.Prelude.{◌≤◌, length, IfOk};
 
 use mrd_cursor::Cursor;
 use mrd_format::{Layout, Mask, Profile, Rules, Shape};
-use mrd_stream::{Checked, PlacedRecord, Refusal, Step};
+use mrd_stream::{PlacedRecord, Step};
 use std::io::{self, Read};
 
 const LIMIT: usize = 65536;
 
 fn main(rt: HostRuntime) -> io::Result<()> {
+    let mut input = Vec::new(rt.alloc());
     // One byte more than the limit tells whether there is more.
-    let mut input = [0u8; 65537];
-    let got = read_full(&mut rt.reader(), &mut input)?;
-    if LIMIT < got {
+    rt.reader().take(LIMIT as u64 + 1).read_to_end(&mut input)?;
+    if LIMIT < input.len() {
         println!(rt; "input over 65536 bytes")?;
         return Ok(());
     }
-    list(&rt, &input[..got])
-}
-
-// How many bytes were read to the front of out: as many as there are, or as it holds.
-fn read_full<R: Read>(input: &mut R, out: &mut [u8]) -> io::Result<usize>
-    ensures { IfOk result (λ n. n ≤ length out.old) }
-{
-    let mut got: usize = 0;
-    for _ in 0..u64::MAX {
-        if out.len() <= got {
-            break;
-        }
-        let n = input.read(&mut out[got..])?;
-        if n == 0 {
-            break;
-        }
-        got += n;
-    }
-    Ok(got)
+    list(&rt, &input)
 }
 
 // The whole listing of s: nothing of a refused stream but its refusal.
@@ -49,13 +29,13 @@ fn list(rt: &impl Print, s: &[u8]) -> io::Result<()> {
         profile: Profile::Plain,
     };
     match mrd_stream::check(rules, s) {
-        Checked::Accepted(count) => {
+        Ok(count) => {
             println!(rt; "record id start bytes")?;
             list_records(rt, rules, s)?;
             let bytes = s.len();
             println!(rt; "ok {count} records {bytes} bytes")?;
         }
-        Checked::Refused(refusal) => list_refusal(rt, refusal)?,
+        Err(refusal) => println!(rt; "{refusal}")?,
     }
     Ok(())
 }
@@ -63,18 +43,11 @@ fn list(rt: &impl Print, s: &[u8]) -> io::Result<()> {
 // A line for each record.
 fn list_records(rt: &impl Print, rules: Rules, s: &[u8]) -> io::Result<()> {
     let mut c = Cursor::beginning();
-    loop {
-        let step = mrd_stream::next(rules, c, s);
-        match step {
-            Step::Message(record, next) => {
-                list_record(rt, record)?;
-                c = next;
-            }
-            Step::End(_) => {
-                return Ok(());
-            }
-        }
+    while let Step::Message(record, next) = mrd_stream::next(rules, c, s) {
+        list_record(rt, record)?;
+        c = next;
     }
+    Ok(())
 }
 
 fn list_record(rt: &impl Print, record: PlacedRecord) -> io::Result<()> {
@@ -89,16 +62,10 @@ fn list_record(rt: &impl Print, record: PlacedRecord) -> io::Result<()> {
 
 // Of an acquisition whose mask differs from its active channels: the ones that the mask has.
 fn list_mask(rt: &impl Print, shape: Shape) -> io::Result<()> {
-    if let Shape::Acquisition(acquisition) = shape {
-        if let Mask::Differs(ones) = acquisition.mask {
-            print!(rt; " mask {ones}")?;
-        }
+    if let Shape::Acquisition(acquisition) = shape
+        && let Mask::Differs(ones) = acquisition.mask
+    {
+        print!(rt; " mask {ones}")?;
     }
-    Ok(())
-}
-
-fn list_refusal(rt: &impl Print, refusal: Refusal) -> io::Result<()> {
-    let (number, record, byte) = (refusal.number, refusal.record, refusal.byte);
-    println!(rt; "refused {number} at record {record} byte {byte}")?;
     Ok(())
 }

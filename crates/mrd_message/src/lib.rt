@@ -1,12 +1,11 @@
-// One message, by its kind and the bytes of its fixed part: the checks of its own bytes, its size, its
-// kind with that kind's own numbers, and what tells it from others of its kind.
+// The fixed part of one message, of any kind: the checks of its own bytes, its message's size, its kind with that kind's
+// own numbers, and what tells it from others of its kind.
 //
-// Each function asks for a fixed part of its kind's length, which the callers, all proved, have.
-// Assumes nothing.
+// A fixed part is as long as its kind says, by an invariant. Assumes nothing.
 #![tactic(auto)]
 
-mod identity;
 mod message;
+mod text;
 
-pub use identity::{COUNTER_COUNT, encoding_counter, measurement_uid, scan_counter};
-pub use message::{fault, fixed_part, name_length, shape, size, text_length};
+pub use message::FixedPart;
+pub use text::{NameBytes, TextCount};

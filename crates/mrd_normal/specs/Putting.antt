@@ -1,16 +1,24 @@
 -- The messages of an accepted stream put in normal form, one after the other: what the walk has put, and what is still to do.
 -- Assumes nothing.
-use Rattle.std.specs.Prelude.{ℕ, ◌+◌, ◌-◌, ◌≤◌, ◌≡◌, refl, List, [], ◌++◌, length, take, drop}
+use Rattle.std.specs.Prelude.{ℕ, ◌+◌, ◌-◌, ◌≤◌, ◌<◌, ◌≡◌, refl, List, [], ◌++◌, length, take, drop}
 use Rattle.std.proofs.Common.{arith, sym, ap, ◌∙◌, append-nil, append_assoc, length-append, length-drop, length-take-le, take_at, drop_at, drop-drop}
+use Rattle.mrd_numbers.specs.Stored.{part_from, part-from}
+use Rattle.mrd_format.specs.declared.kind.Kind.{Kind}
 use Rattle.mrd_format.specs.declared.rules.Rules.{Rules}
+use Rattle.mrd_format.specs.declared.rules.Profile.TheVariants.{Plain}
 use Rattle.mrd_cursor.specs.declared.cursor.Cursor.{Cursor}
-use Rattle.mrd_cursor.specs.Cursors.{beginning}
+use Rattle.mrd_cursor.specs.Cursors.{beginning, after}
+use Rattle.mrd_judge.specs.declared.sort.Sort.{Sort}
+use Rattle.mrd_judge.specs.Sorts.{kind_in}
+use Rattle.mrd_judge.specs.Judge.{judge, faulty, passes, refused_by, sorted, judge_by}
+use Rattle.mrd_judge.specs.TextLaws.{faulty-too, never-faulty}
 use Rattle.mrd_logic.specs.Answer.{Verdict, accepted, refused}
 use Rattle.mrd_format.specs.Content.{normal_of}
 use Rattle.mrd_stream.specs.Walk.{verdict, answer}
 use Rattle.mrd_stream.specs.Normal.{normal_from, normal}
-use Rattle.mrd_stream.specs.Places.{Located, over, step}
-use Rattle.mrd_stream.specs.StepLaws.{Passes, On, on-start, on-next, on-end}
+use Rattle.mrd_stream.specs.NextLaws as laws
+use Rattle.mrd_stream.specs.Places.{Located, located, over, step}
+use Rattle.mrd_stream.specs.StepLaws.{Passes, On, on-start, on-next, on-end, step-yields}
 use Rattle.mrd_normal.specs.MessageOf.{MessageOf, normal-length}
 
 -- s is accepted, and o has room for it
@@ -94,3 +102,21 @@ pub never-refused : {rules : Rules} {s o out : List ℕ} {c : Cursor} {f r b : �
 never-refused {rules} {s} h e =
     let end : refused _ _ _ ≡ accepted h.room.count = on-end rules verdict s h.walk e ∙ h.room.passed in
     let z : ◌≡◌ {A = ℕ} 0 1 = cc in omega arith
+
+-- what judging the message that is due tells, where bytes are left
+module _ {rules : Rules} {s o out : List ℕ} {c : Cursor} (h : Putting rules s o c out) (more : c.start < length s) where
+  -- it is not faulty
+  pub judged-faulty : {x : ℕ} → refused_by x ≡ sorted (judge_by Plain rules c (part_from c.start s)) → ⊥
+  judged-faulty told =
+      never-refused h (laws.step-faulty rules c s more (faulty-too rules c (drop c.start s) (rw part-from at told)))
+
+  -- found whole, with so many bytes: a step passes it, and there is room for it
+  module _ {k : Kind} {w : Sort} {z : ℕ} (kind : k ≡ kind_in rules w) (told : passes w z ≡ sorted (judge_by Plain rules c (part_from c.start s))) where
+    pub judged-passes : Passes rules c s (located c k (take z (drop c.start s))) (after c k z)
+    judged-passes =
+        let accepted : (f : ℕ) → judge rules c (drop c.start s) ≡ faulty f → ⊥ = λ f e. never-refused h (laws.step-faulty rules c s more e) in
+        let due = never-faulty rules c (drop c.start s) (rw part-from at told) accepted in
+        step-yields rules c s (laws.step-whole rules c s more (rw kind due))
+
+    pub judged-ends : (c.start + z ≤ length s) × (length s ≤ length out)
+    judged-ends = (judged-passes.within, omega (arith, h.room.fits, same_size h))

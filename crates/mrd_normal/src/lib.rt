@@ -8,39 +8,25 @@
 
 mod messages;
 
-ghost use Rattle.std.specs.Prelude.{◌≡◌, ℕ, length};
-ghost use Rattle.mrd_logic.specs.Answer.{accepted};
-ghost use Rattle.mrd_stream.specs.Walk.{answer};
+ghost use Rattle.std.specs.Prelude.{◌≡◌, length};
 ghost use Rattle.mrd_stream.specs.Output.{written_meaning};
 ghost use Rattle.mrd_normal.specs.NormalOutput.{normal_answer, normal_output};
 
-use mrd_format::{Rules, refusal};
-use mrd_stream::{Checked, Written, check};
+use mrd_format::{Refusal, Rules};
+use mrd_stream::{Refused, check};
 
 // Writes the normal form of the stream s, read by these rules, to the front of out and answers its length,
 // which is that of s; else answers the stream's refusal, or 14 where out is shorter than s. The rest of out
 // keeps its content, and a refusal changes no byte.
-pub fn normal_form(rules: Rules, s: &[u8], out: &mut [u8]) -> Written
+pub fn normal_form(rules: Rules, s: &[u8], out: &mut [u8]) -> Result<usize, Refused>
     ensures result_value { written_meaning result ≡ normal_answer rules s.now (length out.old) }
     ensures out_after { out.new ≡ normal_output rules s.now out.old }
 {
-    let checked = check(rules, s);
-    match checked {
-        Checked::Accepted(_) => write(rules, s, out),
-        Checked::Refused(refusal) => Written::Stream(refusal),
-    }
-}
-
-// The same for an accepted stream.
-fn write(rules: Rules, s: &[u8], out: &mut [u8]) -> Written
-    requires { (n : ℕ) × (answer rules s.now ≡ accepted n) }
-    ensures result_value { written_meaning result ≡ normal_answer rules s.now (length out.old) }
-    ensures out_after { out.new ≡ normal_output rules s.now out.old }
-{
+    check(rules, s)?;
     let short = out.len() < s.len();
     if short {
-        return Written::Refused(refusal::OUTPUT_SHORT);
+        return Err(Refused::Alone(Refusal::OutputShort));
     }
     messages::put_messages(rules, s, out);
-    Written::Length(s.len())
+    Ok(s.len())
 }

@@ -13,9 +13,10 @@ ghost use Rattle.mrd_normal.specs.Putting.{Room};
 
 use mrd_cursor::Cursor;
 use mrd_format::{Kind, Layout, Rules};
-use mrd_judge::{Judgement, judge};
-use mrd_message::fixed_part;
-use mrd_numbers::{put_u32, put_zeros};
+use mrd_image::ImageFixedPart;
+use mrd_judge::judge;
+use mrd_message::{FixedPart, NameBytes};
+use mrd_numbers::{Little, put_zeros};
 use mrd_waveform::clear_filler;
 
 // Puts the messages of the accepted stream s to the front of out: one walk, each message copied and then
@@ -25,24 +26,15 @@ pub(crate) fn put_messages(rules: Rules, s: &[u8], out: &mut [u8])
     ensures { out.new ≡ normal rules s.now ++ drop (length s.now) out.old }
 {
     let mut c = Cursor::beginning();
-    loop {
+    while c.start < s.len() {
         let start = c.start;
-        let ended = s.len() <= start;
-        if ended {
+        let Ok(whole) = judge(rules, c, &s[start..]) else {
             return;
-        }
-        let judgement = judge(rules, c, &s[start..]);
-        match judgement {
-            Judgement::Whole(sort, size) => {
-                let kind = sort.kind(rules);
-                let end = start + size;
-                put_message(kind, &s[start..end], &mut out[start..end]);
-                c = c.after(kind, size);
-            }
-            Judgement::Faulty(_) => {
-                return;
-            }
-        }
+        };
+        let kind = whole.sort.kind(rules);
+        let end = start + whole.size;
+        put_message(kind, &s[start..end], &mut out[start..end]);
+        c = c.after(kind, whole.size);
     }
 }
 
@@ -52,34 +44,35 @@ fn put_message(kind: Kind, m: &[u8], out: &mut [u8])
     ensures { out.new ≡ normal_of kind m.now }
 {
     mrd_bytes::copy(m, out);
+    let bytes = FixedPart::of(kind, m).bytes;
     match kind {
-        Kind::ConfigurationName => fill_name(fixed_part(kind, m), out),
-        Kind::Image => put_length(fixed_part(kind, m), out),
+        Kind::ConfigurationName => fill_name(NameBytes { bytes }, out),
+        Kind::Image => put_length(ImageFixedPart { bytes }, out),
         Kind::Waveform(layout) => clear_waveform(layout, out),
         _ => {}
     }
 }
 
-// Makes the bytes after a name zero, in its message out with the fixed part h.
-fn fill_name(h: &[u8], out: &mut [u8])
-    requires { (length h.now ≡ fixed_size Kind.ConfigurationName) × (length out.old ≡ 2 + fixed_size Kind.ConfigurationName) }
-    ensures { out.new ≡ stored (2 + name_length h.now)
-        (replicate (fixed_size Kind.ConfigurationName - name_length h.now) 0) out.old }
+// Makes the bytes after a name zero, in its message out.
+fn fill_name(name: NameBytes<'_>, out: &mut [u8])
+    requires { length out.old ≡ 2 + fixed_size Kind.ConfigurationName }
+    ensures { out.new ≡ stored (2 + name_length name.entry.bytes.now)
+        (replicate (fixed_size Kind.ConfigurationName - name_length name.entry.bytes.now) 0) out.old }
 {
-    let length = mrd_message::name_length(h);
+    let length = name.length();
     let start = Kind::ID_SIZE + length;
     put_zeros(&mut out[start..], Kind::NAME_FIXED - length);
 }
 
-// Puts the attributes' length into the header of an image's message out with the fixed part h.
-fn put_length(h: &[u8], out: &mut [u8])
-    requires { (length h.now ≡ fixed_size Kind.Image) × (2 + fixed_size Kind.Image ≤ length out.old) × (attribute_length h.now < 2 ^ 32) }
+// Puts the attributes' length into the header of an image's message out with this fixed part.
+fn put_length(image: ImageFixedPart<'_>, out: &mut [u8])
+    requires { (2 + fixed_size Kind.Image ≤ length out.old) × (attribute_length image.bytes.now < 2 ^ 32) }
     ensures { out.new ≡ stored (2 + (layout «attribute-string-len»).offset)
-        (to_bytes 4 (attribute_length h.now)) out.old }
+        (to_bytes 4 (attribute_length image.entry.bytes.now)) out.old }
 {
-    let length = mrd_image::attribute_length(h);
+    let length = image.attribute_length();
     let start = Kind::ID_SIZE + Kind::ATTRIBUTE_STRING_LEN;
-    put_u32(&mut out[start..], length as u32);
+    (length as u32).put(&mut out[start..]);
 }
 
 // Makes the filler zero in the header of a waveform's message out.

@@ -61,6 +61,31 @@ num-one [] i = simp (drop-nil, take-nil)
 num-one (x ∷ s) zero = omega arith
 num-one (x ∷ s) (suc i) = num-one s i
 
+-- two bytes, and four
+two_at : (s : List ℕ) (i j : ℕ) → j ≡ i + 1 → num 2 s i ≡ get_or s i 0 + get_or s j 0 * 256
+two_at s i j e = rw e (simp (num-halves 1 1, num-one))
+
+four_at : (s : List ℕ) (i j k l : ℕ) → j ≡ i + 1 → k ≡ i + 2 → l ≡ i + 3 →
+    num 4 s i ≡ get_or s i 0 + get_or s j 0 * 256 + get_or s k 0 * 65536 + get_or s l 0 * 16777216
+four_at s i j k l e f g =
+    let high : num 2 s (i + 2) ≡ get_or s k 0 + get_or s l 0 * 256 = rw (← f) (two_at s k l (omega arith)) in
+    num-halves 2 2 s i ∙ omega (arith, two_at s i j e, high)
+
+-- the number of so many bytes, as std puts them together
+pub num_two : (s : List ℕ) (i : ℕ) → num 2 s i ≡ get_or s i 0 + get_or s (i + 1) 0 * 256
+num_two s i = two_at s i (i + 1) refl
+
+pub num_four : (s : List ℕ) (i : ℕ) → num 4 s i ≡
+    get_or s i 0 + get_or s (i + 1) 0 * 256 + get_or s (i + 2) 0 * 65536 + get_or s (i + 3) 0 * 16777216
+num_four s i = four_at s i (i + 1) (i + 2) (i + 3) refl refl refl
+
+pub num_eight : (s : List ℕ) (i : ℕ) → num 8 s i ≡
+    get_or s i 0 + get_or s (i + 1) 0 * 256 + get_or s (i + 2) 0 * 65536 + get_or s (i + 3) 0 * 16777216 +
+    get_or s (i + 4) 0 * 4294967296 + get_or s (i + 5) 0 * 1099511627776 + get_or s (i + 6) 0 * 281474976710656 + get_or s (i + 7) 0 * 72057594037927936
+num_eight s i =
+    num-halves 4 4 s i ∙
+    omega (arith, num_four s i, four_at s (i + 4) (i + 5) (i + 6) (i + 7) (omega arith) (omega arith) (omega arith))
+
 -- so many bytes have eight times so many bits
 byte_bits : (w : ℕ) → 2 ^ (8 * w) ≡ 256 ^ w
 byte_bits zero = refl

@@ -1,7 +1,7 @@
 -- Which record and which part of a stream a byte belongs to: 'each byte belongs to exactly one of these'.
 -- Assumes nothing.
-use Rattle.std.specs.Prelude.{ℕ, ◌+◌, ◌-◌, ◌≤◌, ◌<◌, List}
-use Rattle.mrd_logic.specs.Answer.{Answer, answered, stream, number, unless_refused, and_then}
+use Rattle.std.specs.Prelude.{ℕ, ◌+◌, ◌-◌, ◌≤◌, ◌<◌, List, Result}
+use Rattle.mrd_logic.specs.Answer.{Answer, answered, unless_refused, and_then}
 use Rattle.mrd_format.specs.declared.rules.Rules.{Rules}
 use Rattle.mrd_format.specs.Message.{fixed_part}
 use Rattle.mrd_format.specs.Parts.{Part, Extent, extent}
@@ -11,14 +11,14 @@ use Rattle.mrd_format.specs.Holding.{holding}
 use Rattle.mrd_stream.specs.Walk.{trace, answer}
 use Rattle.mrd_stream.specs.Places.{Located, places}
 use Rattle.mrd_stream.specs.ReaderMeaning.{record_meaning}
+use Rattle.mrd_stream.specs.Refused.{told}
+use Rattle.mrd_stream.specs.declared.refused.Refused.{Refused}
 use Rattle.mrd_cut.specs.CutPlaces.{part_at}
 use Rattle.mrd_record.specs.AtCursor.{Lies}
 use Rattle.mrd_views.specs.declared.views.Span.{Span}
 use Rattle.mrd_views.specs.Views.{span}
 use Rattle.mrd_holding.specs.Held.{Inner, part_holding, part_of, inner_of}
 use Rattle.mrd_part_at.specs.declared.parts.PartPlace.{PartPlace}
-use Rattle.mrd_part_at.specs.declared.parts.PartAnswer.{PartAnswer}
-use Rattle.mrd_part_at.specs.declared.parts.PartAnswer.TheVariants.{At, Stream, Refused}
 
 -- where a record lies
 abbrev pub extent_at : Located → Extent
@@ -49,14 +49,12 @@ part_in s i l =
 unfoldable pub part_of_byte : Rules → List ℕ → ℕ → Answer NamedByte
 part_of_byte rules s i = and_then (record_holding rules s i) (part_in s i)
 
--- what each case of the answer says
+-- what the answer says
 abbrev pub place_meaning : PartPlace → NamedByte
 place_meaning p = record { which = record_meaning p.record; part = part_of p.part; place = p.span; inner = inner_of p.part }
 
-abbrev pub answer_meaning : PartAnswer → Answer NamedByte
-answer_meaning (At p) = answered (place_meaning p)
-answer_meaning (Stream r) = stream r.number r.record r.byte
-answer_meaning (Refused n) = number n
+abbrev pub answer_meaning : Result PartPlace Refused → Answer NamedByte
+answer_meaning r = told place_meaning r
 
 -- a record that lies in s, by some rules, and holds byte i
 pub record HoldsByte (s : List ℕ) (i : ℕ) (l : Located) : Type 0 where

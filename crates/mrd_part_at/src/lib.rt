@@ -7,4 +7,4 @@
 mod holder;
 mod parts;
 
-pub use parts::{PartAnswer, PartPlace, part_at};
+pub use parts::{PartPlace, part_at};

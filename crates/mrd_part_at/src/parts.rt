@@ -8,7 +8,7 @@ use crate::holder::record_holding;
 use mrd_format::Rules;
 use mrd_holding::{MessagePart, part_holding};
 use mrd_record::fixed_part;
-use mrd_stream::{Placed, PlacedRecord, Refusal};
+use mrd_stream::{PlacedRecord, Refused};
 use mrd_views::Span;
 
 // A part of a record, and where it lies in the stream.
@@ -19,26 +19,14 @@ pub struct PartPlace {
     pub span: Span,
 }
 
-// The answer about a byte.
-#[derive(Clone, Copy)]
-pub enum PartAnswer {
-    At(PartPlace),
-    // The stream itself is refused.
-    Stream(Refusal),
-    // Refused with a number alone: 16 for a byte past the stream's end.
-    Refused(u8),
-}
-
-// The record and the part that this byte belongs to, and of a header's byte the element. One walk over the stream.
-pub fn part_at(rules: Rules, s: &[u8], byte: usize) -> PartAnswer
+// The record and the part that this byte belongs to, and of a header's byte the element; else the stream's refusal, or
+// 16 for a byte past the end. One walk over the stream.
+#[tactic(auto, unfolding(crate::specs::PartAt::part_of_byte))]
+pub fn part_at(rules: Rules, s: &[u8], byte: usize) -> Result<PartPlace, Refused>
     ensures { answer_meaning result ≡ part_of_byte rules s.now byte }
 {
-    let holder = record_holding(rules, s, byte);
-    match holder {
-        Placed::Found(here) => PartAnswer::At(part_in(s, here, byte)),
-        Placed::Stream(refusal) => PartAnswer::Stream(refusal),
-        Placed::Refused(number) => PartAnswer::Refused(number),
-    }
+    let here = record_holding(rules, s, byte)?;
+    Ok(part_in(s, here, byte))
 }
 
 // The part of a record that holds this byte of s.
@@ -47,17 +35,14 @@ fn part_in(s: &[u8], here: PlacedRecord, byte: usize) -> PartPlace
     ensures { answered (place_meaning result) ≡ part_in s.now byte (record_meaning here) }
 {
     let place = here.place;
-    let shape = here.shape;
     let at = byte - place.start;
-    let held = part_holding(shape.kind(), fixed_part(s, here), place.size, at);
-    let part = held.part;
-    let extent = held.extent;
+    let held = part_holding(fixed_part(s, here), place.size, at);
     PartPlace {
         record: here,
-        part: part,
+        part: held.part,
         span: Span {
-            start: place.start + extent.offset,
-            length: extent.size,
+            start: place.start + held.extent.offset,
+            length: held.extent.size,
         },
     }
 }

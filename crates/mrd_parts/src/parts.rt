@@ -1,11 +1,14 @@
 // The parts of a record that a view can show, and where each lies in its message.
 ghost use Rattle.std.specs.Prelude.{◌≡◌, ◌+◌, ◌≤◌, length, take, drop};
-ghost use Rattle.mrd_format.specs.Kinds.{fixed_size};
 ghost use Rattle.mrd_format.specs.Parts.{lies, extent};
 ghost use Rattle.mrd_format.specs.Content.{extent_of};
 ghost use Rattle.mrd_parts.specs.Sought.{part_meaning, sought_meaning, Sized};
 
-use mrd_format::{Kind, Layout};
+use mrd_acquisition::AcquisitionHeader;
+use mrd_format::Kind;
+use mrd_image::ImageFixedPart;
+use mrd_message::{FixedPart, NameBytes, TextCount};
+use mrd_waveform::WaveformHeader;
 
 #[derive(Clone, Copy)]
 pub enum Part {
@@ -26,113 +29,108 @@ pub struct Extent {
     pub size: usize,
 }
 
-#[derive(Clone, Copy)]
-pub enum Sought {
-    Lies(Extent),
-    // The record has no such part or channel.
-    Lacks,
-}
-
-fn lies(offset: usize, size: usize) -> Sought
+fn lies(offset: usize, size: usize) -> Option<Extent>
     ensures { sought_meaning result ≡ lies (extent offset size) }
 {
-    Sought::Lies(Extent {
-        offset: offset,
-        size: size,
-    })
+    Some(Extent { offset, size })
 }
 
-// Where a part lies in a message of this kind, with the fixed part h and the size in bytes.
-pub fn locate(kind: Kind, h: &[u8], size: usize, part: Part) -> Sought
-    requires { Sized kind h.now size }
-    ensures { sought_meaning result ≡ extent_of (part_meaning part) kind h.now }
+// Where a part lies in a message with this fixed part, of this size in bytes; `None` where the record has no such part
+// or channel.
+#[tactic(auto, unfolding(mrd_format::specs::Content::extent_of))]
+pub fn locate(fixed: FixedPart, size: usize, part: Part) -> Option<Extent>
+    requires { Sized fixed.kind fixed.bytes.now size }
+    ensures { sought_meaning result ≡ extent_of (part_meaning part) fixed.entry.kind fixed.entry.bytes.now }
 {
-    match kind {
-        Kind::ConfigurationName => in_name(h, part),
-        Kind::ConfigurationText | Kind::HeaderText | Kind::Text => in_text(h, part),
-        Kind::Close => Sought::Lacks,
-        Kind::Acquisition => in_acquisition(h, part),
-        Kind::Image => in_image(h, size, part),
-        Kind::Waveform(layout) => in_waveform(layout, h, size, part),
+    let bytes = fixed.bytes;
+    match fixed.kind {
+        Kind::ConfigurationName => in_name(NameBytes { bytes }, part),
+        Kind::ConfigurationText | Kind::HeaderText | Kind::Text => in_text(
+            TextCount { bytes },
+            part,
+        ),
+        Kind::Close => None,
+        Kind::Acquisition => in_acquisition(AcquisitionHeader { bytes }, part),
+        Kind::Image => in_image(ImageFixedPart { bytes }, size, part),
+        Kind::Waveform(layout) => in_waveform(WaveformHeader { layout, bytes }, size, part),
     }
 }
 
 // A name is what stands before the first zero of the fixed part.
-fn in_name(h: &[u8], part: Part) -> Sought
-    requires { length h.now ≡ fixed_size Kind.ConfigurationName }
-    ensures { sought_meaning result ≡ extent_of (part_meaning part) Kind.ConfigurationName h.now }
+#[tactic(auto, unfolding(mrd_format::specs::Content::extent_of))]
+fn in_name(name: NameBytes, part: Part) -> Option<Extent>
+    ensures { sought_meaning result ≡ extent_of (part_meaning part) Kind.ConfigurationName name.entry.bytes.now }
 {
     match part {
-        Part::Name => lies(Kind::ID_SIZE, mrd_message::name_length(h)),
-        _ => Sought::Lacks,
+        Part::Name => lies(Kind::ID_SIZE, name.length()),
+        _ => None,
     }
 }
 
 // A text, of any of its three kinds, is all that follows its length.
-fn in_text(h: &[u8], part: Part) -> Sought
-    requires { length h.now ≡ fixed_size Kind.Text }
-    ensures { sought_meaning result ≡ extent_of (part_meaning part) Kind.Text h.now }
+#[tactic(auto, unfolding(mrd_format::specs::Content::extent_of))]
+fn in_text(count: TextCount, part: Part) -> Option<Extent>
+    ensures { sought_meaning result ≡ extent_of (part_meaning part) Kind.Text count.entry.bytes.now }
 {
     match part {
-        Part::Text => lies(
-            Kind::ID_SIZE + Kind::TEXT_FIXED,
-            mrd_message::text_length(h),
-        ),
-        _ => Sought::Lacks,
+        Part::Text => lies(Kind::ID_SIZE + Kind::TEXT_FIXED, count.length()),
+        _ => None,
     }
 }
 
 // The trajectory follows the header; the channels follow the trajectory.
-fn in_acquisition(h: &[u8], part: Part) -> Sought
-    requires { length h.now ≡ fixed_size Kind.Acquisition }
-    ensures { sought_meaning result ≡ extent_of (part_meaning part) Kind.Acquisition h.now }
+#[tactic(auto, unfolding(mrd_format::specs::Content::extent_of))]
+fn in_acquisition(header: AcquisitionHeader, part: Part) -> Option<Extent>
+    ensures { sought_meaning result ≡ extent_of (part_meaning part) Kind.Acquisition header.entry.bytes.now }
 {
     match part {
         Part::Trajectory => lies(
             Kind::ID_SIZE + Kind::ACQUISITION_FIXED,
-            mrd_acquisition::trajectory_size(h),
+            header.trajectory_size(),
         ),
-        Part::Channel(c) => channel(h, c),
-        _ => Sought::Lacks,
+        Part::Channel(c) => channel(header, c),
+        _ => None,
     }
 }
 
 // The samples of channel c: the channels stand one after the other.
-fn channel(h: &[u8], c: usize) -> Sought
-    requires { length h.now ≡ fixed_size Kind.Acquisition }
-    ensures { sought_meaning result ≡ extent_of (part_meaning (Part.Channel c)) Kind.Acquisition h.now }
+#[tactic(auto, unfolding(mrd_format::specs::Content::extent_of))]
+fn channel(header: AcquisitionHeader, c: usize) -> Option<Extent>
+    ensures { sought_meaning result ≡ extent_of (part_meaning (Part.Channel c)) Kind.Acquisition header.entry.bytes.now }
 {
-    if mrd_acquisition::active_channels(h) <= c {
-        return Sought::Lacks;
+    if header.active_channels() <= c {
+        return None;
     }
-    let samples = mrd_acquisition::channel_size(h);
-    let first = Kind::ID_SIZE + Kind::ACQUISITION_FIXED + mrd_acquisition::trajectory_size(h);
+    let samples = header.channel_size();
+    let first = Kind::ID_SIZE + Kind::ACQUISITION_FIXED + header.trajectory_size();
     lies(first + c * samples, samples)
 }
 
 // The attributes follow the fixed part; the pixels are what is left after them.
-fn in_image(h: &[u8], size: usize, part: Part) -> Sought
-    requires { Sized Kind.Image h.now size }
-    ensures { sought_meaning result ≡ extent_of (part_meaning part) Kind.Image h.now }
+#[tactic(auto, using(crate::specs::PartLaws::image_rest, crate::specs::PartLaws::image_pixels), unfolding(mrd_format::specs::Content::extent_of))]
+fn in_image(fixed: ImageFixedPart, size: usize, part: Part) -> Option<Extent>
+    requires { Sized Kind.Image fixed.bytes.now size }
+    ensures { sought_meaning result ≡ extent_of (part_meaning part) Kind.Image fixed.entry.bytes.now }
 {
-    let attributes = mrd_image::attribute_length(h) as usize;
+    let attributes = fixed.attribute_length() as usize;
     let after = Kind::ID_SIZE + Kind::IMAGE_FIXED;
     match part {
         Part::Attributes => lies(after, attributes),
         Part::Pixels => lies(after + attributes, size - after - attributes),
-        _ => Sought::Lacks,
+        _ => None,
     }
 }
 
 // The waveform data are what is left after the header.
-fn in_waveform(layout: Layout, h: &[u8], size: usize, part: Part) -> Sought
-    requires { Sized (Kind.Waveform layout) h.now size }
-    ensures { sought_meaning result ≡ extent_of (part_meaning part) (Kind.Waveform layout) h.now }
+#[tactic(auto, using(crate::specs::PartLaws::waveform_data), unfolding(mrd_format::specs::Content::extent_of))]
+fn in_waveform(header: WaveformHeader, size: usize, part: Part) -> Option<Extent>
+    requires { Sized (Kind.Waveform header.layout) header.bytes.now size }
+    ensures { sought_meaning result ≡ extent_of (part_meaning part) (Kind.Waveform header.entry.layout) header.entry.bytes.now }
 {
-    let after = Kind::ID_SIZE + layout.header_size();
+    let after = Kind::ID_SIZE + header.layout.header_size();
     match part {
         Part::Waveform => lies(after, size - after),
-        _ => Sought::Lacks,
+        _ => None,
     }
 }
 

@@ -6,42 +6,29 @@ ghost use Rattle.mrd_numbers.specs.Stored.{front};
 ghost use Rattle.mrd_format.specs.Kinds.{fixed_size, header_size};
 ghost use Rattle.mrd_format.specs.Image as image;
 ghost use Rattle.mrd_format.specs.Waveform.{header_bytes, cleared};
-ghost use Rattle.mrd_format.specs.Parts.{contents};
 ghost use Rattle.mrd_format.specs.Content.{bytes_after_id};
+ghost use Rattle.mrd_write_checks.specs.Given.{given_contents};
 ghost use Rattle.mrd_put.specs.Room.{Roomy};
 
 use mrd_format::{Kind, Layout};
-use mrd_numbers::{put_u32, put_u64, put_zeros};
+use mrd_numbers::{Little, put_zeros};
 use mrd_waveform::clear_filler;
+use mrd_write_checks::Message;
 
 // The bytes after the id, by kind.
-pub fn put_content(
-    kind: Kind,
-    header: &[u8],
-    name: &[u8],
-    text: &[u8],
-    trajectory: &[u8],
-    samples: &[u8],
-    attributes: &[u8],
-    pixels: &[u8],
-    waveform: &[u8],
-    out: &mut [u8],
-)
-    requires { Roomy kind
-        (contents header.now name.now text.now trajectory.now samples.now attributes.now pixels.now waveform.now)
-        out.old }
-    ensures { out.new ≡ front (bytes_after_id kind
-        (contents header.now name.now text.now trajectory.now samples.now
-        attributes.now pixels.now waveform.now))
-        out.old }
+pub fn put_content(kind: Kind, message: &Message<'_>, out: &mut [u8])
+    requires { Roomy kind (given_contents message.now) out.old }
+    ensures { out.new ≡ front (bytes_after_id kind (given_contents message.now)) out.old }
 {
     match kind {
-        Kind::ConfigurationName => put_name(name, out),
-        Kind::ConfigurationText | Kind::HeaderText | Kind::Text => put_text(text, out),
+        Kind::ConfigurationName => put_name(message.name, out),
+        Kind::ConfigurationText | Kind::HeaderText | Kind::Text => put_text(message.text, out),
         Kind::Close => {}
-        Kind::Acquisition => put_acquisition(header, trajectory, samples, out),
-        Kind::Image => put_image(header, attributes, pixels, out),
-        Kind::Waveform(layout) => put_waveform(layout, header, waveform, out),
+        Kind::Acquisition => {
+            put_acquisition(message.header, message.trajectory, message.samples, out)
+        }
+        Kind::Image => put_image(message.header, message.attributes, message.pixels, out),
+        Kind::Waveform(layout) => put_waveform(layout, message.header, message.waveform, out),
     }
 }
 
@@ -60,7 +47,7 @@ fn put_text(text: &[u8], out: &mut [u8])
     requires { (length text.now < 2 ^ 32) × (fixed_size Kind.Text + length text.now ≤ length out.old) }
     ensures { out.new ≡ front (to_bytes 4 (length text.now) ++ text.now) out.old }
 {
-    put_u32(&mut out[0..], text.len() as u32);
+    (text.len() as u32).put(&mut out[0..]);
     mrd_bytes::copy(text, &mut out[Kind::TEXT_FIXED..]);
 }
 
@@ -97,8 +84,8 @@ fn put_image_header(header: &[u8], count: usize, out: &mut [u8])
 {
     let end = Kind::ATTRIBUTE_STRING_LEN;
     mrd_bytes::copy(&header[0..end], &mut out[0..]);
-    put_u32(&mut out[end..], count as u32);
-    put_u64(&mut out[Kind::IMAGE_HEADER..], count as u64);
+    (count as u32).put(&mut out[end..]);
+    (count as u64).put(&mut out[Kind::IMAGE_HEADER..]);
 }
 
 // A waveform's header, with its filler zero, and its data.

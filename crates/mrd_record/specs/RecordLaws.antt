@@ -19,7 +19,7 @@ use Rattle.mrd_cut.specs.Inside.{Inside}
 use Rattle.mrd_cut.proofs.InsideLaws.{place_inside}
 use Rattle.mrd_cut.specs.Steps.{Yields}
 use Rattle.mrd_cut.proofs.StepsLaws.{steps_follow}
-use Rattle.mrd_record.specs.AtCursor.{place_by, place_at, LiesIn, Reached}
+use Rattle.mrd_record.specs.AtCursor.{place_by, place_at, Lies, LiesIn, Reached}
 use Rattle.mrd_format.specs.declared.rules.Rules.{Rules}
 
 pub place-lies : (rules : Rules) (s : List ℕ) (n : ℕ) → LiesIn s (place rules s n)
@@ -52,6 +52,13 @@ at_lies rules c s = by (step rules c s) refl
     by (yields l d) e = (rules, passes-inside (step-yields rules c s e))
     by (over (accepted n)) e = tt
     by (over (refused f r b)) e = tt
+
+-- so a record whose place is answered lies in s
+pub placed_lies : (rules : Rules) (n : ℕ) {s : List ℕ} {l : Located} → answered l ≡ place rules s n → Lies s l
+placed_lies rules n {s} e = rw (← e) at (place-lies rules s n)
+
+pub due_lies : (rules : Rules) (c : Cursor) {s : List ℕ} {l : Located} → answered l ≡ place_at rules c s → Lies s l
+due_lies rules c {s} e = rw (← e) at (at_lies rules c s)
 
 reached-place : (rules : Rules) (s : List ℕ) (c d : Cursor) (n : ℕ) (r : Trace) {k : ℕ} → Yields rules s c r → Reached rules s c n d → verdict r ≡ accepted k →
     place_at rules d s ≡ nth (places r) n

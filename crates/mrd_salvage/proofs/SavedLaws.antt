@@ -1,6 +1,6 @@
 -- What is saved of a stream: it is accepted, an accepted stream is saved as it is, and no longer front could have been kept.
 -- Assumes nothing.
-use Rattle.std.specs.Prelude.{ℕ, zero, suc, ◌+◌, ◌≤◌, ◌≡◌, List, [], ◌∷◌, ◌++◌, length, take}
+use Rattle.std.specs.Prelude.{ℕ, zero, suc, ◌+◌, ◌≤◌, ◌≡◌, List, [], ◌∷◌, ◌++◌, length, take, Some}
 use Rattle.std.proofs.Common.{arith, ◌∙◌, subst, append-nil, append_assoc, length-append}
 use Rattle.std.proofs.Math.Path.{refl, sym, ap}
 use Rattle.std.proofs.Math.Bool.{Bool, true, false, not}
@@ -17,7 +17,6 @@ use Rattle.mrd_format.specs.declared.rules.Profile.{Profile}
 use Rattle.mrd_format.specs.declared.rules.Profile.TheVariants.{Plain, Strict}
 use Rattle.mrd_format.specs.declared.rules.Rules.{Rules}
 use Rattle.mrd_format.specs.Kinds.{identified}
-use Rattle.mrd_format.specs.declared.kind.Identified.TheVariants.{Known}
 use Rattle.mrd_format.specs.Message.{id_at, fixed_part, own_checks, size_of, body_size}
 use Rattle.mrd_logic.specs.Checks.{first}
 use Rattle.mrd_format.specs.Content.{record_of, contents_of, extent_of}
@@ -50,7 +49,7 @@ unfolding record_of contents_of extent_of
 close_encoded Plain = tt
 close_encoded Strict = (empty, (empty, (empty, tt)))
 
-pub close_known : (rules : Rules) → identified rules (id_at (closing true)) ≡ Known Close
+pub close_known : (rules : Rules) → identified rules (id_at (closing true)) ≡ Some Close
 unfolding identified num
 close_known rules = refl
 

@@ -1,10 +1,12 @@
 -- 'Save a torn recording': what is kept of a stream, what is written, and the report.
 -- Assumes nothing.
-use Rattle.std.specs.Prelude.{ℕ, ◌-◌, Bool, not, List, [], ◌∷◌, ◌++◌, ltb, length, take}
+use Rattle.std.specs.Prelude.{ℕ, ◌-◌, Bool, not, List, [], ◌∷◌, ◌++◌, ltb, length, take, Result}
 use Rattle.mrd_logic.specs.Answer.{Answer, answered, number, and_then}
 use Rattle.mrd_logic.specs.Choice.{pick}
 use Rattle.mrd_logic.specs.Joined.{joined}
 use Rattle.mrd_format.specs.declared.rules.Rules.{Rules}
+use Rattle.mrd_format.specs.declared.refusal.Refusal.{Refusal}
+use Rattle.mrd_format.specs.Refusals.{answer_in}
 use Rattle.mrd_cursor.specs.declared.cursor.Phase.{Phase}
 use Rattle.mrd_cursor.specs.declared.cursor.Phase.TheVariants.{Start}
 use Rattle.mrd_cursor.specs.Order.{is_closed, next_phase}
@@ -12,7 +14,6 @@ use Rattle.mrd_stream.specs.Walk.{Trace, message, done, trace}
 use Rattle.mrd_stream.specs.Output.{output_by}
 use Rattle.mrd_cut.specs.Walked.{pieces_of}
 use Rattle.mrd_salvage.specs.declared.report.Report.{Report}
-use Rattle.mrd_salvage.specs.declared.report.Salvaged.{Salvaged}
 
 -- 'every message before the faulty one', in order; of an accepted stream all
 abbrev pub before : Rules → List ℕ → List (List ℕ)
@@ -53,10 +54,9 @@ report rules s =
       length = length (salvaged rules s);
     }
 
--- what each case of the enum says
-abbrev pub salvaged_meaning : Salvaged → Answer Report
-salvaged_meaning (Salvaged.Written r) = answered r
-salvaged_meaning (Salvaged.Refused n) = number n
+-- what is said of the report on a stream that is saved, and of a refusal
+abbrev pub salvaged_meaning : Result Report Refusal → Answer Report
+salvaged_meaning q = answer_in (λ r. r) q
 
 -- the answer for the stream s and an output of so many bytes: 'refusals: 14 only'
 unfoldable pub salvage_answer : Rules → List ℕ → ℕ → Answer Report

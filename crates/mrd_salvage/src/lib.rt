@@ -12,9 +12,9 @@ ghost use Rattle.mrd_numbers.specs.Stored.{front};
 ghost use Rattle.mrd_salvage.specs.Salvage.{closing, report, salvaged_meaning, salvage_answer, salvage_output};
 
 use crate::reach::walk;
-use mrd_format::{Kind, Rules, refusal};
-use mrd_numbers::put_u16;
-pub use report::{Report, Salvaged};
+use mrd_format::{Kind, Refusal, Rules};
+use mrd_numbers::Little;
+pub use report::Report;
 
 // What would be saved of the stream s, read by these rules, and how long that is. Nothing is written: a caller learns
 // what room it needs, or where to cut a file.
@@ -27,17 +27,17 @@ pub fn salvage_report(rules: Rules, s: &[u8]) -> Report
 
 // Writes what can be saved of the stream s, read by these rules, to the front of out and answers the report; 14 where
 // out is too short. The rest of out keeps its content, and a refusal changes no byte.
-pub fn salvage(rules: Rules, s: &[u8], out: &mut [u8]) -> Salvaged
+pub fn salvage(rules: Rules, s: &[u8], out: &mut [u8]) -> Result<Report, Refusal>
     ensures result_value { salvaged_meaning result ≡ salvage_answer rules s.now (length out.old) }
     ensures out_after { out.new ≡ salvage_output rules s.now out.old }
 {
     let report = salvage_report(rules, s);
     if out.len() < report.length {
-        return Salvaged::Refused(refusal::OUTPUT_SHORT);
+        return Err(Refusal::OutputShort);
     }
     let end = s.len() - report.bytes_not_kept;
-    put_kept(&s[0..end], report.close_added, out);
-    Salvaged::Written(report)
+    put_kept(&s[..end], report.close_added, out);
+    Ok(report)
 }
 
 // Puts the bytes that are kept to the front of out, and a close after them where it is added.
@@ -47,6 +47,6 @@ fn put_kept(kept: &[u8], add: bool, out: &mut [u8])
 {
     mrd_bytes::copy(kept, out);
     if add {
-        put_u16(&mut out[kept.len()..], Kind::CLOSE);
+        Kind::CLOSE.put(&mut out[kept.len()..]);
     }
 }

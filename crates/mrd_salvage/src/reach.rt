@@ -5,7 +5,7 @@ ghost use Rattle.mrd_salvage.specs.Reached.{reach_at, reached, report_by};
 use crate::report::Report;
 use mrd_cursor::Cursor;
 use mrd_format::Rules;
-use mrd_judge::{Judgement, MAX_MESSAGES, judge, judge_text};
+use mrd_judge::{MAX_MESSAGES, judge_message};
 
 // Where a walk stops, at the first fault or at the end: how many messages it has passed, where the last of them ends
 // and where it starts, and whether it is a close.
@@ -21,12 +21,11 @@ impl Reach {
     fn at(c: Cursor, last: usize) -> Reach
         ensures { result ≡ reach_at c last }
     {
-        let phase = c.phase;
         Reach {
             number: c.number,
             end: c.start,
-            last: last,
-            closed: phase.is_closed(),
+            last,
+            closed: c.phase.is_closed(),
         }
     }
 
@@ -50,29 +49,14 @@ impl Reach {
 pub(crate) fn walk(rules: Rules, s: &[u8]) -> Reach
     ensures { result ≡ reached rules s.now }
 {
-    let profile = rules.profile;
     let mut c = Cursor::beginning();
     let mut last: usize = 0;
-    loop {
-        let start = c.start;
-        if s.len() <= start {
+    while c.start < s.len() {
+        let Ok(message) = judge_message(rules, c, &s[c.start..]) else {
             return Reach::at(c, last);
-        }
-        let judgement = judge(rules, c, &s[start..]);
-        match judgement {
-            Judgement::Whole(sort, size) => {
-                let kind = sort.kind(rules);
-                let text = judge_text(profile, kind, &s[start..], size);
-                let refused = text != 0;
-                if refused {
-                    return Reach::at(c, last);
-                }
-                last = start;
-                c = c.after(kind, size);
-            }
-            Judgement::Faulty(_) => {
-                return Reach::at(c, last);
-            }
-        }
+        };
+        last = c.start;
+        c = c.after(message.kind, message.size);
     }
+    Reach::at(c, last)
 }

@@ -14,15 +14,6 @@ pub struct Report {
     pub length: usize,
 }
 
-// The answer of the call that writes.
-#[derive(Clone, Copy)]
-pub enum Salvaged {
-    // The salvaged stream stands at the output's front.
-    Written(Report),
-    // Refused with a number alone: 14.
-    Refused(u8),
-}
-
 impl Report {
     // So many messages, up to byte `end` of a stream of this length, with nothing added.
     pub(crate) fn as_they_are(messages: usize, end: usize, length: usize) -> Report

@@ -6,6 +6,7 @@ pub mod WalkLaws
 pub mod StepLaws
 pub mod NextLaws
 pub mod Seek
+pub mod Refused
 pub mod ReaderMeaning
 pub mod Output
 pub mod Examples

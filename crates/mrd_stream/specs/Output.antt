@@ -1,21 +1,20 @@
 -- What a tool that writes to the front of an output answers, and what the output then holds: 'stream refusal, then 14'; 'no refusal writes any
 -- byte'; 'it fills the front of the output; the rest keeps its content'.
 -- Assumes nothing.
-use Rattle.std.specs.Prelude.{ℕ, ◌≤◌, ◌<◌, ◌≡◌, Bool, List, ◌++◌, ltb, length, drop}
+use Rattle.std.specs.Prelude.{Result, ℕ, ◌≤◌, ◌<◌, ◌≡◌, Bool, List, ◌++◌, ltb, length, drop}
 use Rattle.std.proofs.Common.{sym}
 use Rattle.std.proofs.Math.Path.{ap}
 use borrow.Author.Tests.{lt-ltb, le-ltb}
-use Rattle.mrd_stream.specs.declared.answer.Written.{Written}
+use Rattle.mrd_stream.specs.declared.refused.Refused.{Refused}
+use Rattle.mrd_stream.specs.Refused.{told}
 use Rattle.mrd_logic.specs.Answer.{Verdict, accepted, refused, Answer, answered, stream, number, unless_refused}
 use Rattle.mrd_logic.specs.Choice.{pick}
 use Rattle.mrd_stream.specs.Walk.{answer}
 use Rattle.mrd_format.specs.declared.rules.Rules.{Rules}
 
--- what each case of the enum says: the paper's number and values
-abbrev pub written_meaning : Written → Answer ℕ
-written_meaning (Written.Length n) = answered n
-written_meaning (Written.Stream r) = stream r.number r.record r.byte
-written_meaning (Written.Refused n) = number n
+-- what is answered: how many are written, or why none is
+abbrev pub written_meaning : Result ℕ Refused → Answer ℕ
+written_meaning q = told (λ n. n) q
 
 -- by the stream's answer and whether the output is too short for the n that are to be written
 abbrev pub answer_by : Verdict → Bool → ℕ → Answer ℕ

@@ -6,6 +6,8 @@
 
 mod answer;
 mod reader;
+mod refused;
 
-pub use answer::{Checked, Place, Placed, PlacedRecord, Refusal, Step, Written};
-pub use reader::{check, check_from, concluded, next, place};
+pub use answer::{Place, PlacedRecord, Step};
+pub use reader::{check, check_from, next, place};
+pub use refused::{Refused, StreamRefusal};

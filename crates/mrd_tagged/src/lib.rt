@@ -8,5 +8,5 @@
 mod put;
 mod same;
 
-pub use put::{put_tag, put_u16_at, put_u32_at, put_u64_at};
-pub use same::{tag_same, u16_same, u32_same, u64_same};
+pub use put::{put_at, put_tag};
+pub use same::{same_at, tag_same};

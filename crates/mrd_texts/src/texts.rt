@@ -7,11 +7,12 @@ ghost use Rattle.mrd_parts.specs.Sought.{part_meaning, sought_meaning};
 ghost use Rattle.mrd_texts.specs.Whole.{Whole, Inside};
 
 use mrd_format::{Kind, Profile};
-use mrd_message::fixed_part;
-use mrd_parts::{Part, Sought, spanned};
+use mrd_message::FixedPart;
+use mrd_parts::{Extent, Part, spanned};
 use mrd_utf8::is_utf8;
 
 // Whether the texts of the message m of this kind are UTF-8, as the strict profile asks.
+#[tactic(auto, unfolding(mrd_format::specs::Profiles::encoded, mrd_format::specs::Content::record_of, mrd_format::specs::Content::contents_of))]
 pub fn message_is_utf8(kind: Kind, m: &[u8]) -> bool
     requires { Whole kind m.now }
     ensures { result ≡ encoded Profile.Strict (texts_in (record_of kind m.now).parts) }
@@ -24,6 +25,7 @@ pub fn message_is_utf8(kind: Kind, m: &[u8]) -> bool
 }
 
 // Whether these texts are what the profile asks.
+#[tactic(auto, unfolding(mrd_format::specs::Profiles::encoded))]
 pub fn encoded(profile: Profile, name: &[u8], text: &[u8], attributes: &[u8]) -> bool
     ensures { result ≡ encoded profile (name.now ∷ text.now ∷ attributes.now ∷ []) }
 {
@@ -37,31 +39,26 @@ pub fn encoded(profile: Profile, name: &[u8], text: &[u8], attributes: &[u8]) ->
 fn all_utf8(name: &[u8], text: &[u8], attributes: &[u8]) -> bool
     ensures { result ≡ all_utf8 (name.now ∷ text.now ∷ attributes.now ∷ []) }
 {
-    if !is_utf8(name) {
-        return false;
-    }
-    if !is_utf8(text) {
-        return false;
-    }
-    is_utf8(attributes)
+    is_utf8(name) && is_utf8(text) && is_utf8(attributes)
 }
 
 // A part of the message m of this kind; no byte where its kind lacks it.
+#[tactic(auto, using(crate::specs::Whole::least))]
 fn text(kind: Kind, m: &[u8], part: Part) -> &[u8]
     requires { Whole kind m.now }
     ensures { result.now ≡ part_of kind m.now (part_meaning part) }
 {
-    let sought = mrd_parts::locate(kind, fixed_part(kind, m), m.len(), part);
+    let sought = mrd_parts::locate(FixedPart::of(kind, m), m.len(), part);
     bytes_in(sought, m)
 }
 
 // The bytes of m that lie there.
-fn bytes_in(sought: Sought, m: &[u8]) -> &[u8]
+fn bytes_in(sought: Option<Extent>, m: &[u8]) -> &[u8]
     requires { Inside (sought_meaning sought) m.now }
     ensures { result.now ≡ bytes_in m.now (sought_meaning sought) }
 {
     match sought {
-        Sought::Lies(place) => spanned(m, place.offset, place.size),
-        Sought::Lacks => spanned(m, 0, 0),
+        Some(place) => spanned(m, place.offset, place.size),
+        None => &[],
     }
 }

@@ -3,7 +3,7 @@
 use Rattle.std.specs.Prelude.{ℕ, zero, suc, ◌-◌, ◌≤◌, ◌<◌, ◌≡◌, refl, Bool, true, ◌&&◌, List, [], ◌∷◌, ◌++◌, leb, ltb, eqb, take, drop}
 use Rattle.std.proofs.Common.{arith, sym, ap, ◌∙◌, leb-true, ltb-true, ne_eqb, take-append-drop}
 use Rattle.mrd_logic.specs.Choice.{pick, both}
-use Rattle.mrd_utf8.specs.Utf8.{Range, ◌to◌, rows}
+use Rattle.mrd_utf8.specs.Utf8.{Range, ◌to◌, inside, rows}
 use Rattle.mrd_utf8.specs.Fold.{never, begun, next, done}
 use Rattle.mrd_utf8.specs.FoldLaws.{is_inside, below, above}
 use Rattle.mrd_utf8.specs.Due.{awaited}
@@ -51,30 +51,19 @@ first_in k lo hi b {row} {rest} e p l h =
 pub first_out : (k lo hi b : ℕ) → end_below lo (take k rows) ≡ true → begin_from hi (drop k rows) ≡ true → lo ≤ b → b < hi → begun rows b ≡ never
 first_out k lo hi b p q l h = begun-drop k lo b p l ∙ begun-before hi b (drop k rows) q h
 
--- where nothing is due a character begins
-pub next-none : (n lo hi b : ℕ) → n ≡ 0 → next (awaited n lo hi) b ≡ begun rows b
+-- where nothing is due a character begins, and where some octets are, the first of them comes or a fault
+pub next_none : (n lo hi b : ℕ) → n ≡ 0 → next (awaited n lo hi) b ≡ begun rows b
 unfolding next
-next-none zero lo hi b e = refl
-next-none (suc n) lo hi b e = absurd (omega arith)
+next_none zero lo hi b e = refl
+next_none (suc n) lo hi b e = absurd (omega arith)
 
--- where some octets are due, one below the range, above it and inside it
-pub next-below : (n lo hi b : ℕ) → (n ≡ 0 → ⊥) → b < lo → next (awaited n lo hi) b ≡ never
+pub next_due : (n lo hi b : ℕ) → (n ≡ 0 → ⊥) → next (awaited n lo hi) b ≡ pick (inside (lo to hi) b) (awaited (n - 1) 0x80 0xBF) never
 unfolding next
-next-below zero lo hi b some h = absurd (some refl)
-next-below (suc n) lo hi b some h = rw (below lo hi b h)
-
-pub next-above : (n lo hi b : ℕ) → (n ≡ 0 → ⊥) → hi < b → next (awaited n lo hi) b ≡ never
-unfolding next
-next-above zero lo hi b some h = absurd (some refl)
-next-above (suc n) lo hi b some h = rw (above lo hi b h)
-
-pub next-inside : (n lo hi b : ℕ) → (n ≡ 0 → ⊥) → lo ≤ b → b ≤ hi → next (awaited n lo hi) b ≡ awaited (n - 1) 0x80 0xBF
-unfolding next
-next-inside zero lo hi b some l h = absurd (some refl)
-next-inside (suc zero) lo hi b some l h = rw (is_inside lo hi b l h)
-next-inside (suc (suc n)) lo hi b some l h =
+next_due zero lo hi b some = absurd (some refl)
+next_due (suc zero) lo hi b some = refl
+next_due (suc (suc n)) lo hi b some =
     let less : suc (suc n) - 1 ≡ suc n = omega arith in
-    rw (is_inside lo hi b l h, less)
+    rw less
 
 -- the test whether nothing is due
 pub done-awaited : (n lo hi : ℕ) → eqb n 0 ≡ done (awaited n lo hi)

@@ -5,9 +5,9 @@ use Rattle.std.proofs.Common.{le_refl, arith, sym, ap, ◌∙◌, subst, append-
 use Rattle.std.proofs.Math.Decide.{dec_lt}
 use Rattle.std.proofs.lemmas.List.{take-append-le}
 use Rattle.std.proofs.Math.Seq.{take-append_seam}
-use Rattle.mrd_utf8.specs.Utf8.{Range, inside, tail, rows, fits}
+use Rattle.mrd_utf8.specs.Utf8.{Range, ◌to◌, inside, tail, rows, fits}
 use Rattle.mrd_utf8.specs.Fold.{begun, next, run}
-use Rattle.mrd_utf8.specs.FoldLaws.{run-append, run_fits, is_inside}
+use Rattle.mrd_utf8.specs.FoldLaws.{run-append, run_fits}
 use Rattle.mrd_utf8.specs.Due.{awaited}
 use Rattle.mrd_utf8.specs.DueLaws.{first_in}
 
@@ -66,18 +66,18 @@ whole-fits a c t {due} e f =
 
 -- a character by its first octet, after which n octets are due
 module _ (a : ℕ) (n lo hi : ℕ) (e : awaited n lo hi ≡ begun rows a) where
-  pub whole-1 : (t : List ℕ) → n ≡ 0 → Whole 1 (a ∷ t)
-  whole-1 t z = whole-fits a [] t (sym e ∙ ap (λ (n : ℕ). awaited n lo hi) z) refl
+  pub whole_1 : (t : List ℕ) → n ≡ 0 → Whole 1 (a ∷ t)
+  whole_1 t z = whole-fits a [] t (sym e ∙ ap (λ (n : ℕ). awaited n lo hi) z) refl
 
-  module _ (b : ℕ) (l : lo ≤ b) (h : b ≤ hi) where
-    pub whole-2 : (t : List ℕ) → n ≡ 1 → Whole 2 (a ∷ b ∷ t)
-    whole-2 t z = whole-fits a (b ∷ []) t (sym e ∙ ap (λ (n : ℕ). awaited n lo hi) z) (rw (is_inside lo hi b l h))
+  module _ (b : ℕ) (i : inside (lo to hi) b ≡ true) where
+    pub whole_2 : (t : List ℕ) → n ≡ 1 → Whole 2 (a ∷ b ∷ t)
+    whole_2 t z = whole-fits a (b ∷ []) t (sym e ∙ ap (λ (n : ℕ). awaited n lo hi) z) (rw i)
 
-    pub whole-3 : (c : ℕ) (t : List ℕ) → n ≡ 2 → inside tail c ≡ true → Whole 3 (a ∷ b ∷ c ∷ t)
-    whole-3 c t z f = whole-fits a (b ∷ c ∷ []) t (sym e ∙ ap (λ (n : ℕ). awaited n lo hi) z) (rw (is_inside lo hi b l h, f))
+    pub whole_3 : (c : ℕ) (t : List ℕ) → n ≡ 2 → inside tail c ≡ true → Whole 3 (a ∷ b ∷ c ∷ t)
+    whole_3 c t z f = whole-fits a (b ∷ c ∷ []) t (sym e ∙ ap (λ (n : ℕ). awaited n lo hi) z) (rw (i, f))
 
-    pub whole-4 : (c d : ℕ) (t : List ℕ) → n ≡ 3 → inside tail c ≡ true → inside tail d ≡ true → Whole 4 (a ∷ b ∷ c ∷ d ∷ t)
-    whole-4 c d t z f g = whole-fits a (b ∷ c ∷ d ∷ []) t (sym e ∙ ap (λ (n : ℕ). awaited n lo hi) z) (rw (is_inside lo hi b l h, f, g))
+    pub whole_4 : (c d : ℕ) (t : List ℕ) → n ≡ 3 → inside tail c ≡ true → inside tail d ≡ true → Whole 4 (a ∷ b ∷ c ∷ d ∷ t)
+    whole_4 c d t z f g = whole-fits a (b ∷ c ∷ d ∷ []) t (sym e ∙ ap (λ (n : ℕ). awaited n lo hi) z) (rw (i, f, g))
 
 -- no octet of s is above `high`
 abbrev pub NoneAbove : ℕ → List ℕ → Type 0

@@ -5,7 +5,7 @@
 #![tactic(auto)]
 
 ghost use Rattle.std.specs.Prelude.{◌≡◌, [], ◌∷◌, ◌≤◌, ◌<◌};
-ghost use Rattle.mrd_utf8.specs.Utf8.{rows, inside, tail};
+ghost use Rattle.mrd_utf8.specs.Utf8.{◌to◌, rows, inside, tail};
 ghost use Rattle.mrd_utf8.specs.Fold.{never, begun, next, run, done, utf8_of};
 ghost use Rattle.mrd_utf8.specs.Due.{awaited, due_of};
 ghost use Rattle.mrd_utf8.specs.Whole.{Whole, NoneAbove};
@@ -50,14 +50,12 @@ impl State {
         ensures { due_of result ≡ run (due_of self) s.now }
     {
         let mut state = self;
-        let mut i: usize = 0;
-        while i < s.len() {
+        for (i, &octet) in s.iter().enumerate() {
             let whole = state.due == 0;
             if whole {
                 return State::read_text(&s[i..]);
             }
-            state = state.next(s[i]);
-            i += 1;
+            state = state.next(octet);
         }
         state
     }
@@ -75,70 +73,48 @@ impl State {
         ensures { due_of result ≡ run (due_of self) s.now }
     {
         let mut state = self;
-        let mut i: usize = 0;
-        while i < s.len() {
-            state = state.next(s[i]);
-            i += 1;
+        for &octet in s {
+            state = state.next(octet);
         }
         state
     }
 
     // The state after one octet more.
+    #[tactic(auto, using(crate::specs::DueLaws::next_none, crate::specs::DueLaws::next_due))]
     fn next(self, octet: u8) -> State
         ensures { due_of result ≡ next (due_of self) octet }
     {
         if self.due == 0 {
             return State::begun(octet);
         }
-        if octet < self.lo {
-            return State::fault();
-        }
-        if self.hi < octet {
+        if !self.takes(octet) {
             return State::fault();
         }
         State::awaiting(self.due - 1, 0x80, 0xBF)
     }
 
-    // The state after the first octet of a character. No tail begins one, nor 0xC0 and 0xC1: what they would
-    // begin has one octet as ASCII.
+    // Whether an octet is in the range that is due.
+    fn takes(self, octet: u8) -> bool
+        ensures { result ≡ inside (self.lo to self.hi) octet }
+    {
+        (self.lo <= octet) & (octet <= self.hi)
+    }
+
+    // The state after the first octet of a character, by the rows of the syntax. No tail begins one, nor 0xC0 and
+    // 0xC1, as what they would begin has one octet as ASCII; nor 0xF5 and above.
+    #[tactic(auto, unfolding(crate::specs::Fold::begun))]
     fn begun(octet: u8) -> State
         ensures { due_of result ≡ begun rows octet }
     {
-        let ascii = octet < 0x80;
-        if ascii {
+        if octet < 0x80 {
             return State::awaiting(0, 0, 0);
         }
-        if octet < 0xC2 {
-            return State::fault();
-        }
-        if octet < 0xE0 {
-            return State::awaiting(1, 0x80, 0xBF);
-        }
-        if octet < 0xF0 {
-            return State::begun_three(octet);
-        }
-        State::begun_four(octet)
-    }
-
-    // The same of a character of three octets.
-    fn begun_three(octet: u8) -> State
-        requires { (0xE0 ≤ octet) × (octet < 0xF0) }
-        ensures { due_of result ≡ begun rows octet }
-    {
         match octet {
+            0xC2..=0xDF => State::awaiting(1, 0x80, 0xBF),
             0xE0 => State::awaiting(2, 0xA0, 0xBF),
             0xE1..=0xEC => State::awaiting(2, 0x80, 0xBF),
             0xED => State::awaiting(2, 0x80, 0x9F),
-            _ => State::awaiting(2, 0x80, 0xBF),
-        }
-    }
-
-    // The same of a character of four octets. From 0xF5 on an octet begins none.
-    fn begun_four(octet: u8) -> State
-        requires { 0xF0 ≤ octet }
-        ensures { due_of result ≡ begun rows octet }
-    {
-        match octet {
+            0xEE..=0xEF => State::awaiting(2, 0x80, 0xBF),
             0xF0 => State::awaiting(3, 0x90, 0xBF),
             0xF1..=0xF3 => State::awaiting(3, 0x80, 0xBF),
             0xF4 => State::awaiting(3, 0x80, 0x8F),
@@ -209,31 +185,13 @@ fn character(a: u8, b: u8, c: u8, d: u8) -> usize
     ensures { Whole result (a ∷ b ∷ c ∷ d ∷ []) }
 {
     let first = State::begun(a);
-    if first.due == 0 {
-        return 1;
+    match first.due {
+        0 => 1,
+        1 if first.takes(b) => 2,
+        2 if first.takes(b) && is_tail(c) => 3,
+        3 if first.takes(b) && is_tail(c) && is_tail(d) => 4,
+        _ => 0,
     }
-    if b < first.lo {
-        return 0;
-    }
-    if first.hi < b {
-        return 0;
-    }
-    if first.due == 1 {
-        return 2;
-    }
-    if !is_tail(c) {
-        return 0;
-    }
-    if first.due == 2 {
-        return 3;
-    }
-    if !is_tail(d) {
-        return 0;
-    }
-    if first.due == 3 {
-        return 4;
-    }
-    0
 }
 
 // Whether an octet is a tail.
@@ -248,21 +206,9 @@ fn is_tail(octet: u8) -> bool
 fn highest(s: &[u8]) -> u8
     ensures { NoneAbove result s.now }
 {
-    let mut high: u8 = 0;
-    let mut i: usize = 0;
-    while i < s.len() {
-        high = higher(high, s[i]);
-        i += 1;
+    let mut high = 0;
+    for &octet in s {
+        high = octet.max(high);
     }
     high
-}
-
-// The higher of two octets.
-fn higher(a: u8, b: u8) -> u8
-    ensures { (a ≤ result) × (b ≤ result) }
-{
-    if a < b {
-        return b;
-    }
-    a
 }

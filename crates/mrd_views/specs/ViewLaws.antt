@@ -9,13 +9,14 @@ use Rattle.mrd_format.specs.Content.{extent_of}
 use Rattle.mrd_format.proofs.ReachLaws.{part-within}
 use Rattle.mrd_parts.specs.declared.parts.Part as asked
 use Rattle.mrd_parts.specs.Sought.{part_meaning, Sized}
-use Rattle.mrd_stream.specs.Places.{Located}
+use Rattle.mrd_cursor.specs.declared.cursor.Cursor.{Cursor}
+use Rattle.mrd_stream.specs.Places.{Located, place}
 use Rattle.mrd_cut.specs.CutPlaces.{part_at}
 use Rattle.mrd_cut.specs.Inside.{Inside}
-use Rattle.mrd_record.specs.AtCursor.{LiesIn}
-use Rattle.mrd_record.specs.RecordLaws.{fixed-long}
+use Rattle.mrd_record.specs.AtCursor.{place_at, LiesIn}
+use Rattle.mrd_record.specs.RecordLaws.{fixed-long, place-lies, at_lies}
 use Rattle.mrd_views.specs.declared.views.Span.{Span}
-use Rattle.mrd_views.specs.Views.{shown_at, start_of, view_by, ViewIn}
+use Rattle.mrd_views.specs.Views.{shown_at, start_of, view_by, view_of, ViewIn}
 use Rattle.mrd_format.specs.declared.rules.Rules.{Rules}
 
 -- a record that lies in s
@@ -48,3 +49,11 @@ pub view-fits : (s : List ℕ) (a : Answer Located) (p : asked.Part) → LiesIn 
 view-fits s (answered l) p x = part-fits s l x.1 (part_meaning p)
 view-fits s (stream f r b) p x = tt
 view-fits s (number k) p x = tt
+
+-- so each view whose place is answered does
+pub view_lies : (rules : Rules) (s : List ℕ) (n : ℕ) (p : asked.Part) (a : Answer Span) → a ≡ view_of rules s n p → ViewIn s a
+unfolding view_of
+view_lies rules s n p a e = rw e (view-fits s (place rules s n) p (place-lies rules s n))
+
+pub due_view_lies : (rules : Rules) (c : Cursor) (s : List ℕ) (p : asked.Part) (a : Answer Span) → a ≡ view_by (place_at rules c s) p s → ViewIn s a
+due_view_lies rules c s p a e = rw e (view-fits s (place_at rules c s) p (at_lies rules c s))

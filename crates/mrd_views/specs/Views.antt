@@ -1,6 +1,6 @@
 -- 'Views': 'text, name, attributes, trajectory, one channel's samples, pixels, waveform data: each is that part of the lent stream itself'.
 -- Assumes nothing.
-use Rattle.std.specs.Prelude.{ℕ, ◌+◌, ◌≤◌, List, [], length, take, drop}
+use Rattle.std.specs.Prelude.{ℕ, ◌+◌, ◌≤◌, List, [], length, take, drop, Result}
 use Rattle.mrd_logic.specs.Answer.{Answer, answered, stream, number, and_then}
 use Rattle.mrd_format.specs.Message.{fixed_part}
 use Rattle.mrd_format.specs.Parts.{Reach, lies, lacks}
@@ -8,10 +8,10 @@ use Rattle.mrd_format.specs.Content.{extent_of}
 use Rattle.mrd_parts.specs.declared.parts.Part.{Part}
 use Rattle.mrd_parts.specs.Sought.{part_meaning}
 use Rattle.mrd_stream.specs.Places.{Located, place}
+use Rattle.mrd_stream.specs.Refused.{told}
+use Rattle.mrd_stream.specs.declared.refused.Refused.{Refused}
 use Rattle.mrd_cut.specs.CutPlaces.{part_at}
 use Rattle.mrd_views.specs.declared.views.Span.{Span}
-use Rattle.mrd_views.specs.declared.views.ViewPlace.{ViewPlace}
-use Rattle.mrd_views.specs.declared.views.ViewPlace.TheVariants.{At, Stream, Refused}
 use Rattle.mrd_format.specs.declared.rules.Rules.{Rules}
 
 -- a view's place in a stream: its first byte and its length
@@ -50,8 +50,6 @@ ViewIn s (answered x) = x.start + x.length ≤ length s
 ViewIn s (stream f r b) = Unit {0}
 ViewIn s (number n) = Unit {0}
 
--- what each case of an answered place says
-abbrev pub view_meaning : ViewPlace → Answer Span
-view_meaning (At x) = answered x
-view_meaning (Stream r) = stream r.number r.record r.byte
-view_meaning (Refused n) = number n
+-- what an answered place says
+abbrev pub view_meaning : Result Span Refused → Answer Span
+view_meaning r = told (λ x. x) r

@@ -8,4 +8,4 @@ mod at_cursor;
 mod views;
 
 pub use at_cursor::{view_at, view_place_at};
-pub use views::{Span, ViewPlace, view, view_place};
+pub use views::{Span, view, view_place};

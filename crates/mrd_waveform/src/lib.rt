@@ -1,10 +1,9 @@
 // The waveform header in either layout: the check that it must pass, the sizes and numbers that it gives,
 // and its filler made zero.
 //
-// Each function asks for as many bytes as the layout's header has, which the callers, all proved, have.
-// Assumes nothing.
+// A header has as many bytes as its layout says by an invariant. Assumes nothing.
 #![tactic(auto)]
 
 mod waveform;
 
-pub use waveform::{body_size, clear_filler, fault, measurement_uid, scan_counter, shape};
+pub use waveform::{WaveformHeader, clear_filler};

@@ -3,63 +3,72 @@
 ghost use Rattle.std.specs.Prelude.{◌≡◌, ◌<◌, ◌≤◌, ◌^◌, length, take};
 ghost use Rattle.mrd_numbers.specs.Stored.{front};
 ghost use Rattle.mrd_logic.specs.Checks.{first};
+ghost use Rattle.mrd_format.specs.Refusals.{number_in};
 ghost use Rattle.mrd_format.specs.Waveform.{checks, body_size, numbers, header_bytes, get, cleared};
 ghost use Rattle.mrd_format.specs.Waveform.{«measurement-uid», «scan-counter»};
 ghost use Rattle.mrd_format.specs.Shapes.{waveform_numbers};
 ghost use Rattle.mrd_format.specs.declared.rules.Layout.«TheVariants».{Aligned};
 
 use mrd_format::size::product;
-use mrd_format::{Layout, WaveformShape, refusal};
-use mrd_numbers::{put_zeros, read_u16, read_u32};
+use mrd_format::{Layout, Refusal, WaveformShape};
+use mrd_numbers::{Little, put_zeros};
 
-// 4 where check 4 refuses the header, or 0.
-pub fn fault(layout: Layout, h: &[u8]) -> u8
-    requires { length h.now ≡ header_bytes layout }
-    ensures { result ≡ first (checks layout h.now) }
-{
-    let at = layout.offsets();
-    if read_u16(h, at.version) != 1 {
-        return refusal::VERSION;
+// A waveform's header in its layout.
+#[derive(Clone, Copy)]
+pub struct WaveformHeader<'a> {
+    pub layout: Layout,
+    pub bytes: &'a [u8],
+    pub ghost long: { length bytes.now ≡ header_bytes layout },
+}
+
+impl WaveformHeader<'_> {
+    // Check 4 of the header.
+    pub fn check(self) -> Result<(), Refusal>
+        ensures { number_in result ≡ first (checks self.entry.layout self.entry.bytes.now) }
+    {
+        let at = self.layout.offsets();
+        if u16::read(self.bytes, at.version) != 1 {
+            return Err(Refusal::Version);
+        }
+        Ok(())
     }
-    0
-}
 
-// The bytes after the header: every channel's samples.
-pub fn body_size(layout: Layout, h: &[u8]) -> usize
-    requires { length h.now ≡ header_bytes layout }
-    ensures { (result ≡ body_size layout h.now) × (result < 2 ^ 40) }
-{
-    let at = layout.offsets();
-    (product(read_u16(h, at.channels), read_u16(h, at.number_of_samples)) * 4) as usize
-}
-
-// The header's own numbers.
-pub fn shape(layout: Layout, h: &[u8]) -> WaveformShape
-    requires { length h.now ≡ header_bytes layout }
-    ensures { (result.layout ≡ layout) × (waveform_numbers result ≡ numbers layout h.now) }
-{
-    let at = layout.offsets();
-    WaveformShape {
-        layout: layout,
-        number_of_samples: read_u16(h, at.number_of_samples),
-        channels: read_u16(h, at.channels),
+    // The bytes after the header: every channel's samples.
+    pub fn body_size(self) -> usize
+        ensures { (result ≡ body_size self.entry.layout self.entry.bytes.now) × (result < 2 ^ 40) }
+    {
+        let at = self.layout.offsets();
+        (product(
+            u16::read(self.bytes, at.channels),
+            u16::read(self.bytes, at.number_of_samples),
+        ) * 4) as usize
     }
-}
 
-pub fn scan_counter(layout: Layout, h: &[u8]) -> u32
-    requires { length h.now ≡ header_bytes layout }
-    ensures { result ≡ get layout «scan-counter» h.now }
-{
-    let at = layout.offsets();
-    read_u32(h, at.scan_counter)
-}
+    // The header's own numbers.
+    pub fn shape(self) -> WaveformShape
+        ensures { (result.layout ≡ self.entry.layout) × (waveform_numbers result ≡ numbers self.entry.layout self.entry.bytes.now) }
+    {
+        let at = self.layout.offsets();
+        WaveformShape {
+            layout: self.layout,
+            number_of_samples: u16::read(self.bytes, at.number_of_samples),
+            channels: u16::read(self.bytes, at.channels),
+        }
+    }
 
-pub fn measurement_uid(layout: Layout, h: &[u8]) -> u32
-    requires { length h.now ≡ header_bytes layout }
-    ensures { result ≡ get layout «measurement-uid» h.now }
-{
-    let at = layout.offsets();
-    read_u32(h, at.measurement_uid)
+    pub fn scan_counter(self) -> u32
+        ensures { result ≡ get self.entry.layout «scan-counter» self.entry.bytes.now }
+    {
+        let at = self.layout.offsets();
+        u32::read(self.bytes, at.scan_counter)
+    }
+
+    pub fn measurement_uid(self) -> u32
+        ensures { result ≡ get self.entry.layout «measurement-uid» self.entry.bytes.now }
+    {
+        let at = self.layout.offsets();
+        u32::read(self.bytes, at.measurement_uid)
+    }
 }
 
 // Makes the filler zero in the header at the front of out. A packed header has none.

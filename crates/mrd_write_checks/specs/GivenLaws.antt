@@ -1,12 +1,14 @@
 -- What judging the given bytes finds, one law for each place in the order of checks.
 -- Assumes nothing.
-use Rattle.std.specs.Prelude.{ℕ, ◌+◌, ◌-◌, ◌*◌, ◌≤◌, ◌<◌, ◌≡◌, refl, true, false, not, List, [], ◌∷◌, ◌++◌, ltb, length}
+use Rattle.std.specs.Prelude.{ℕ, ◌+◌, ◌-◌, ◌*◌, ◌≤◌, ◌<◌, ◌≡◌, refl, true, false, not, List, [], ◌∷◌, ◌++◌, ltb, length, Result, Ok, Err, IsErrAnd}
 use native.Mathlib.Omega.{arith}
 use Rattle.std.proofs.Common.{sym, ap, ◌∙◌, lt-ltb, le-ltb, eq-eqb, ne_eqb}
 use Rattle.mrd_numbers.specs.Little.{to_bytes}
 use Rattle.mrd_format.specs.declared.rules.Layout.{Layout}
 use Rattle.mrd_format.specs.declared.kind.Kind.{Kind}
 use Rattle.mrd_format.specs.declared.kind.Kind.TheVariants.{ConfigurationText, HeaderText, Close, Text, Acquisition, Image, Waveform}
+use Rattle.mrd_format.specs.declared.refusal.Refusal.{Refusal}
+use Rattle.mrd_format.specs.Refusals.{number_of, number-not-zero}
 use Rattle.mrd_logic.specs.Answer.{answered, number}
 use Rattle.mrd_logic.specs.AnswerLaws.{answered-not-number}
 use Rattle.mrd_logic.specs.Checks.{Check, ◌when◌, first, unless}
@@ -26,7 +28,7 @@ use Rattle.mrd_format.specs.Sizes.{capped}
 use Rattle.mrd_format.specs.Message.{limit, own_checks, body_size, size_of}
 use Rattle.mrd_write_checks.specs.declared.lengths.Lengths.{Lengths}
 use Rattle.mrd_write_checks.specs.Sized.{sized_answer, text_sized, sized_by, image_size}
-use Rattle.mrd_write_checks.specs.WriteChecks.{length_in, counts, given_fixed, of_writer, given_own_checks, given_size, part_lengths, due_lengths, same_lengths, sized_checks, given_checks, judged}
+use Rattle.mrd_write_checks.specs.WriteChecks.{length_in, counts, given_fixed, of_writer, given_own_checks, given_size, part_lengths, due_lengths, same_lengths, sized_checks, given_checks, judged_meaning, judged}
 
 -- where a number is answered, no check refused
 pub unless-answered : (f z : ℕ) {y : ℕ} → unless f number (answered z) ≡ answered y → (f ≡ 0) × (z ≡ y)
@@ -40,6 +42,11 @@ pub unless-number : (cs ds : List Check) (y z : ℕ) {x : ℕ} → unless (first
 unless-number cs ds y z e =
     let p = unless-fault (first cs) number (answered y) answered-not-number e in
     unless-stops cs ds number (answered z) refl p.1 ∙ p.0
+
+-- a refusal that is passed on keeps its number
+pub judged-passed_on : (r : Result ℕ Refusal) (e : Refusal) → IsErrAnd r (λ x. x ≡ e) → judged_meaning r ≡ number (number_of e)
+judged-passed_on (Ok z) e p = absurd p
+judged-passed_on (Err x) e p = ap (λ (r : Refusal). number (number_of r)) p
 
 -- no check has the number 0
 sized-numbered : (k : Kind) (h name : List ℕ) (n : Lengths) → numbered (sized_checks k h name n) ≡ true
@@ -95,6 +102,9 @@ module _ (cs : List Check) (y : ℕ) where
   pub own-decides : (x : ℕ) → first cs ≡ x → (x ≡ 0 → ⊥) → sized_by cs y ≡ number x
   unfolding sized_by
   own-decides x e n = unless-stops cs _ number (answered y) e n
+
+  pub own-refused : (r : Refusal) → first cs ≡ number_of r → sized_by cs y ≡ number (number_of r)
+  own-refused r e = own-decides (number_of r) e (number-not-zero r)
 
   module _ (counted : numbered cs ≡ true) (own : first cs ≡ 0) where
     limited : sized_by cs y ≡ unless (first ((10 when ltb limit y) ∷ [])) number (answered y)

@@ -1,9 +1,11 @@
 -- What the writer refuses before it looks at the output: 'The writer: 2 to 10 in order, then 18, 14', without 2 and 14. These checks go by the
 -- kind, the given header, the given name and the given parts' lengths.
 -- Assumes nothing.
-use Rattle.std.specs.Prelude.{ℕ, ◌+◌, Bool, false, not, ◌||◌, ◌&&◌, List, [], ◌∷◌, ◌++◌, eqb, ltb, length}
+use Rattle.std.specs.Prelude.{ℕ, ◌+◌, Bool, false, not, ◌||◌, ◌&&◌, List, [], ◌∷◌, ◌++◌, eqb, ltb, length, Result}
 use Rattle.mrd_bytes.specs.Bytes.{index_of}
 use Rattle.mrd_format.specs.declared.kind.Kind.{Kind}
+use Rattle.mrd_format.specs.declared.refusal.Refusal.{Refusal}
+use Rattle.mrd_format.specs.Refusals.{answer_in}
 use Rattle.mrd_format.specs.Kinds.{form_of, fixed_size, header_size}
 use Rattle.mrd_format.specs.Parts as part
 use Rattle.mrd_format.specs.Parts.{Part, same, by_part, Contents, part_length, contents}
@@ -15,7 +17,6 @@ use Rattle.mrd_logic.specs.Answer.{Answer, answered, number}
 use Rattle.mrd_format.specs.Message.{limit, own_checks}
 use Rattle.mrd_format.specs.Content.{fixed_by}
 use Rattle.mrd_write_checks.specs.declared.lengths.Lengths.{Lengths}
-use Rattle.mrd_write_checks.specs.declared.contents.ContentsJudged.{ContentsJudged}
 
 -- 'writer: name over 1,023 bytes or holding a zero'
 unfoldable pub name_unfit : List ℕ → Bool
@@ -95,10 +96,9 @@ given_checks k h name n =
     (3 when not (eqb (length h) (header_size k))) ∷
     sized_checks k h name n ++ ((18 when not (same_lengths n (due_lengths k h n))) ∷ [])
 
--- what each case of the enum says: the size of the message, or 'the number alone'
-abbrev pub judged_meaning : ContentsJudged → Answer ℕ
-judged_meaning (ContentsJudged.Size z) = answered z
-judged_meaning (ContentsJudged.Refused n) = number n
+-- what the judge's answer says: the size of the message, or 'the number alone'
+abbrev pub judged_meaning : Result ℕ Refusal → Answer ℕ
+judged_meaning r = answer_in (λ z. z) r
 
 -- what is given, judged: the size of its message, or the first refusal
 unfoldable pub judged : Kind → (h name : List ℕ) → Lengths → Answer ℕ

@@ -6,6 +6,8 @@
 
 mod contents;
 mod lengths;
+mod message;
 
-pub use contents::{ContentsJudged, judge};
+pub use contents::judge;
 pub use lengths::Lengths;
+pub use message::Message;

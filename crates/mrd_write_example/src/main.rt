@@ -5,8 +5,8 @@
 mod views;
 
 use mrd_format::{Kind, Layout, Profile, Rules};
-use mrd_stream::Checked;
-use mrd_writer::WriteAnswer;
+use mrd_stream::StreamRefusal;
+use mrd_writer::Message;
 use std::io;
 
 // Where elements of an acquisition's header start.
@@ -29,64 +29,40 @@ fn rules() -> Rules {
 
 fn main(rt: HostRuntime) -> io::Result<()> {
     let mut out = [0u8; 2048];
-    let named = put_name(&rt, &mut out, 0)?;
-    let headed = put_header(&rt, &mut out, named)?;
+    let name = Message {
+        name: b"default.xml",
+        ..Message::default()
+    };
+    let header = Message {
+        text: b"<ismrmrdHeader/>",
+        ..Message::default()
+    };
+    let named = put(&rt, Kind::CONFIGURATION_NAME, &name, &mut out, 0)?;
+    let headed = put(&rt, Kind::HEADER_TEXT, &header, &mut out, named)?;
     let measured = put_readout(&rt, &mut out, headed)?;
-    let end = put_close(&rt, &mut out, measured)?;
+    let end = put(&rt, Kind::CLOSE, &Message::default(), &mut out, measured)?;
     read_back(&rt, &out, end)
 }
 
-// The position after a message, which is printed; where the message was refused, its number is printed
-// and the position stays.
-fn after(rt: &impl Print, written: WriteAnswer, position: usize) -> io::Result<usize> {
-    match written {
-        WriteAnswer::To(next) => {
+// Puts a message into out. The position after it is printed and handed out; where the message was refused, its
+// number is printed and the position stays.
+fn put(
+    rt: &impl Print,
+    id: u16,
+    message: &Message<'_>,
+    out: &mut [u8],
+    position: usize,
+) -> io::Result<usize> {
+    match mrd_writer::write(rules(), id, message, out, position) {
+        Ok(next) => {
             println!(rt; "written to {next}")?;
             Ok(next)
         }
-        WriteAnswer::Refused(number) => {
-            println!(rt; "refused {number}")?;
+        Err(refusal) => {
+            println!(rt; "{refusal}")?;
             Ok(position)
         }
     }
-}
-
-fn put_name(rt: &impl Print, out: &mut [u8], position: usize) -> io::Result<usize> {
-    let id = Kind::CONFIGURATION_NAME;
-    let written = mrd_writer::write(
-        rules(),
-        id,
-        b"",
-        b"default.xml",
-        b"",
-        b"",
-        b"",
-        b"",
-        b"",
-        b"",
-        out,
-        position,
-    );
-    after(rt, written, position)
-}
-
-fn put_header(rt: &impl Print, out: &mut [u8], position: usize) -> io::Result<usize> {
-    let id = Kind::HEADER_TEXT;
-    let written = mrd_writer::write(
-        rules(),
-        id,
-        b"",
-        b"",
-        b"<ismrmrdHeader/>",
-        b"",
-        b"",
-        b"",
-        b"",
-        b"",
-        out,
-        position,
-    );
-    after(rt, written, position)
 }
 
 // An acquisition of four samples in one of two channels, with no trajectory. Its samples, 8 bytes each, are words
@@ -97,42 +73,12 @@ fn put_readout(rt: &impl Print, out: &mut [u8], position: usize) -> io::Result<u
     header[NUMBER_OF_SAMPLES] = 4;
     header[AVAILABLE_CHANNELS] = 2;
     header[ACTIVE_CHANNELS] = 1;
-    let samples = b"sample 0sample 1sample 2sample 3";
-    let id = Kind::ACQUISITION;
-    let written = mrd_writer::write(
-        rules(),
-        id,
-        &header,
-        b"",
-        b"",
-        b"",
-        samples,
-        b"",
-        b"",
-        b"",
-        out,
-        position,
-    );
-    after(rt, written, position)
-}
-
-fn put_close(rt: &impl Print, out: &mut [u8], position: usize) -> io::Result<usize> {
-    let id = Kind::CLOSE;
-    let written = mrd_writer::write(
-        rules(),
-        id,
-        b"",
-        b"",
-        b"",
-        b"",
-        b"",
-        b"",
-        b"",
-        b"",
-        out,
-        position,
-    );
-    after(rt, written, position)
+    let readout = Message {
+        header: &header,
+        samples: b"sample 0sample 1sample 2sample 3",
+        ..Message::default()
+    };
+    put(rt, Kind::ACQUISITION, &readout, out, position)
 }
 
 // What the reader finds in out up to `end`.
@@ -141,11 +87,8 @@ fn read_back(rt: &impl Print, out: &[u8], end: usize) -> io::Result<()> {
         return Ok(());
     }
     match mrd_stream::check(rules(), &out[0..end]) {
-        Checked::Accepted(count) => println!(rt; "accepted, records {count}")?,
-        Checked::Refused(refusal) => {
-            let number = refusal.number;
-            println!(rt; "refused {number}")?;
-        }
+        Ok(count) => println!(rt; "accepted, records {count}")?,
+        Err(StreamRefusal { why, .. }) => println!(rt; "{why}")?,
     }
     views::show(rt, rules(), &out[0..end])
 }

@@ -1,10 +1,10 @@
 // What the views of a stream's records are: by a record's number, where a walk is, at a cursor from an index, and
 // asked for with an index given.
-use mrd_ask::{Question, Reply, ask_with_columns, reply_view};
+use mrd_ask::{Question, ask_with_columns, reply_view};
 use mrd_columns::fill_columns;
 use mrd_cursor::Cursor;
 use mrd_format::Rules;
-use mrd_index_cursor::{CursorAnswer, cursor_for};
+use mrd_index_cursor::cursor_for;
 use mrd_parts::Part;
 use mrd_stream::Step;
 use mrd_views::{view, view_at};
@@ -32,14 +32,12 @@ fn show_indexed(rt: &impl Print, rules: Rules, s: &[u8]) -> io::Result<()> {
     let mut starts = [0u64; 4];
     let mut ids = [0u16; 4];
     let mut counters = [0u32; 4];
-    fill_columns(rules, s, &mut starts, &mut ids, &mut counters);
+    if let Err(refusal) = fill_columns(rules, s, &mut starts, &mut ids, &mut counters) {
+        println!(rt; "{refusal}")?;
+    }
     match cursor_for(rules, &starts, &ids, 2) {
-        CursorAnswer::At(cursor) => say(
-            rt,
-            "samples",
-            view_at(rules, cursor, s, Part::Channel(0)),
-        )?,
-        CursorAnswer::Refused(_) => say(rt, "no record", &s[..0])?,
+        Ok(cursor) => say(rt, "samples", view_at(rules, cursor, s, Part::Channel(0)))?,
+        Err(_) => say(rt, "no record", &s[..0])?,
     }
     show_asked(rt, rules, s, &starts, &ids, &counters)?;
     show_asked(rt, rules, s, &starts, &ids, &[7u32; 4])
@@ -56,16 +54,10 @@ fn show_asked(
 ) -> io::Result<()> {
     let question = Question::View(2, Part::Channel(0));
     let reply = ask_with_columns(rules, s, question, &[0u16; 17], starts, ids, counters);
-    say_refusal(rt, reply)?;
-    say(rt, "samples asked for", reply_view(s, reply))
-}
-
-// The number of a refusal.
-fn say_refusal(rt: &impl Print, reply: Reply) -> io::Result<()> {
-    match reply {
-        Reply::Refused(number) => println!(rt; "refused {number}"),
-        _ => Ok(()),
+    if let Err(refusal) = reply {
+        println!(rt; "{refusal}")?;
     }
+    say(rt, "samples asked for", reply_view(s, reply))
 }
 
 // A view: what it is of, its length and its bytes.

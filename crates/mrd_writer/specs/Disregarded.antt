@@ -1,7 +1,7 @@
 -- What a given header holds that is no field of the record is disregarded: an image's length of its attributes, a waveform's filler. Headers that agree
 -- in the fields get the same answer and leave the same output.
 -- Assumes nothing.
-use Rattle.std.specs.Prelude.{ℕ, ◌≡◌, List, map, length, take}
+use Rattle.std.specs.Prelude.{ℕ, ◌≡◌, List, map, length, take, Some}
 use Rattle.std.proofs.Math.Path.{refl}
 use Rattle.std.proofs.Common.{sym, ap, ◌∙◌}
 use Rattle.mrd_numbers.specs.Little.{num}
@@ -10,7 +10,6 @@ use Rattle.mrd_format.specs.declared.rules.Rules.{Rules}
 use Rattle.mrd_format.specs.declared.rules.Layout.{Layout}
 use Rattle.mrd_format.specs.declared.kind.Kind.{Kind}
 use Rattle.mrd_format.specs.declared.kind.Kind.TheVariants.{Image, Waveform}
-use Rattle.mrd_format.specs.declared.kind.Identified.TheVariants.{Known}
 use Rattle.mrd_format.specs.Kinds.{id_of, identified}
 use Rattle.mrd_format.specs.Parts.{Parts, Contents, part_length}
 use Rattle.mrd_format.specs.Headers.{field, settled}
@@ -41,10 +40,10 @@ abbrev pub WrittenAlike : Rules → ℕ → Contents → Contents → Type 0
 WrittenAlike rules id c d =
     (at : ℕ) (o : List ℕ) → (write_answer rules id c at o ≡ write_answer rules id d at o) × (write_output rules id c at o ≡ write_output rules id d at o)
 
-written_alike : (rules : Rules) (id : ℕ) {k : Kind} {c d : Contents} → identified rules id ≡ Known k → Alike k c d → WrittenAlike rules id c d
+written_alike : (rules : Rules) (id : ℕ) {k : Kind} {c d : Contents} → identified rules id ≡ Some k → Alike k c d → WrittenAlike rules id c d
 unfolding write_answer write_output output_as answer_as write_checks
 written_alike rules id {k} {c} {d} known a at o =
-    let answers : answer_as rules.profile (Known k) c at o ≡ answer_as rules.profile (Known k) d at o = rw (a.checks, a.size, a.parts) in
+    let answers : answer_as rules.profile (Some k) c at o ≡ answer_as rules.profile (Some k) d at o = rw (a.checks, a.size, a.parts) in
     (rw known answers, rw (known, answers, a.message))
 
 -- image headers that agree in all bytes before the length of the attributes

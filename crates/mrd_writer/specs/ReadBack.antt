@@ -1,6 +1,6 @@
 -- 'The message reads back where the order allows it': the theorem about the writer and the reader, from the laws of both.
 -- Assumes nothing.
-use Rattle.std.specs.Prelude.{ℕ, ◌+◌, ◌≤◌, ◌<◌, ◌≡◌, refl, true, List, ◌++◌, length, take, drop}
+use Rattle.std.specs.Prelude.{ℕ, ◌+◌, ◌≤◌, ◌<◌, ◌≡◌, refl, true, List, ◌++◌, length, take, drop, Option, Some, None}
 use Rattle.std.proofs.Common.{arith, sym, ap, ◌∙◌, ltb-false, length-take-le, take_at, drop_at}
 use Rattle.std.proofs.lemmas.Bool.{not-false}
 use Rattle.mrd_numbers.specs.Stored.{stored}
@@ -12,8 +12,6 @@ use Rattle.mrd_logic.specs.CheckLaws.{first-passed, passed_first, numbered-appen
 use Rattle.mrd_format.specs.declared.rules.Rules.{Rules}
 use Rattle.mrd_format.specs.declared.rules.Profile.{Profile}
 use Rattle.mrd_format.specs.declared.kind.Kind.{Kind}
-use Rattle.mrd_format.specs.declared.kind.Identified.{Identified}
-use Rattle.mrd_format.specs.declared.kind.Identified.TheVariants.{Known, Unknown}
 use Rattle.mrd_format.specs.Kinds.{identified}
 use Rattle.mrd_format.specs.WellFormed.{WellFormed}
 use Rattle.mrd_format.specs.Parts.{Contents}
@@ -36,7 +34,7 @@ use Rattle.mrd_writer.specs.Written.{sound-fitting, message-length, written-well
 pub record ReadsBack (rules : Rules) (id : ℕ) (c : Contents) (at : ℕ) (o : List ℕ) (p : ℕ) : Type 0 where
   -- the id is in the table, and m is the message of its kind that c makes
   pub kind : Kind
-  pub known : identified rules id ≡ Known kind
+  pub known : identified rules id ≡ Some kind
   pub m : List ℕ
   pub made : m ≡ message_of kind c
   -- it lies in the output from the position on, up to p, and all else there is as it was
@@ -58,7 +56,7 @@ record Passes (f : Profile) (k : Kind) (c : Contents) (at : ℕ) (o : List ℕ) 
   end : at + contents_size k c ≡ p
   fits : at + contents_size k c ≤ length o
 
-answered-passes : (f : Profile) (k : Kind) (c : Contents) (at : ℕ) (o : List ℕ) {p : ℕ} → answer_as f (Known k) c at o ≡ answered p → Passes f k c at o p
+answered-passes : (f : Profile) (k : Kind) (c : Contents) (at : ℕ) (o : List ℕ) {p : ℕ} → answer_as f (Some k) c at o ≡ answered p → Passes f k c at o p
 unfolding answer_as write_checks
 answered-passes f k c at o e =
     let own = contents_checks k c in
@@ -86,9 +84,9 @@ pub written_reads_back : (rules : Rules) (id : ℕ) (c : Contents) (at : ℕ) (o
 unfolding write_answer write_output answer_as output_as
 written_reads_back rules id c at o p e = by-id (identified rules id) refl e
   where
-    by-id : (i : Identified) → identified rules id ≡ i → answer_as rules.profile i c at o ≡ answered p → ReadsBack rules id c at o p
-    by-id Unknown n e = absurd (answered-not-number (sym e))
-    by-id (Known k) n e =
+    by-id : (i : Option Kind) → identified rules id ≡ i → answer_as rules.profile i c at o ≡ answered p → ReadsBack rules id c at o p
+    by-id None n e = absurd (answered-not-number (sym e))
+    by-id (Some k) n e =
         let s = answered-passes rules.profile k c at o e in
         let long : length (message_of k c) ≡ contents_size k c = message-length k c s.sound in
         let left : write_output rules id c at o ≡ stored at (message_of k c) o = rw (n, e) in

@@ -1,25 +1,23 @@
 -- 'The writer puts one message into the output from a given position on': its answer, and the output as it leaves it.
 -- Assumes nothing.
-use Rattle.std.specs.Prelude.{ℕ, ◌+◌, ◌≡◌, not, List, [], ◌∷◌, ◌++◌, ltb, length}
+use Rattle.std.specs.Prelude.{ℕ, ◌+◌, ◌≡◌, not, List, [], ◌∷◌, ◌++◌, ltb, length, Option, Some, None, Result}
 use Rattle.mrd_numbers.specs.Stored.{stored}
 use Rattle.mrd_logic.specs.Answer.{Answer, answered, stream, number}
 use Rattle.mrd_logic.specs.Checks.{Check, ◌when◌, first, unless}
 use Rattle.mrd_format.specs.declared.rules.Rules.{Rules}
 use Rattle.mrd_format.specs.declared.rules.Profile.{Profile}
 use Rattle.mrd_format.specs.declared.kind.Kind.{Kind}
-use Rattle.mrd_format.specs.declared.kind.Identified.{Identified}
-use Rattle.mrd_format.specs.declared.kind.Identified.TheVariants.{Known, Unknown}
+use Rattle.mrd_format.specs.declared.refusal.Refusal.{Refusal}
+use Rattle.mrd_format.specs.Refusals.{answer_in}
 use Rattle.mrd_format.specs.Kinds.{identified}
 use Rattle.mrd_format.specs.Parts.{Contents}
 use Rattle.mrd_format.specs.Content.{message_of}
 use Rattle.mrd_format.specs.Profiles.{texts_in, encoded}
 use Rattle.mrd_write_checks.specs.WriteChecks.{lengths_of, given_size, given_checks, judged}
-use Rattle.mrd_writer.specs.declared.answer.WriteAnswer.{WriteAnswer}
 
--- what each case of the enum says: the position after the message, or 'the number alone'
-abbrev pub write_meaning : WriteAnswer → Answer ℕ
-write_meaning (WriteAnswer.To p) = answered p
-write_meaning (WriteAnswer.Refused n) = number n
+-- what the writer's answer says: the position after the message, or 'the number alone'
+abbrev pub write_meaning : Result ℕ Refusal → Answer ℕ
+write_meaning r = answer_in (λ p. p) r
 
 -- what is given, judged
 abbrev pub judged_contents : Kind → Contents → Answer ℕ
@@ -44,9 +42,9 @@ room_checks at z o = (14 when ltb (length o) (at + z)) ∷ []
 unfoldable pub write_checks : Profile → Kind → Contents → ℕ → List ℕ → List Check
 write_checks f k c at o = contents_checks k c ++ (text_checks f c ++ room_checks at (contents_size k c) o)
 
-unfoldable pub answer_as : Profile → Identified → Contents → ℕ → List ℕ → Answer ℕ
-answer_as f Unknown c at o = number 2
-answer_as f (Known k) c at o = unless (first (write_checks f k c at o)) number (answered (at + contents_size k c))
+unfoldable pub answer_as : Profile → Option Kind → Contents → ℕ → List ℕ → Answer ℕ
+answer_as f None c at o = number 2
+answer_as f (Some k) c at o = unless (first (write_checks f k c at o)) number (answered (at + contents_size k c))
 
 -- the answer
 unfoldable pub write_answer : Rules → ℕ → Contents → ℕ → List ℕ → Answer ℕ
@@ -58,18 +56,18 @@ stored_by (answered p) m at o = stored at m o
 stored_by (stream f r b) m at o = o
 stored_by (number n) m at o = o
 
-unfoldable pub output_as : Profile → Identified → Contents → ℕ → List ℕ → List ℕ
-output_as f Unknown c at o = o
-output_as f (Known k) c at o = stored_by (answer_as f (Known k) c at o) (message_of k c) at o
+unfoldable pub output_as : Profile → Option Kind → Contents → ℕ → List ℕ → List ℕ
+output_as f None c at o = o
+output_as f (Some k) c at o = stored_by (answer_as f (Some k) c at o) (message_of k c) at o
 
 -- the output as it is left
 unfoldable pub write_output : Rules → ℕ → Contents → ℕ → List ℕ → List ℕ
 write_output rules id c at o = output_as rules.profile (identified rules id) c at o
 
 -- a call by these rules that answers r and leaves out, where the id, c, the position and the output o were given
-abbrev pub Writes : Rules → WriteAnswer → List ℕ → ℕ → Contents → ℕ → List ℕ → Type 0
+abbrev pub Writes : Rules → Result ℕ Refusal → List ℕ → ℕ → Contents → ℕ → List ℕ → Type 0
 Writes rules r out id c at o = (write_meaning r ≡ write_answer rules id c at o) × (out ≡ write_output rules id c at o)
 
 -- the same for a kind that is known
-abbrev pub Stores : Profile → WriteAnswer → List ℕ → Kind → Contents → ℕ → List ℕ → Type 0
-Stores f r out k c at o = (write_meaning r ≡ answer_as f (Known k) c at o) × (out ≡ output_as f (Known k) c at o)
+abbrev pub Stores : Profile → Result ℕ Refusal → List ℕ → Kind → Contents → ℕ → List ℕ → Type 0
+Stores f r out k c at o = (write_meaning r ≡ answer_as f (Some k) c at o) × (out ≡ output_as f (Some k) c at o)

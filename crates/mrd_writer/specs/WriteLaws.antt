@@ -1,6 +1,6 @@
 -- The writer's answer and output, one law for each way that it ends.
 -- Assumes nothing.
-use Rattle.std.specs.Prelude.{ℕ, ◌+◌, ◌≤◌, ◌<◌, ◌≡◌, refl, true, false, List, ◌++◌, length, drop}
+use Rattle.std.specs.Prelude.{ℕ, ◌+◌, ◌≤◌, ◌<◌, ◌≡◌, refl, true, false, List, ◌++◌, length, drop, Option, Some, None}
 use Rattle.std.proofs.Common.{arith, sym, ◌∙◌, lt-ltb, le-ltb}
 use Rattle.std.proofs.Math.Path.{ap}
 use Rattle.mrd_numbers.specs.Little.{to_bytes}
@@ -12,8 +12,6 @@ use Rattle.mrd_logic.specs.CheckLaws.{first_next, unless-fault, lacking, lacking
 use Rattle.mrd_format.specs.declared.rules.Rules.{Rules}
 use Rattle.mrd_format.specs.declared.rules.Profile.{Profile}
 use Rattle.mrd_format.specs.declared.kind.Kind.{Kind}
-use Rattle.mrd_format.specs.declared.kind.Identified.{Identified}
-use Rattle.mrd_format.specs.declared.kind.Identified.TheVariants.{Known, Unknown}
 use Rattle.mrd_format.specs.Kinds.{id_of, identified}
 use Rattle.mrd_format.specs.Parts.{Contents}
 use Rattle.mrd_format.specs.Message.{own_checks}
@@ -28,11 +26,11 @@ use Rattle.mrd_writer.specs.Written.{sound-ready, content-length}
 
 -- both halves of what a function ensures: its answer, and the output as it leaves it
 abbrev pub Ends : Profile → Kind → Contents → ℕ → List ℕ → Answer ℕ → List ℕ → Type 0
-Ends f k c at o a o' = (a ≡ answer_as f (Known k) c at o) × (o' ≡ output_as f (Known k) c at o)
+Ends f k c at o a o' = (a ≡ answer_as f (Some k) c at o) × (o' ≡ output_as f (Some k) c at o)
 
 module _ (f : Profile) (k : Kind) (c : Contents) (at : ℕ) (o : List ℕ) where
   -- the output by the answer
-  ends-refused : {x : ℕ} → answer_as f (Known k) c at o ≡ number x → Ends f k c at o (number x) o
+  ends-refused : {x : ℕ} → answer_as f (Some k) c at o ≡ number x → Ends f k c at o (number x) o
   unfolding output_as
   ends-refused e = (sym e, rw e)
 
@@ -45,7 +43,7 @@ module _ (f : Profile) (k : Kind) (c : Contents) (at : ℕ) (o : List ℕ) where
 
   -- it passes, and makes a message of size z: check 21 decides, and then 14
   module _ {z : ℕ} (e : judged_contents k c ≡ answered z) where
-    late : answer_as f (Known k) c at o ≡ unless (first (text_checks f c ++ room_checks at z o)) number (answered (at + z))
+    late : answer_as f (Some k) c at o ≡ unless (first (text_checks f c ++ room_checks at z o)) number (answered (at + z))
     unfolding answer_as write_checks
     late =
         let d = judged-answered k c e in
@@ -58,7 +56,7 @@ module _ (f : Profile) (k : Kind) (c : Contents) (at : ℕ) (o : List ℕ) where
     pub not-encoded : encoded f (texts_in c.parts) ≡ false → Ends f k c at o (number 21) o
     not-encoded x = ends-refused (late ∙ rw x)
 
-    last : encoded f (texts_in c.parts) ≡ true → answer_as f (Known k) c at o ≡ unless (first (room_checks at z o)) number (answered (at + z))
+    last : encoded f (texts_in c.parts) ≡ true → answer_as f (Some k) c at o ≡ unless (first (room_checks at z o)) number (answered (at + z))
     last x = late ∙ rw x
 
     pub no_room : encoded f (texts_in c.parts) ≡ true → length o < at + z → Ends f k c at o (number 14) o
@@ -76,7 +74,7 @@ module _ (f : Profile) (k : Kind) (c : Contents) (at : ℕ) (o : List ℕ) where
         y ≡ front (bytes_after_id k c) (part_from (at + 2) (returned at o x)) → Ends f k c at o (answered (at + z)) (returned (at + 2) (returned at o x) y)
     unfolding output_as message_of
     room encodes h id x y i p q =
-        let a : answer_as f (Known k) c at o ≡ answered (at + z) = last encodes ∙ rw (le-ltb _ _ h) in
+        let a : answer_as f (Some k) c at o ≡ answered (at + z) = last encodes ∙ rw (le-ltb _ _ h) in
         let first : returned at o x ≡ stored at (to_bytes 2 id) o = stored-part at o (to_bytes 2 id) x p in
         let second : returned (at + 2) (returned at o x) y ≡ stored (at + 2) (bytes_after_id k c) (returned at o x) =
         stored-part (at + 2) (returned at o x) (bytes_after_id k c) y q in
@@ -85,12 +83,12 @@ module _ (f : Profile) (k : Kind) (c : Contents) (at : ℕ) (o : List ℕ) where
         (sym a, rw (a, ← i) (second ∙ ap (stored (at + 2) (bytes_after_id k c)) first ∙ whole))
 
 -- a kind that is known, and an id that is not in the table
-pub write_known : (rules : Rules) (id : ℕ) (k : Kind) (c : Contents) (at : ℕ) (o o' : List ℕ) (a : Answer ℕ) → identified rules id ≡ Known k →
+pub write_known : (rules : Rules) (id : ℕ) (k : Kind) (c : Contents) (at : ℕ) (o o' : List ℕ) (a : Answer ℕ) → identified rules id ≡ Some k →
     Ends rules.profile k c at o a o' → (a ≡ write_answer rules id c at o) × (o' ≡ write_output rules id c at o)
 unfolding write_answer write_output
 write_known rules id k c at o o' a e p = (rw e p.0, rw e p.1)
 
-pub write_unknown : (rules : Rules) (id : ℕ) (c : Contents) (at : ℕ) (o : List ℕ) → identified rules id ≡ Unknown →
+pub write_unknown : (rules : Rules) (id : ℕ) (c : Contents) (at : ℕ) (o : List ℕ) → identified rules id ≡ None →
     (number 2 ≡ write_answer rules id c at o) × (o ≡ write_output rules id c at o)
 unfolding write_answer write_output answer_as output_as
 write_unknown rules id c at o e = (rw e, rw e)
@@ -108,9 +106,9 @@ pub never_9 : (rules : Rules) (id : ℕ) (c : Contents) (at : ℕ) (o : List ℕ
 unfolding write_answer answer_as
 never_9 rules id c at o e = by-id (identified rules id) e
   where
-    by-id : (i : Identified) → answer_as rules.profile i c at o ≡ number 9 → ⊥
-    by-id Unknown e = let z : ◌≡◌ {A = ℕ} 2 9 = cc in omega arith
-    by-id (Known k) e =
+    by-id : (i : Option Kind) → answer_as rules.profile i c at o ≡ number 9 → ⊥
+    by-id None e = let z : ◌≡◌ {A = ℕ} 2 9 = cc in omega arith
+    by-id (Some k) e =
         let x = first (write_checks rules.profile k c at o) in
         let p = unless-fault x number (answered (at + contents_size k c)) answered-not-number e in
         let nine : x ≡ 9 = cc p.0 in

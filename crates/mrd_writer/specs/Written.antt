@@ -1,6 +1,6 @@
 -- The message that the writer makes of what it is given, read again: its lengths are those that were given, and it is well formed.
 -- Assumes nothing.
-use Rattle.std.specs.Prelude.{ℕ, ◌+◌, ◌≡◌, refl, true, List, [], ◌++◌, length}
+use Rattle.std.specs.Prelude.{ℕ, ◌+◌, ◌≡◌, refl, true, List, [], ◌++◌, length, Some}
 use Rattle.std.proofs.Common.{le_of_eq, arith, sym, ap, ap₂, ◌∙◌, inr, append-nil}
 use Rattle.mrd_numbers.specs.Little.{to_bytes, num}
 use Rattle.mrd_numbers.specs.HalfLaws.{read_after_write}
@@ -11,7 +11,6 @@ use Rattle.mrd_format.specs.declared.rules.Layout.{Layout}
 use Rattle.mrd_format.specs.declared.rules.Rules.{Rules}
 use Rattle.mrd_format.specs.declared.kind.Kind.{Kind}
 use Rattle.mrd_format.specs.declared.kind.Kind.TheVariants.{ConfigurationName, ConfigurationText, HeaderText, Close, Text, Acquisition, Image, Waveform}
-use Rattle.mrd_format.specs.declared.kind.Identified.TheVariants.{Known}
 use Rattle.mrd_format.specs.Kinds.{id_of, identified}
 use Rattle.mrd_format.specs.IdLaws.{known-id}
 use Rattle.mrd_format.specs.Segments.{name_length}
@@ -51,7 +50,7 @@ written-id Image c = refl
 written-id (Waveform l) c = refl
 
 -- so by rules that gave its kind, the message is of that kind again
-pub written_known : (rules : Rules) (id : ℕ) (k : Kind) (c : Contents) → identified rules id ≡ Known k → identified rules (id_at (message_of k c)) ≡ Known k
+pub written_known : (rules : Rules) (id : ℕ) (k : Kind) (c : Contents) → identified rules id ≡ Some k → identified rules (id_at (message_of k c)) ≡ Some k
 written_known rules id k c known = rw (written-id k c, ← known-id rules id known) known
 
 -- the checked fixed part is the one that is made
@@ -193,7 +192,7 @@ unfolding contents_record
 written-texts k c s = ap (λ (r : Record). texts_in r.parts) (made-record k c (sound-fitting k c s))
 
 -- so what is written by rules that gave the kind is a well-formed message
-abbrev pub written-well : (rules : Rules) (id : ℕ) (k : Kind) (c : Contents) → identified rules id ≡ Known k → Sound k c →
+abbrev pub written-well : (rules : Rules) (id : ℕ) (k : Kind) (c : Contents) → identified rules id ≡ Some k → Sound k c →
     Encoded rules.profile (texts_in c.parts) → WellFormed rules (message_of k c)
 written-well rules id k c known s texts =
     let fixed : fixed_part k (message_of k c) ≡ fixed_of k c = made-fixed k c (sound-fitting k c s) in

@@ -4,8 +4,7 @@
 // refusal changes no byte of the output, and a message no byte before or after itself. Assumes nothing.
 #![tactic(auto)]
 
-mod answer;
 mod writer;
 
-pub use answer::WriteAnswer;
+pub use mrd_write_checks::Message;
 pub use writer::write;

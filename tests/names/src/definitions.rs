@@ -211,8 +211,8 @@ fn declared(line: &str) -> Option<&str> {
     for word in words {
         match word {
             "pub" | "const" => public = true,
-            "abbrev" | "unfoldable" | "record" | "data" | "struct" | "enum" | "fn" | "extern"
-            | "\"C\"" => {}
+            "abbrev" | "unfoldable" | "record" | "data" | "struct" | "enum" | "trait" | "fn"
+            | "extern" | "\"C\"" => {}
             _ if !public => return None,
             name => {
                 let end = name.find(['(', ':', '<']).unwrap_or(name.len());
@@ -377,38 +377,8 @@ pub fn kinds(sources: &Sources) -> Vec<Kind> {
     lines_of(text, "id_of").map(kind).collect()
 }
 
-/// The constants of a program text, with the comments right above them.
-fn constants(text: &str) -> Vec<Named> {
-    let mut found = Vec::new();
-    let mut comment = String::new();
-    for line in text.lines().map(str::trim) {
-        if let Some(words) = line.strip_prefix("// ") {
-            let between = if comment.is_empty() { "" } else { " " };
-            comment = format!("{comment}{between}{words}");
-        } else {
-            if let Some((name, value)) = line
-                .strip_prefix("pub const ")
-                .and_then(|c| c.split_once(':'))
-            {
-                let number = value
-                    .rsplit(' ')
-                    .next()
-                    .expect("a value")
-                    .trim_end_matches(';');
-                found.push(Named {
-                    name: name.to_string(),
-                    number: number.parse().expect("a number"),
-                    comment: comment.clone(),
-                });
-            }
-            comment.clear();
-        }
-    }
-    found
-}
-
 pub fn refusals(sources: &Sources) -> Vec<Named> {
-    let found = constants(sources.text("mrd_format/src/refusal.rt"));
+    let found = variants(sources.text("mrd_format/src/refusal.rt"));
     for (i, refusal) in found.iter().enumerate() {
         assert_eq!(refusal.number, i + 1, "the refusals are numbered from 1 on");
         assert!(
@@ -420,8 +390,32 @@ pub fn refusals(sources: &Sources) -> Vec<Named> {
     found
 }
 
+/// The variants of a program text's enum and their numbers, each named as a constant, `FIRST_IN_SLICE` for
+/// `FirstInSlice`, with the comments right above them.
+fn variants(text: &str) -> Vec<Named> {
+    let mut found = Vec::new();
+    let mut comment = String::new();
+    for line in text.lines().map(str::trim) {
+        if let Some(words) = line.strip_prefix("// ") {
+            let between = if comment.is_empty() { "" } else { " " };
+            comment = format!("{comment}{between}{words}");
+            continue;
+        }
+        let row = line.strip_suffix(',').and_then(|row| row.split_once(" = "));
+        if let Some((name, Ok(number))) = row.map(|(name, number)| (name, number.parse())) {
+            found.push(Named {
+                name: crate::c::upper(name),
+                number,
+                comment: comment.clone(),
+            });
+        }
+        comment.clear();
+    }
+    found
+}
+
 pub fn flags(sources: &Sources) -> Vec<Named> {
-    constants(sources.text("mrd_flags/src/acquisition_flag.rt"))
+    variants(sources.text("mrd_flags/src/acquisition_flag.rt"))
 }
 
 /// The element sizes of image data types 1 to 8.

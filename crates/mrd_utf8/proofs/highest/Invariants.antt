@@ -1,11 +1,6 @@
--- `mrd_utf8::highest` meets its contract. The loop's invariant: none of the first i octets is above `high`. The measure is what is
--- left of s. Assumes nothing.
-use Prim.Native.Nat.{ℕ, ◌-◌, ◌≤◌, ◌<◌}
-use lib.ListN.{length, get_or}
+-- None of the octets so far is above `high`.
+use Rattle.std.proofs.Common.{ℕ, ◌≤◌, ◌<◌, get_or}
 use Rattle.mrd_utf8.proofs.highest.Given as goal
 
-abbrev pub invariant-loop-i : goal.invariant-loop-i
-invariant-loop-i l = (j : ℕ) → j < l.i → get_or l.s j 0 ≤ l.high
-
-abbrev pub decreases-loop-i : goal.decreases-loop-i
-decreases-loop-i l = length l.s - l.i
+abbrev pub invariant-loop-octet : goal.invariant-loop-octet
+invariant-loop-octet l = (j : ℕ) → j < l.octet-index → get_or l.s j 0 ≤ l.high

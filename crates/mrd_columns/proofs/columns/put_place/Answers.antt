@@ -5,29 +5,14 @@ use Rattle.mrd_tagged.specs.TaggedLaws.{set-stored}
 use Rattle.mrd_columns.specs.ColumnLaws.{place-there}
 use Rattle.mrd_columns.proofs.columns.put_place.Goals as goal
 
-pub returns-then-starts-n-clause-starts_after : goal.returns-then-starts-n-clause-starts_after
-returns-then-starts-n-clause-starts_after c =
+pub returns-then-starts-n : goal.returns-then-starts-n
+returns-then-starts-n c = absurd (place-there c.args.n _ _ _ c.requires c.if-starts-n.true)
+
+pub returns : goal.returns
+returns c =
     let a = c.args in
-    absurd (place-there a.n _ _ _ c.requires c.if-starts-n.true)
-
-pub returns-then-starts-n-clause-ids_after : goal.returns-then-starts-n-clause-ids_after
-returns-then-starts-n-clause-ids_after c =
-    let a = c.args in
-    absurd (place-there a.n _ _ _ c.requires c.if-starts-n.true)
-
-pub returns-then-starts-n-clause-counters_after : goal.returns-then-starts-n-clause-counters_after
-returns-then-starts-n-clause-counters_after c =
-    let a = c.args in
-    absurd (place-there a.n _ _ _ c.requires c.if-starts-n.true)
-
-pub returns-clause-starts_after : goal.returns-clause-starts_after
-returns-clause-starts_after c =
-    let a = c.args in set-stored a.starts.now a.n a.entry.start (omega (arith, c.requires.starts))
-
-pub returns-clause-ids_after : goal.returns-clause-ids_after
-returns-clause-ids_after c =
-    let a = c.args in set-stored a.ids.now a.n a.entry.id (omega (arith, c.requires.ids))
-
-pub returns-clause-counters_after : goal.returns-clause-counters_after
-returns-clause-counters_after c =
-    let a = c.args in set-stored a.counters.now a.n a.entry.counter (omega (arith, c.requires.counters))
+    record {
+      starts_after = set-stored a.starts.now a.n a.entry.start (omega (arith, c.requires.starts));
+      ids_after = set-stored a.ids.now a.n a.entry.id (omega (arith, c.requires.ids));
+      counters_after = set-stored a.counters.now a.n a.entry.counter (omega (arith, c.requires.counters));
+    }

@@ -9,100 +9,68 @@ use Rattle.mrd_logic.specs.Answer.{answered}
 use Rattle.mrd_format.specs.Elements.{u16, u32, u64, i32, f32}
 use Rattle.mrd_counter_step.specs.Counters as counters
 use Rattle.mrd_element.specs.Element.{none, whole, signed, float}
-use Rattle.mrd_element.specs.ElementLaws.{meant, FoundElement, found-by_letter, absent-by_letter}
+use Rattle.mrd_element.specs.ElementLaws.{meant, found-by_letter, absent-by_letter}
 use borrow.Author.Rules.{rules}
 use Rattle.mrd_element.proofs.element.read_element.Goals as goal
 
-pub read_u16-requires : goal.read_u16-requires
-read_u16-requires c =
-    let at-u16 :
-    FoundElement c.args.kind c.args.h.now c.args.offset u16 =
-    found-by_letter _ _ _ u16 c.requires (sym c.letter.ensures ∙ c.in-72.is) in
-    at-u16.inside
+pub read-requires : goal.read-requires
+read-requires c =
+    let a = c.args in (found-by_letter a.fixed.kind a.fixed.bytes.now a.offset u16 a.fixed.long (cc)).inside
 
-pub read_u32-requires : goal.read_u32-requires
-read_u32-requires c =
-    let at-u32 :
-    FoundElement c.args.kind c.args.h.now c.args.offset u32 =
-    found-by_letter _ _ _ u32 c.requires (sym c.letter.ensures ∙ c.in-73.is) in
-    at-u32.inside
+pub read-requires-in-73 : goal.read-requires-in-73
+read-requires-in-73 c =
+    let a = c.args in (found-by_letter a.fixed.kind a.fixed.bytes.now a.offset u32 a.fixed.long (cc)).inside
 
-pub read_u64-requires : goal.read_u64-requires
-read_u64-requires c =
-    let at_u64 :
-    FoundElement c.args.kind c.args.h.now c.args.offset u64 =
-    found-by_letter _ _ _ u64 c.requires (sym c.letter.ensures ∙ c.in-81.is) in
-    at_u64.inside
+pub read-requires-in-81 : goal.read-requires-in-81
+read-requires-in-81 c =
+    let a = c.args in (found-by_letter a.fixed.kind a.fixed.bytes.now a.offset u64 a.fixed.long (cc)).inside
 
-pub read_u32-requires-in-105 : goal.read_u32-requires-in-105
-read_u32-requires-in-105 c =
-    let at-i32 :
-    FoundElement c.args.kind c.args.h.now c.args.offset i32 =
-    found-by_letter _ _ _ i32 c.requires (sym c.letter.ensures ∙ c.in-105.is) in
-    at-i32.inside
+pub read-requires-in-105 : goal.read-requires-in-105
+read-requires-in-105 c =
+    let a = c.args in (found-by_letter a.fixed.kind a.fixed.bytes.now a.offset i32 a.fixed.long (cc)).inside
 
-pub read_u32-requires-in-102 : goal.read_u32-requires-in-102
-read_u32-requires-in-102 c =
-    let at-f32 :
-    FoundElement c.args.kind c.args.h.now c.args.offset f32 =
-    found-by_letter _ _ _ f32 c.requires (sym c.letter.ensures ∙ c.in-102.is) in
-    at-f32.inside
+pub read-requires-in-102 : goal.read-requires-in-102
+read-requires-in-102 c =
+    let a = c.args in (found-by_letter a.fixed.kind a.fixed.bytes.now a.offset f32 a.fixed.long (cc)).inside
 
 pub returns-in-72 : goal.returns-in-72
 returns-in-72 c =
-    let at-u16 :
-    FoundElement c.args.kind c.args.h.now c.args.offset u16 =
-    found-by_letter _ _ _ u16 c.requires (sym c.letter.ensures ∙ c.in-72.is) in
-    record { says = cc at-u16.value; apart = tt }
+    let a = c.args in
+    let found = found-by_letter a.fixed.kind a.fixed.bytes.now a.offset u16 a.fixed.long (cc) in
+    record { says = ap answered (ap whole c.read.ensures) ∙ sym found.value; apart = tt }
 
 pub returns-in-73 : goal.returns-in-73
 returns-in-73 c =
-    let at-u32 :
-    FoundElement c.args.kind c.args.h.now c.args.offset u32 =
-    found-by_letter _ _ _ u32 c.requires (sym c.letter.ensures ∙ c.in-73.is) in
-    record { says = cc at-u32.value; apart = tt }
+    let a = c.args in
+    let found = found-by_letter a.fixed.kind a.fixed.bytes.now a.offset u32 a.fixed.long (cc) in
+    record { says = ap answered (ap whole c.read-in-73.ensures) ∙ sym found.value; apart = tt }
 
 pub returns-in-81 : goal.returns-in-81
 returns-in-81 c =
-    let at_u64 :
-    FoundElement c.args.kind c.args.h.now c.args.offset u64 =
-    found-by_letter _ _ _ u64 c.requires (sym c.letter.ensures ∙ c.in-81.is) in
-    record { says = ap answered (ap whole c.read_u64.ensures) ∙ sym at_u64.value; apart = tt }
+    let a = c.args in
+    let found = found-by_letter a.fixed.kind a.fixed.bytes.now a.offset u64 a.fixed.long (cc) in
+    record { says = ap answered (ap whole c.read-in-81.ensures) ∙ sym found.value; apart = tt }
 
 pub returns-in-105 : goal.returns-in-105
 returns-in-105 c =
-    let at-i32 :
-    FoundElement c.args.kind c.args.h.now c.args.offset i32 =
-    found-by_letter _ _ _ i32 c.requires (sym c.letter.ensures ∙ c.in-105.is) in
-    record {
-      says = ap (λ z. answered (signed z))
-          (to_z-of_z w32
-          c.as_signed.result (search rules) ∙ c.as_signed.ensures ∙ ap counters.signed
-          c.read_u32-in-105.ensures) ∙ sym
-          at-i32.value;
-      apart = tt;
-    }
+    let a = c.args in
+    let found = found-by_letter a.fixed.kind a.fixed.bytes.now a.offset i32 a.fixed.long (cc) in
+    let same = to_z-of_z w32 c.as_signed.result (search rules) in
+    let read = c.as_signed.ensures ∙ ap counters.signed c.read-in-105.ensures in
+    record { says = ap (λ z. answered (signed z)) (same ∙ read) ∙ sym found.value; apart = tt }
 
 pub returns-in-102 : goal.returns-in-102
 returns-in-102 c =
-    let at-f32 :
-    FoundElement c.args.kind c.args.h.now c.args.offset f32 =
-    found-by_letter _ _ _ f32 c.requires (sym c.letter.ensures ∙ c.in-102.is) in
-    record {
-      says = ap answered (c.float_of.ensures.says ∙ ap float c.read_u32-in-102.ensures) ∙ sym at-f32.value;
-      apart = c.float_of.ensures.apart;
-    }
+    let a = c.args in
+    let found = found-by_letter a.fixed.kind a.fixed.bytes.now a.offset f32 a.fixed.long (cc) in
+    let says = c.float_of.ensures.says ∙ ap float c.read-in-102.ensures in
+    record { says = ap answered says ∙ sym found.value; apart = c.float_of.ensures.apart }
 
 pub returns-in_default : goal.returns-in_default
 returns-in_default c =
     let a = c.args in
+    let rest = c.in_default.in_default-own.rest in
     let means : meant c.letter.result ≡ none =
-    simp (
-      ne_eqb _ _ c.in_default.in_default-own.rest.1,
-      ne_eqb _ _ c.in_default.in_default-own.rest.0.1,
-      ne_eqb _ _ c.in_default.in_default-own.rest.0.0.1,
-      ne_eqb _ _ c.in_default.in_default-own.rest.0.0.0.1,
-      ne_eqb _ _ c.in_default.in_default-own.rest.0.0.0.0.1,
-    ) in
-    let absent = absent-by_letter a.kind a.h.now a.offset (ap meant (sym c.letter.ensures) ∙ means) in
+    simp (ne_eqb _ _ rest.1, ne_eqb _ _ rest.0.1, ne_eqb _ _ rest.0.0.1, ne_eqb _ _ rest.0.0.0.1, ne_eqb _ _ rest.0.0.0.0.1) in
+    let absent = absent-by_letter a.fixed.kind a.fixed.bytes.now a.offset (ap meant (sym c.letter.ensures) ∙ means) in
     record { says = sym absent; apart = tt }

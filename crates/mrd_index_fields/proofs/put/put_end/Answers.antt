@@ -12,4 +12,4 @@ pub returns : goal.returns
 returns c =
     let a = c.args in
     two-stored a.out.now (heading 4 4) (to_bytes 4 a.count) a.at (a.at + 3) c.put_tag.ensures
-    c.put_u32_at.ensures refl (omega (arith, c.requires))
+    c.put_at.ensures refl (omega (arith, c.requires))

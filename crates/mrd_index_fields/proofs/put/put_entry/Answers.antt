@@ -16,4 +16,4 @@ returns c =
     let a = c.args in
     four-stored a.out.now (heading 3 14) (to_bytes 8 a.entry.start) (to_bytes 2 a.entry.id) (to_bytes 4 a.entry.counter)
     a.at (a.at + 3) (a.at + 11) (a.at + 13) refl (omega arith) (omega arith) (omega (arith, c.requires)) c.put_tag.ensures
-    c.put_u64_at.ensures c.put_u16_at.ensures c.put_u32_at.ensures
+    c.put_at.ensures c.put_at-2.ensures c.put_at-3.ensures

@@ -11,5 +11,5 @@ pub returns : goal.returns
 returns c =
     let a = c.args in
     four-stored a.out.now (heading 1 2) (to_bytes 2 1) (heading 2 8) (to_bytes 8 a.total) 0 3 5 8 refl refl refl
-    (omega (arith, c.requires)) c.put_tag.ensures c.put_u16_at.ensures
-    c.put_tag-2.ensures c.put_u64_at.ensures
+    (omega (arith, c.requires)) c.put_tag.ensures c.put_at.ensures
+    c.put_tag-2.ensures c.put_at-2.ensures

@@ -17,6 +17,6 @@ returns-then-file-at c =
 pub returns : goal.returns
 returns c =
     let a = c.args in
-    rw (c.tag_same.ensures, c.u32_same.ensures)
+    rw (c.tag_same.ensures, c.same_at.ensures)
     (sym (rest-long a.file.now (end_field a.count) a.at (omega arith) (omega (arith, c.if-file-at.false)) ∙
     begins-next a.file.now (heading 4 4) (to_bytes 4 a.count) a.at (a.at + 3) refl))

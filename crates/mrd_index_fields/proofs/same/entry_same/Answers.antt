@@ -19,6 +19,6 @@ returns-then-file-at c =
 pub returns : goal.returns
 returns c =
     let a = c.args in
-    rw (c.tag_same.ensures, c.u64_same.ensures, c.u16_same.ensures, c.u32_same.ensures)
+    rw (c.tag_same.ensures, c.same_at-3.ensures, c.same_at.ensures, c.same_at-2.ensures)
     (four_same a.file.now (heading 3 14) (to_bytes 8 a.entry.start) (to_bytes 2 a.entry.id) (to_bytes 4 a.entry.counter)
     a.at (a.at + 3) (a.at + 11) (a.at + 13) refl (omega arith) (omega arith))

@@ -17,5 +17,5 @@ returns-then-file-lt-FRONT c =
 pub returns : goal.returns
 returns c =
     let a = c.args in
-    rw (c.tag_same-2.ensures, c.u16_same.ensures, c.tag_same.ensures, c.u64_same.ensures)
+    rw (c.tag_same-2.ensures, c.same_at-2.ensures, c.tag_same.ensures, c.same_at.ensures)
     (four_same a.file.now (heading 1 2) (to_bytes 2 1) (heading 2 8) (to_bytes 8 a.total) 0 3 5 8 refl refl refl)

@@ -3,12 +3,13 @@
 -- Assumes nothing.
 use Prim.Native.Nat.{◌-◌}
 use lib.ListN.{length}
-use Rattle.mrd_index_match.specs.Compare.{given}
 use Rattle.mrd_index_match.specs.Comparing.{Comparing}
 use Rattle.mrd_index_match.proofs.compare.compare.Given as goal
 
 abbrev pub invariant-loop-record : goal.invariant-loop-record
-invariant-loop-record l = Comparing l.rules (given l.form l.file l.starts l.ids l.counters) l.front l.s l.c l.same
+invariant-loop-record g l =
+    let m = g.G.GivenIndex in
+    Comparing l.rules (m.entry_by l.given) (m.front_by l.given (length l.s)) l.s l.c l.same
 
 abbrev pub decreases-loop-record : goal.decreases-loop-record
-decreases-loop-record l = length l.s - l.c.start
+decreases-loop-record g l = length l.s - l.c.start

@@ -8,7 +8,7 @@ use Rattle.mrd_normal.proofs.messages.fill_name.Goals as goal
 
 pub returns : goal.returns
 returns c =
-    let name = c.name_length-length in
+    let name = c.length-length in
     let o = c.args.out.now in
     stored-part (2 + name.result) o (replicate (1024 - name.result) 0) _
     (c.put_zeros.ensures ∙ rw (length-replicate {A = ℕ} (1024 - name.result) 0)) ∙

@@ -11,5 +11,5 @@ pub returns : goal.returns
 returns c =
     let length = c.attribute_length-length in
     let o = c.args.out.now in
-    stored-part 196 o (to_bytes 4 length.result) _ (c.put_u32.ensures ∙ rw length-to_bytes) ∙
+    stored-part 196 o (to_bytes 4 length.result) _ (c.put.ensures ∙ rw length-to_bytes) ∙
     ap (λ (n : ℕ). stored 196 (to_bytes 4 n) o) length.ensures

@@ -13,23 +13,20 @@ use Rattle.mrd_normal.specs.MessageOf.{its-size, its-least, copied-whole, name-r
 use borrow.Enum.Refused.{opened}
 use Rattle.mrd_normal.proofs.messages.put_message.Goals as goal
 
-pub fixed_part-requires : goal.fixed_part-requires
-fixed_part-requires c =
+pub of-requires : goal.of-requires
+of-requires c =
     its-least c.args.kind c.args.m.now c.requires.0
 
 pub fill_name-requires : goal.fill_name-requires
 fill_name-requires c =
-    name-ready c.args.kind c.args.m.now c.requires.0 c.fixed_part.ensures
-    (c.copy.ensures.1 ∙ copied-whole c.args.m.now c.args.out.now c.requires.1) c.in-ConfigurationName.is
-
-pub fixed_part-requires-in-Image : goal.fixed_part-requires-in-Image
-fixed_part-requires-in-Image c =
-    its-least c.args.kind c.args.m.now c.requires.0
+    (name-ready c.args.kind c.args.m.now c.requires.0 c.of.ensures.bytes
+    (c.copy.ensures.1 ∙ copied-whole c.args.m.now c.args.out.now c.requires.1) c.in-ConfigurationName.is).1
 
 pub put_length-requires : goal.put_length-requires
 put_length-requires c =
-    image-ready c.args.kind c.args.m.now c.requires.0 c.fixed_part-in-Image.ensures
-    (c.copy.ensures.1 ∙ copied-whole c.args.m.now c.args.out.now c.requires.1) c.in-Image.is
+    let ready = image-ready c.args.kind c.args.m.now c.requires.0 c.of.ensures.bytes
+    (c.copy.ensures.1 ∙ copied-whole c.args.m.now c.args.out.now c.requires.1) c.in-Image.is in
+    (ready.1, ready.2)
 
 pub clear_waveform-requires : goal.clear_waveform-requires
 clear_waveform-requires c =
@@ -38,13 +35,13 @@ clear_waveform-requires c =
 
 pub returns-in-ConfigurationName : goal.returns-in-ConfigurationName
 returns-in-ConfigurationName c =
-    name_done c.args.kind c.args.m.now c.requires.0 c.fixed_part.ensures
+    name_done c.args.kind c.args.m.now c.requires.0 c.of.ensures.bytes
     (c.copy.ensures.1 ∙ copied-whole c.args.m.now c.args.out.now c.requires.1) c.in-ConfigurationName.is
     c.fill_name.ensures
 
 pub returns-in-Image : goal.returns-in-Image
 returns-in-Image c =
-    image-done c.args.kind c.args.m.now c.requires.0 c.fixed_part-in-Image.ensures
+    image-done c.args.kind c.args.m.now c.requires.0 c.of.ensures.bytes
     (c.copy.ensures.1 ∙ copied-whole c.args.m.now c.args.out.now c.requires.1) c.in-Image.is
     c.put_length.ensures
 

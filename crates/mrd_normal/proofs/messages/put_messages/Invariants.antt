@@ -6,8 +6,8 @@ use lib.ListN.{length}
 use Rattle.mrd_normal.specs.Putting.{Putting}
 use Rattle.mrd_normal.proofs.messages.put_messages.Given as goal
 
-abbrev pub invariant-loop-rules : goal.invariant-loop-rules
-invariant-loop-rules l = Putting l.rules l.s l.initial.out l.c l.out
+abbrev pub invariant-loop-c : goal.invariant-loop-c
+invariant-loop-c l = Putting l.rules l.s l.initial.out l.c l.out
 
-abbrev pub decreases-loop-rules : goal.decreases-loop-rules
-decreases-loop-rules l = length l.s - l.c.start
+abbrev pub decreases-loop-c : goal.decreases-loop-c
+decreases-loop-c l = length l.s - l.c.start

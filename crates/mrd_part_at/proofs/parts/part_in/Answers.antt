@@ -8,16 +8,10 @@ use Rattle.mrd_part_at.proofs.parts.part_in.Goals as goal
 pub part_holding-held-requires : goal.part_holding-held-requires
 part_holding-held-requires c =
     let a = c.args in
-    rw (c.kind.ensures, c.fixed_part.ensures) (part-asked a.s.now a.byte (record_meaning a.here) c.requires)
+    rw (c.fixed_part.ensures.kind, c.fixed_part.ensures.bytes) (part-asked a.s.now a.byte (record_meaning a.here) c.requires)
 
--- the part of the record's message that holds the byte
 pub overflow_add-result : goal.overflow_add-result
 overflow_add-result c =
     let a = c.args in
-    let told = rw (c.kind.ensures, c.fixed_part.ensures) at c.part_holding-held.ensures in
+    let told = rw (c.fixed_part.ensures.kind, c.fixed_part.ensures.bytes) at c.part_holding-held.ensures in
     omega (arith, part-starts a.s.now a.byte (record_meaning a.here) c.requires told, c.ranges)
-
-pub returns : goal.returns
-returns c =
-    let told = rw (c.kind.ensures, c.fixed_part.ensures) at c.part_holding-held.ensures in
-    rw (← told)

@@ -10,5 +10,5 @@ pub returns : goal.returns
 returns c =
     let header = c.args.header.now in
     header-put (take 194 header) c.args.count (length-take-le 194 header (omega (arith, c.requires.0))) c.args.out.now
-    c.copy.new.out c.put_u32.new.out c.put_u64.new.out c.requires.2
-    c.copy.ensures.1 c.put_u32.ensures c.put_u64.ensures
+    c.copy.new.out c.put.new.out c.put-2.new.out c.requires.2
+    c.copy.ensures.1 c.put.ensures c.put-2.ensures

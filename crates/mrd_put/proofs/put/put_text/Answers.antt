@@ -6,5 +6,5 @@ use Rattle.mrd_put.proofs.put.put_text.Goals as goal
 pub returns : goal.returns
 returns c =
     text-put c.args.text.now c.args.out.now
-    c.put_u32.new.out c.copy.new.out c.requires.1
-    c.put_u32.ensures c.copy.ensures.1
+    c.put.new.out c.copy.new.out c.requires.1
+    c.put.ensures c.copy.ensures.1

@@ -6,8 +6,8 @@ use lib.ListN.{length}
 use Rattle.mrd_salvage.specs.ReachLaws.{Reaching}
 use Rattle.mrd_salvage.proofs.reach.walk.Given as goal
 
-abbrev pub invariant-loop-rules : goal.invariant-loop-rules
-invariant-loop-rules l = Reaching l.rules l.c l.last l.s
+abbrev pub invariant-loop-c : goal.invariant-loop-c
+invariant-loop-c l = Reaching l.rules l.c l.last l.s
 
-abbrev pub decreases-loop-rules : goal.decreases-loop-rules
-decreases-loop-rules l = length l.s - l.c.start
+abbrev pub decreases-loop-c : goal.decreases-loop-c
+decreases-loop-c l = length l.s - l.c.start

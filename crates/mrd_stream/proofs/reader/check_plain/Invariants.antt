@@ -7,8 +7,8 @@ use lib.ListN.{length}
 use Rattle.mrd_stream.specs.Walk.{from, verdict}
 use Rattle.mrd_stream.proofs.reader.check_plain.Given as goal
 
-abbrev pub invariant-loop-rules : goal.invariant-loop-rules
-invariant-loop-rules l = verdict (from l.rules l.c l.s) ≡ verdict (from l.rules l.initial.c l.s)
+abbrev pub invariant-loop-c : goal.invariant-loop-c
+invariant-loop-c l = verdict (from l.rules l.c l.s) ≡ verdict (from l.rules l.initial.c l.s)
 
-abbrev pub decreases-loop-rules : goal.decreases-loop-rules
-decreases-loop-rules l = length l.s - l.c.start
+abbrev pub decreases-loop-c : goal.decreases-loop-c
+decreases-loop-c l = length l.s - l.c.start

@@ -11,17 +11,17 @@ pub loop-after-smaller : goal.loop-after-smaller
 loop-after-smaller c =
     let loop = c.loop-after in
     let s = c.args.s.now in
-    on_less s (step-yields _ loop.c s (sym c.next-step.ensures ∙ ap step_meaning c.in-Message.is))
+    on_less s (step-yields _ loop.c s (sym c.next.ensures ∙ ap step_meaning c.in-Message.is))
 
 pub loop-after-preserved : goal.loop-after-preserved
 loop-after-preserved c =
     let loop = c.loop-after in
     let s = c.args.s.now in
     kept_next _ verdict s verdict loop.invariant
-    (step-yields _ loop.c s (sym c.next-step.ensures ∙ ap step_meaning c.in-Message.is)) (λ r. refl)
+    (step-yields _ loop.c s (sym c.next.ensures ∙ ap step_meaning c.in-Message.is)) (λ r. refl)
 
 pub returns-in-End : goal.returns-in-End
 returns-in-End c =
     let loop = c.loop-after in
     let s = c.args.s.now in
-    kept-end _ verdict s loop.c loop.invariant (sym c.next-step.ensures ∙ ap step_meaning c.in-End.is)
+    kept-end _ verdict s loop.c loop.invariant (sym c.next.ensures ∙ ap step_meaning c.in-End.is)

@@ -1,11 +1,11 @@
 -- `mrd_stream::place` meets its contract. The loop's invariant: seeking on from the cursor, with what was found, gives the place asked for.
 -- The measure is the bytes left.
 -- Assumes nothing.
-use mathlib.Core.Path.{sym, ap, ◌∙◌}
+use Rattle.std.proofs.Common.{sym, ap, ◌∙◌}
 use Rattle.mrd_logic.specs.Answer.{number}
 use Rattle.mrd_stream.specs.Seek.{seek, seek-place, seek-next, kept_by}
 use Rattle.mrd_stream.specs.StepLaws.{on-start, on-next, on-end, on_less, step-yields}
-use Rattle.mrd_stream.specs.ReaderMeaning.{placed_meaning, record_meaning, step_meaning}
+use Rattle.mrd_stream.specs.ReaderMeaning.{placed_meaning, record_meaning, step_meaning, refused-first, accepted-first}
 use Rattle.mrd_stream.proofs.reader.place.Goals as goal
 
 pub loop-record-init : goal.loop-record-init
@@ -17,14 +17,14 @@ pub loop-record-smaller : goal.loop-record-smaller
 loop-record-smaller c =
     let a = c.args in
     let loop = c.loop-record in
-    let next = c.next-step in
+    let next = c.next in
     on_less a.s.now (step-yields _ loop.c a.s.now (sym next.ensures ∙ ap step_meaning c.in-Message.is))
 
 pub loop-record-preserved : goal.loop-record-preserved
 loop-record-preserved c =
     let a = c.args in
     let loop = c.loop-record in
-    let next = c.next-step in
+    let next = c.next in
     let p = step-yields _ loop.c a.s.now (sym next.ensures ∙ ap step_meaning c.in-Message.is) in
     let before = placed_meaning loop.found in
     rw c.kept-found.ensures
@@ -33,11 +33,14 @@ loop-record-preserved c =
     (seek a.n (kept_by (record_meaning c.in-Message.record) a.n before)) loop.invariant p
     (seek-next a.n before loop.c p.kind p.bytes p.place))
 
+pub returns-in_err-answer-in-End : goal.returns-in_err-answer-in-End
+returns-in_err-answer-in-End c =
+    let loop = c.loop-record in
+    refused-first record_meaning loop.found _ c.in_err-answer-in-End.was c.from_residual.ensures.1
+    (on-end _ (seek c.args.n (placed_meaning loop.found)) c.args.s.now loop.invariant (sym c.next.ensures ∙ ap step_meaning c.in-End.is))
+
 pub returns-in-End : goal.returns-in-End
 returns-in-End c =
-    let a = c.args in
     let loop = c.loop-record in
-    let next = c.next-step in
-    c.concluded.ensures ∙ on-end _
-    (seek a.n (placed_meaning loop.found)) a.s.now loop.invariant
-    (sym next.ensures ∙ ap step_meaning c.in-End.is)
+    accepted-first record_meaning loop.found c.in_ok-answer-in-End.was
+    (on-end _ (seek c.args.n (placed_meaning loop.found)) c.args.s.now loop.invariant (sym c.next.ensures ∙ ap step_meaning c.in-End.is))

@@ -5,15 +5,6 @@ use Rattle.mrd_write_checks.specs.GivenLaws.{sized-text, sized_close, sized-acqu
 use Rattle.mrd_write_checks.specs.NameLaws.{sized-name}
 use Rattle.mrd_write_checks.proofs.contents.checked_size.Goals as goal
 
-pub checked_fixed-requires : goal.checked_fixed-requires
-checked_fixed-requires c = rw c.in-Acquisition.is at c.requires
-
-pub checked_image-requires : goal.checked_image-requires
-checked_image-requires c = rw c.in-Image.is at c.requires
-
-pub checked_fixed-requires-in-Waveform : goal.checked_fixed-requires-in-Waveform
-checked_fixed-requires-in-Waveform c = rw c.in-Waveform.is at c.requires
-
 pub returns-in-ConfigurationName : goal.returns-in-ConfigurationName
 returns-in-ConfigurationName c = rw c.in-ConfigurationName.is (c.checked_name.ensures ∙ sym (sized-name _ _ _))
 
@@ -33,7 +24,7 @@ pub returns-in-Acquisition : goal.returns-in-Acquisition
 returns-in-Acquisition c =
     let a = c.args in
     let long = rw c.in-Acquisition.is at c.requires in
-    rw c.in-Acquisition.is (c.checked_fixed.ensures ∙ sym (sized-acquisition a.header.now a.name.now a.given long))
+    rw c.in-Acquisition.is (rw c.in-Acquisition.is at c.checked_fixed.ensures ∙ sym (sized-acquisition a.header.now a.name.now a.given long))
 
 pub returns-in-Image : goal.returns-in-Image
 returns-in-Image c =
@@ -45,4 +36,4 @@ pub returns-in-Waveform : goal.returns-in-Waveform
 returns-in-Waveform c =
     let a = c.args in
     let long = rw c.in-Waveform.is at c.requires in
-    rw c.in-Waveform.is (c.checked_fixed-in-Waveform.ensures ∙ sym (sized-waveform _ a.header.now a.name.now a.given long))
+    rw c.in-Waveform.is (rw c.in-Waveform.is at c.checked_fixed-in-Waveform.ensures ∙ sym (sized-waveform _ a.header.now a.name.now a.given long))

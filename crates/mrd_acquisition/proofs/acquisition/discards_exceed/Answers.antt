@@ -1,6 +1,0 @@
--- `mrd_acquisition::acquisition::discards_exceed` meets its contract: the numbers are those read at their offsets.
--- Assumes nothing.
-use Rattle.mrd_acquisition.proofs.acquisition.discards_exceed.Goals as goal
-
-pub returns : goal.returns
-returns c = simp (c.read_u16.ensures, c.read_u16-2.ensures, c.read_u16-3.ensures)

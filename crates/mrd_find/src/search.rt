@@ -1,10 +1,8 @@
 // The first acquisition whose seventeen counters are those asked for.
 ghost use Rattle.std.specs.Prelude.{◌≡◌};
-ghost use Rattle.mrd_format.specs.Acquisition.{counters_of};
 ghost use Rattle.mrd_format.specs.Shapes.{kind_of};
 ghost use Rattle.mrd_find.specs.Find.{candidate, find_of};
 ghost use Rattle.mrd_find.specs.FoundMeaning.{found_meaning};
-ghost use Rattle.mrd_logic.specs.Lists.{equal};
 
 use mrd_acquisition::{AcquisitionHeader, COUNTER_COUNT};
 use mrd_cursor::Cursor;
@@ -23,18 +21,24 @@ pub fn find(
     ensures { found_meaning result ≡ find_of rules s.now n counters.now }
 {
     let mut c = Cursor::beginning();
-    loop {
+    'records: loop {
         match mrd_stream::next(rules, c, s) {
             Step::Message(here, next) => {
-                if candidate(here, n) {
-                    let fixed = FixedPart::of(Kind::Acquisition, &s[here.place.start..]);
-                    let header = AcquisitionHeader { bytes: fixed.bytes };
-                    if counters_match(header, counters) {
-                        check_from(rules, next, s)?;
-                        return Ok(here.place.number);
+                if !candidate(here, n) {
+                    c = next;
+                    continue 'records;
+                }
+                let fixed = FixedPart::of(Kind::Acquisition, &s[here.place.start..]);
+                let header = AcquisitionHeader { bytes: fixed.bytes };
+                // Most differ early, so each is read only where those before it are the same.
+                for i in 0..COUNTER_COUNT {
+                    if header.encoding_counter(i) != counters[i] {
+                        c = next;
+                        continue 'records;
                     }
                 }
-                c = next;
+                check_from(rules, next, s)?;
+                return Ok(here.place.number);
             }
             Step::End(answer) => {
                 answer?;
@@ -49,17 +53,4 @@ fn candidate(here: PlacedRecord, n: usize) -> bool
     ensures { result ≡ candidate n here.place.number (kind_of here.shape) }
 {
     n <= here.place.number && here.shape.kind().id() == Kind::ACQUISITION
-}
-
-// Whether an acquisition has these counters. Most differ early, so each is read only where those before it
-// are the same.
-fn counters_match(header: AcquisitionHeader<'_>, asked: &[u16; COUNTER_COUNT]) -> bool
-    ensures { result ≡ equal (counters_of header.entry.bytes.now) asked.now }
-{
-    for i in 0..COUNTER_COUNT {
-        if header.encoding_counter(i) != asked[i] {
-            return false;
-        }
-    }
-    true
 }

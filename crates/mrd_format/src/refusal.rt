@@ -1,4 +1,4 @@
-// Why something is refused: the errors, with their numbers. C has the same names, with `MRD_REFUSED_` before them.
+// Why something is refused: the errors, with their numbers. C has the same names in capitals, as `MRD_REFUSED_ID_CUT`.
 ghost use Rattle.std.specs.Prelude.{◌≡◌};
 ghost use Rattle.mrd_format.specs.Refusals.{number_of};
 

@@ -46,7 +46,9 @@ pub struct Message {
     pub size: usize,
 }
 
-// The message at the front of t, which is not empty, by every check.
+// The message at the front of t, which is not empty, by every check. As a part of a walk's step it costs no call of its
+// own, and no answer that is put together and read again.
+#[inline(always)]
 pub fn judge_message(rules: Rules, c: Cursor, t: &[u8]) -> Result<Message, Refusal>
     requires { 0 < length t.now }
     ensures { message_meaning result ≡ judge rules c t.now }
@@ -93,8 +95,9 @@ pub fn judge_id(c: Cursor, identified: Option<Kind>) -> Result<Kind, Refusal>
     Err(Refusal::Order)
 }
 
-// A message of a known kind, by its fixed part and its size. The last stage's two tests stand here too: nearly every
-// message passes, and two tests are faster than a refusal that is put together and then tested.
+// A message of a known kind, by its fixed part and its size. Whether the last passes is tested here, and its stage is
+// asked why only where it does not: nearly every message passes, and two tests are faster than a refusal that is put
+// together and then tested.
 fn judge_body(kind: Kind, t: &[u8]) -> Result<Whole, Refusal>
     requires { 2 ≤ length t.now }
     ensures { judgement_meaning result ≡ sorted (judge_body Profile.Plain kind t.now) }
@@ -103,16 +106,15 @@ fn judge_body(kind: Kind, t: &[u8]) -> Result<Whole, Refusal>
     let end = FixedPart::of(kind, t).size();
     let too_large = MAX_MESSAGE_SIZE < end as u64;
     if too_large {
-        return Err(Refusal::TooLarge);
+        return judge_size(end, t).and(Err(Refusal::TooLarge));
     }
     if t.len() < end {
-        Err(Refusal::MessageCut)
-    } else {
-        Ok(Whole {
-            sort: Sort::of(kind),
-            size: end,
-        })
+        return judge_size(end, t).and(Err(Refusal::MessageCut));
     }
+    Ok(Whole {
+        sort: Sort::of(kind),
+        size: end,
+    })
 }
 
 // The fixed part: 3 where it does not fit, else 4 to 9.
@@ -152,14 +154,19 @@ pub fn judge_text(profile: Profile, kind: Kind, t: &[u8], size: usize) -> Result
     }
 }
 
-// The same in the strict profile: a kind without a text has none to read.
+// The same in the strict profile: a kind without a text has none to read. Each kind with texts has an arm of its own, so
+// that the compiler goes on from it to that kind's texts and reads no other.
 fn judge_strict(kind: Kind, t: &[u8], size: usize) -> Result<(), Refusal>
     requires { TakenWhole kind size t.now }
     ensures { number_in result ≡ first (text_checks Profile.Strict kind (take size t.now)) }
 {
     match kind {
+        Kind::ConfigurationName => read_texts(kind, t, size),
+        Kind::ConfigurationText => read_texts(kind, t, size),
+        Kind::HeaderText => read_texts(kind, t, size),
+        Kind::Text => read_texts(kind, t, size),
+        Kind::Image => read_texts(kind, t, size),
         Kind::Close | Kind::Acquisition | Kind::Waveform(_) => Ok(()),
-        _ => read_texts(kind, t, size),
     }
 }
 

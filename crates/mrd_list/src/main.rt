@@ -4,6 +4,8 @@
 // more, nothing is, and what comes after the first byte too many is not read.
 #![tactic(auto)]
 
+ghost use Rattle.std.specs.Prelude.{◌≤◌, length, IfOk};
+
 use mrd_cursor::Cursor;
 use mrd_format::{Layout, Mask, Profile, Rules, Shape};
 use mrd_stream::{PlacedRecord, Step};
@@ -12,14 +14,35 @@ use std::io::{self, Read};
 const LIMIT: usize = 65536;
 
 fn main(rt: HostRuntime) -> io::Result<()> {
-    let mut input = Vec::new(rt.alloc());
     // One byte more than the limit tells whether there is more.
-    rt.reader().take(LIMIT as u64 + 1).read_to_end(&mut input)?;
-    if LIMIT < input.len() {
+    let mut input = [0u8; LIMIT + 1];
+    let got = read_full(&mut rt.reader(), &mut input)?;
+    if LIMIT < got {
         println!(rt; "input over 65536 bytes")?;
         return Ok(());
     }
-    list(&rt, &input)
+    list(&rt, &input[..got])
+}
+
+// How many bytes were read to the front of out: as many as there are, or as it holds. Each read is offered all that is
+// left of out: an input that keeps the bounds of what was sent, as a socket of packets, loses what a read has no room for.
+fn read_full<R: Read>(input: &mut R, out: &mut [u8]) -> io::Result<usize>
+    ensures { IfOk result (λ n. n ≤ length out.old) }
+{
+    let mut got: usize = 0;
+    for _ in 0..u64::MAX {
+        if out.len() <= got {
+            break;
+        }
+        match input.read(&mut out[got..]) {
+            Ok(0) => break,
+            Ok(n) => got += n,
+            // A signal came before any byte.
+            Err(error) if error.kind() == io::ErrorKind::Interrupted => {}
+            Err(error) => return Err(error),
+        }
+    }
+    Ok(got)
 }
 
 // The whole listing of s: nothing of a refused stream but its refusal.

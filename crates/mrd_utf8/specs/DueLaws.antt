@@ -65,6 +65,16 @@ next_due (suc (suc n)) lo hi b some =
     let less : suc (suc n) - 1 ≡ suc n = omega arith in
     rw less
 
+-- so one below the range, above it and inside it
+pub next-below : (n lo hi b : ℕ) → (n ≡ 0 → ⊥) → b < lo → next (awaited n lo hi) b ≡ never
+next-below n lo hi b some h = next_due n lo hi b some ∙ rw (below lo hi b h)
+
+pub next-above : (n lo hi b : ℕ) → (n ≡ 0 → ⊥) → hi < b → next (awaited n lo hi) b ≡ never
+next-above n lo hi b some h = next_due n lo hi b some ∙ rw (above lo hi b h)
+
+pub next-inside : (n lo hi b : ℕ) → (n ≡ 0 → ⊥) → lo ≤ b → b ≤ hi → next (awaited n lo hi) b ≡ awaited (n - 1) 0x80 0xBF
+next-inside n lo hi b some l h = next_due n lo hi b some ∙ rw (is_inside lo hi b l h)
+
 -- the test whether nothing is due
 pub done-awaited : (n lo hi : ℕ) → eqb n 0 ≡ done (awaited n lo hi)
 done-awaited zero lo hi = refl

@@ -77,7 +77,8 @@ fn checked_text(text: usize) -> Result<usize, Refusal>
     Ok(head + text)
 }
 
-// A message with this fixed part.
+// A message with this fixed part. It is a part of its kind's arm above.
+#[inline(always)]
 fn checked_fixed(fixed: FixedPart<'_>) -> Result<usize, Refusal>
     ensures { judged_meaning result ≡ sized_by (own_checks fixed.entry.kind fixed.entry.bytes.now) (size_of fixed.entry.kind fixed.entry.bytes.now) }
 {

@@ -214,7 +214,7 @@ fn flags(format: &Format) -> String {
         .iter()
         .map(|flag| format!("{} `{}`", flag.number, flag.name));
     format!(
-        "{}.\n\nSource: `mrd_flags/src/acquisition_flag.rt`.\n",
+        "{}.\n\nSource: `mrd_flags/src/acquisition_flag.rt`, where the first is `FirstInEncodeStep1`.\n",
         names.collect::<Vec<_>>().join(", ")
     )
 }
@@ -248,7 +248,7 @@ fn refusals(format: &Format) -> String {
             ]
         });
     table(&["no.", "name", "given exactly when", "points to", "what to do"], rows.collect())
-        + "\nNames: `mrd_format/src/refusal.rt`; C has them with `MRD_REFUSED_` before, Rust in `cotterleaf::refused`.\n"
+        + "\nNames: `mrd_format/src/refusal.rt`, where the first is `IdCut`; C has them with `MRD_REFUSED_` before, Rust in `cotterleaf::refused`.\n"
 }
 
 fn refusals_short(format: &Format) -> String {

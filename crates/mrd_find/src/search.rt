@@ -8,7 +8,7 @@ use mrd_acquisition::{AcquisitionHeader, COUNTER_COUNT};
 use mrd_cursor::Cursor;
 use mrd_format::{Kind, Refusal, Rules};
 use mrd_message::FixedPart;
-use mrd_stream::{PlacedRecord, Refused, Step, check_from};
+use mrd_stream::{PlacedRecord, Refused, Step, check_from, concluded};
 
 // The number of the first acquisition from record n on with these counters; else the stream's refusal,
 // also where a match stands before the fault, or 16. One walk over the stream.
@@ -37,13 +37,10 @@ pub fn find(
                         continue 'records;
                     }
                 }
-                check_from(rules, next, s)?;
-                return Ok(here.place.number);
+                let rest = check_from(rules, next, s);
+                return concluded(Ok(here.place.number), rest);
             }
-            Step::End(answer) => {
-                answer?;
-                return Err(Refused::Alone(Refusal::NoRecord));
-            }
+            Step::End(answer) => return concluded(Err(Refused::Alone(Refusal::NoRecord)), answer),
         }
     }
 }

@@ -1,11 +1,12 @@
 -- What the reader's answers say: the values, and the number of a refusal.
 -- Assumes nothing.
 use Rattle.mrd_format.specs.Shapes.{kind_of, shape_numbers}
-use Rattle.std.specs.Prelude.{ℕ, ◌≡◌, Result, Ok, Err, IsErrAnd}
+use Rattle.std.specs.Prelude.{ℕ, ◌≡◌, Result, Ok, Err, IsErrAnd, IfOk, IfErr}
 use Rattle.std.proofs.Common.{sym, ap, ◌∙◌}
 use Rattle.mrd_format.specs.Refusals.{number_of}
 use Rattle.mrd_stream.specs.declared.refused.StreamRefusal.{StreamRefusal}
 use Rattle.mrd_stream.specs.declared.refused.Refused.{Refused}
+use Rattle.mrd_stream.specs.declared.refused.Refused.TheVariants.{Stream}
 use Rattle.mrd_stream.specs.Refused.{told, ByStream, told-stream}
 use Rattle.mrd_stream.specs.declared.answer.Step.{Step}
 use Rattle.mrd_stream.specs.declared.answer.PlacedRecord.{PlacedRecord}
@@ -46,3 +47,9 @@ module _ {A B : Type 0} (m : A → B) (q : Result A Refused) {v : Result ℕ Str
 
   pub accepted-first : {n : ℕ} → v ≡ Ok n → unless_refused (checked_meaning v) (told m q) ≡ wanted → told m q ≡ wanted
   accepted-first is o = ap (λ (u : Result ℕ StreamRefusal). unless_refused (checked_meaning u) (told m q)) (sym is) ∙ o
+
+-- what is said of r, which a walk concludes: where the stream's answer v is a refusal, that refusal, and else what is said of q, which was found
+pub concluded-told : {A B : Type 0} (m : A → B) (q r : Result A Refused) (v : Result ℕ StreamRefusal) → IfOk v (λ _. r ≡ q) → IfErr v (λ e. r ≡ Err (Stream e)) →
+    told m r ≡ unless_refused (checked_meaning v) (told m q)
+concluded-told m q r (Ok n) same passed = ap (told m) same
+concluded-told m q r (Err e) same passed = ap (told m) passed

@@ -9,5 +9,5 @@ mod reader;
 mod refused;
 
 pub use answer::{Place, PlacedRecord, Step};
-pub use reader::{check, check_from, next, place};
+pub use reader::{check, check_from, concluded, next, place};
 pub use refused::{Refused, StreamRefusal};

@@ -1,11 +1,12 @@
 // The reader: a whole stream checked, walked record by record, and asked for a record's place and kind.
-ghost use Rattle.std.specs.Prelude.{◌≡◌, ◌+◌, ◌<◌, ◌^◌};
+ghost use Rattle.std.specs.Prelude.{◌≡◌, ◌+◌, ◌<◌, ◌^◌, Err, IfOk, IfErr};
 ghost use Rattle.mrd_cursor.specs.Cursors.{max_messages};
 ghost use Rattle.mrd_logic.specs.Answer.{refused};
 ghost use Rattle.mrd_format.specs.Refusals.{number_of};
 ghost use Rattle.mrd_stream.specs.Walk.{ended, verdict, answer, from};
 ghost use Rattle.mrd_stream.specs.Places.{place, step, yielded};
 ghost use Rattle.mrd_stream.specs.Seek.{kept_by};
+ghost use Rattle.mrd_stream.specs.declared.refused.Refused.TheVariants.{Stream};
 ghost use Rattle.mrd_stream.specs.ReaderMeaning.{checked_meaning, placed_meaning, record_meaning, step_meaning};
 
 use crate::answer::{Place, PlacedRecord, Step};
@@ -130,10 +131,9 @@ pub fn place(rules: Rules, s: &[u8], n: usize) -> Result<PlacedRecord, Refused>
                 found = kept(found, record, n);
                 c = after;
             }
-            Step::End(answer) => {
-                answer?;
-                return found;
-            }
+            // What `concluded` says; a call of it would copy what was found, which takes more stack.
+            Step::End(Ok(_)) => return found,
+            Step::End(Err(refusal)) => return Err(Refused::Stream(refusal)),
         }
     }
 }
@@ -150,4 +150,19 @@ fn kept(
         return Ok(here);
     }
     before
+}
+
+// What a walk concludes: what was found, where the stream is accepted; else the stream's refusal, with
+// its record and byte, whatever was found before.
+pub fn concluded<T: Drop>(
+    found: Result<T, Refused>,
+    answer: Result<usize, StreamRefusal>,
+) -> Result<T, Refused>
+    ensures accepted { IfOk answer (λ _. result ≡ found) }
+    ensures refused { IfErr answer (λ e. result ≡ Err (Stream e)) }
+{
+    match answer {
+        Ok(_) => found,
+        Err(refusal) => Err(Refused::Stream(refusal)),
+    }
 }

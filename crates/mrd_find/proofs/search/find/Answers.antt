@@ -5,7 +5,7 @@ use native.Mathlib.Omega.{arith}
 use mathlib.Core.Path.{refl, sym, ◌∙◌}
 use Rattle.mrd_format.specs.IdentityLaws.{counters-length}
 use Rattle.mrd_stream.specs.StepLaws.{on-end}
-use Rattle.mrd_stream.specs.Refused.{told-stream}
+use Rattle.mrd_stream.specs.ReaderMeaning.{concluded-told}
 use Rattle.mrd_find.specs.Alike.{start, step, differs, all_same_lem}
 use Rattle.mrd_find.specs.FindLaws.{find_in, finding-start, turned, nearer, no-candidate, header-fits, fixed-there, read, no-match, match-found}
 use Rattle.mrd_find.proofs.search.find.Goals as goal
@@ -50,26 +50,14 @@ pub loop-i-preserved : goal.loop-i-preserved
 loop-i-preserved c =
     step c.loop-i.invariant c.loop-i-test.true (sym c.encoding_counter.ensures ∙ c.if-encoding_counter-counters.false)
 
-pub returns-in_err-check_from-in-Message : goal.returns-in_err-check_from-in-Message
-returns-in_err-check_from-in-Message c =
-    let turn = turned _ _ _ c.records.invariant c.in-Message.ensures refl in
-    let found = match-found (read turn (sym c.if-not-candidate.ensures) c.of-fixed.ensures.bytes) (all_same_lem c.loop-i.invariant c.loop-i-test.false) in
-    told-stream (λ n. n) _ _ c.from_residual.ensures.1 ∙ rw (← c.in_err-check_from-in-Message.ensures) at found
-
 pub returns-in-Message : goal.returns-in-Message
 returns-in-Message c =
     let turn = turned _ _ _ c.records.invariant c.in-Message.ensures refl in
     let found = match-found (read turn (sym c.if-not-candidate.ensures) c.of-fixed.ensures.bytes) (all_same_lem c.loop-i.invariant c.loop-i-test.false) in
-    rw (← c.in_ok-check_from-in-Message.ensures) at found
-
-pub returns-in_err-answer-in-End : goal.returns-in_err-answer-in-End
-returns-in_err-answer-in-End c =
-    let a = c.args in
-    let last = on-end a.rules (find_in a.n a.counters.now) a.s.now c.records.invariant (sym c.in-End.ensures) in
-    told-stream (λ n. n) _ _ c.from_residual-in_err-answer-in-End.ensures.1 ∙ rw c.in_err-answer-in-End.was at last
+    concluded-told (λ n. n) _ _ _ c.concluded.ensures.accepted c.concluded.ensures.refused ∙ rw (← c.check_from-rest.ensures) at found
 
 pub returns-in-End : goal.returns-in-End
 returns-in-End c =
     let a = c.args in
     let last = on-end a.rules (find_in a.n a.counters.now) a.s.now c.records.invariant (sym c.in-End.ensures) in
-    rw c.in_ok-answer-in-End.was at last
+    concluded-told (λ n. n) _ _ _ c.concluded-in-End.ensures.accepted c.concluded-in-End.ensures.refused ∙ last

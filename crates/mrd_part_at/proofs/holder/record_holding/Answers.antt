@@ -2,8 +2,7 @@
 -- is the answer wanted. The measure is the bytes left.
 -- Assumes nothing.
 use mathlib.Core.Path.{sym, ◌∙◌}
-use Rattle.mrd_stream.specs.ReaderMeaning.{record_meaning}
-use Rattle.mrd_stream.specs.Refused.{told-stream}
+use Rattle.mrd_stream.specs.ReaderMeaning.{record_meaning, concluded-told}
 use Rattle.mrd_stream.specs.StepLaws.{on-end, on_less, step-yields}
 use Rattle.mrd_part_at.specs.PartAtLaws.{holder_in, seeking_start, seek-on, seek_found}
 use Rattle.mrd_part_at.proofs.holder.record_holding.Goals as goal
@@ -13,17 +12,11 @@ loop-here-init c =
     let a = c.args in
     rw c.beginning-c.ensures (seeking_start _ a.byte a.s.now)
 
-pub returns-in_err-check_from-in-Message : goal.returns-in_err-check_from-in-Message
-returns-in_err-check_from-in-Message c =
-    let passes = step-yields _ _ _ (sym c.in-Message.ensures) in
-    let found = seek_found c.loop-here.invariant passes c.if-byte-after.true in
-    told-stream record_meaning _ _ c.from_residual.ensures.1 ∙ rw (← c.in_err-check_from-in-Message.ensures) at found
-
 pub returns-then-byte-after : goal.returns-then-byte-after
 returns-then-byte-after c =
     let passes = step-yields _ _ _ (sym c.in-Message.ensures) in
     let found = seek_found c.loop-here.invariant passes c.if-byte-after.true in
-    rw (← c.in_ok-check_from-in-Message.ensures) at found
+    concluded-told record_meaning _ _ _ c.concluded.ensures.accepted c.concluded.ensures.refused ∙ rw (← c.check_from-rest.ensures) at found
 
 pub loop-here-smaller : goal.loop-here-smaller
 loop-here-smaller c = on_less c.args.s.now (step-yields _ _ _ (sym c.in-Message.ensures))
@@ -33,14 +26,8 @@ loop-here-preserved c =
     let passes = step-yields _ _ _ (sym c.in-Message.ensures) in
     seek-on c.loop-here.invariant passes c.if-byte-after.false
 
-pub returns-in_err-answer-in-End : goal.returns-in_err-answer-in-End
-returns-in_err-answer-in-End c =
-    let a = c.args in
-    let last = on-end a.rules (holder_in a.byte) a.s.now c.loop-here.invariant.on (sym c.in-End.ensures) in
-    told-stream record_meaning _ _ c.from_residual-in_err-answer-in-End.ensures.1 ∙ rw c.in_err-answer-in-End.was at last
-
 pub returns-in-End : goal.returns-in-End
 returns-in-End c =
     let a = c.args in
     let last = on-end a.rules (holder_in a.byte) a.s.now c.loop-here.invariant.on (sym c.in-End.ensures) in
-    rw c.in_ok-answer-in-End.was at last
+    concluded-told record_meaning _ _ _ c.concluded-in-End.ensures.accepted c.concluded-in-End.ensures.refused ∙ last

@@ -1,8 +1,9 @@
 -- `mrd_stream::place` meets its contract. The loop's invariant: seeking on from the cursor, with what was found, gives the place asked for.
 -- The measure is the bytes left.
 -- Assumes nothing.
-use Rattle.std.proofs.Common.{sym, ap, ◌∙◌}
+use Rattle.std.proofs.Common.{refl, sym, ap, ◌∙◌, Err}
 use Rattle.mrd_logic.specs.Answer.{number}
+use Rattle.mrd_stream.specs.declared.refused.Refused.TheVariants.{Stream}
 use Rattle.mrd_stream.specs.Seek.{seek, seek-place, seek-next, kept_by}
 use Rattle.mrd_stream.specs.StepLaws.{on-start, on-next, on-end, on_less, step-yields}
 use Rattle.mrd_stream.specs.ReaderMeaning.{placed_meaning, record_meaning, step_meaning, refused-first, accepted-first}
@@ -33,14 +34,14 @@ loop-record-preserved c =
     (seek a.n (kept_by (record_meaning c.in-Message.record) a.n before)) loop.invariant p
     (seek-next a.n before loop.c p.kind p.bytes p.place))
 
-pub returns-in_err-answer-in-End : goal.returns-in_err-answer-in-End
-returns-in_err-answer-in-End c =
+pub returns-in-End-Ok : goal.returns-in-End-Ok
+returns-in-End-Ok c =
     let loop = c.loop-record in
-    refused-first record_meaning loop.found _ c.in_err-answer-in-End.was c.from_residual.ensures.1
-    (on-end _ (seek c.args.n (placed_meaning loop.found)) c.args.s.now loop.invariant (sym c.next.ensures ∙ ap step_meaning c.in-End.is))
+    accepted-first record_meaning loop.found c.in-End-Ok.field-0-is
+    (on-end _ (seek c.args.n (placed_meaning loop.found)) c.args.s.now loop.invariant (sym c.in-End-Ok.ensures))
 
-pub returns-in-End : goal.returns-in-End
-returns-in-End c =
+pub returns-in-End-Err : goal.returns-in-End-Err
+returns-in-End-Err c =
     let loop = c.loop-record in
-    accepted-first record_meaning loop.found c.in_ok-answer-in-End.was
-    (on-end _ (seek c.args.n (placed_meaning loop.found)) c.args.s.now loop.invariant (sym c.next.ensures ∙ ap step_meaning c.in-End.is))
+    rw c.in-End-Err.refusal-is (refused-first record_meaning loop.found (Err (Stream c.in-End-Err.refusal)) c.in-End-Err.field-0-is refl
+    (on-end _ (seek c.args.n (placed_meaning loop.found)) c.args.s.now loop.invariant (sym c.in-End-Err.ensures)))
